@@ -15,16 +15,16 @@ use Rattle.vault_audit_model.specs.declared.schema.Edition.{Edition}
 use Rattle.vault_audit_model.specs.declared.rows.MetaRow.{MetaRow}
 use Rattle.vault_audit_model.specs.Order.{place_of}
 use Rattle.vault_audit_model.specs.Rows.{meta_row, entry_row, entry_columns}
-use Rattle.vault_audit_model.specs.Spells.{AreSoundAs, meta_told}
+use Rattle.vault_audit_model.specs.Spells.{AreSoundAs, meta_stated}
 use Rattle.vault_audit_model.specs.Tables.{schema_of, entries_tree}
 use Rattle.vault_audit_model.proofs.PlaceLemmas.{one_table}
 use Rattle.vault_audit_model.proofs.SameRows.{same_meta}
-use Rattle.vault_audit_schema.specs.Places.{BeginTo, IsToldIn}
+use Rattle.vault_audit_schema.specs.Places.{BeginTo, IsReportedIn}
 use Rattle.vault_audit_schema.proofs.DifferenceLemmas.{in_place, place_below}
 use Rattle.vault_audit_records.specs.Entries.{IsEntryBy}
 use Rattle.vault_audit_records.specs.Meta.{IsMetaOf}
 use Rattle.vault_audit_walk.specs.Records.{AreRecords}
-use Rattle.vault_audit.specs.InOrder.{AreRowsRight, IsRight, IsToldInOrder, ToldInOrder}
+use Rattle.vault_audit.specs.InOrder.{AreRowsRight, IsRight, IsReportedInOrder, ReportedInOrder}
 
 -- ---- places
 
@@ -45,7 +45,7 @@ place_behind (suc (suc (suc (suc (suc (suc (suc (suc zero)))))))) h = refl
 place_behind (suc (suc (suc (suc (suc (suc (suc (suc (suc zero))))))))) h = refl
 place_behind (suc (suc (suc (suc (suc (suc (suc (suc (suc (suc n)))))))))) h = absurd (omega (arith, h))
 
--- what a test tells
+-- what a test says
 pub is_not : {P : Type 0} (b : Bool) → b ≡ false → (IsTrue b ↔ P) → ¬ P
 is_not b e h p = true≢false (sym (h.1 p) ∙ e)
 
@@ -79,7 +79,7 @@ from_next (Some d) t place here from other = elim (cases_order (place_of d) plac
 
 module _ (n : Edition) (s : Schema) where
   abbrev pub Differs : Option Table → Type 0
-  Differs difference = MatchOption difference (s ≡ schema_of n) (IsToldIn n s)
+  Differs difference = MatchOption difference (s ≡ schema_of n) (IsReportedIn n s)
 
   pub begin_at : (difference : Option Table) (t : Table) (place : ℕ) → place_of t ≡ place → Differs difference → IsFrom (place + 1) difference → BeginTo n s.tables t
   begin_at None t place here is from = ap (λ (x : Schema). take (place_of t + 1) x.tables) is
@@ -89,16 +89,16 @@ module _ (n : Edition) (s : Schema) where
   no_difference None is from = is
   no_difference (Some d) it from = let below = place_below d in absurd (omega (arith, below, from))
 
-  pub differs_as : (difference : Option Table) → ((difference ≡ None) ↔ (s ≡ schema_of n)) → IfSome difference (IsToldIn n s) → Differs difference
-  differs_as None found told = found.0 refl
-  differs_as (Some d) found told = told
+  pub differs_as : (difference : Option Table) → ((difference ≡ None) ↔ (s ≡ schema_of n)) → IfSome difference (IsReportedIn n s) → Differs difference
+  differs_as None found stated = found.0 refl
+  differs_as (Some d) found stated = stated
 
   -- it isn't at meta
   pub begin_meta : (difference : Option Table) → Differs difference → difference ≢ Some Meta → BeginTo n s.tables Meta
   begin_meta difference it other = begin_at difference Meta 0 refl it (from_behind difference other)
 
   -- it is at this table
-  pub at_table : (difference : Option Table) (t : Table) → difference ≡ Some t → Differs difference → IsToldIn n s t
+  pub at_table : (difference : Option Table) (t : Table) → difference ≡ Some t → Differs difference → IsReportedIn n s t
   at_table difference t e it = subst Differs e it
 
 -- ---- tables that are right
@@ -121,28 +121,28 @@ module _ (n : Edition) (db : Database) where
   pub right_row : (t : Table) → BeginTo n db.schema.tables t → AreRowsRight n db t true → IsRight n db t
   right_row t begin right = (in_place n db.schema.tables t begin, right)
 
-  pub all_right : AreRightTo 11 → db.schema ≡ schema_of n → ToldInOrder n db None
+  pub all_right : AreRightTo 11 → db.schema ≡ schema_of n → ReportedInOrder n db None
   all_right right is = (is, λ t. right t (place_below t))
 
-  pub told_by_form : (t : Table) → ((u : Table) → place_of u < place_of t → IsRight n db u) → IsToldIn n db.schema t → ToldInOrder n db (Some t)
-  told_by_form t before it = (
+  pub stated_by_form : (t : Table) → ((u : Table) → place_of u < place_of t → IsRight n db u) → IsReportedIn n db.schema t → ReportedInOrder n db (Some t)
+  stated_by_form t before it = (
     record { before = before; here = elim it.here [ inl out ↦ inl out | inr are ↦ inr (inr (are, λ e. absurd (it.differs e))) ] },
     λ v sound. it.differs sound.spells.schema,
   )
 
-  pub told_by_rows : (t : Table) → ((u : Table) → place_of u < place_of t → IsRight n db u) → AreRowsRight n db t false → ((v : Vault) → ¬ AreSoundAs n db v) → ToldInOrder n db (Some t)
-  told_by_rows t before wrong none = (record { before = before; here = inr (inl wrong) }, none)
+  pub stated_by_rows : (t : Table) → ((u : Table) → place_of u < place_of t → IsRight n db u) → AreRowsRight n db t false → ((v : Vault) → ¬ AreSoundAs n db v) → ReportedInOrder n db (Some t)
+  stated_by_rows t before wrong none = (record { before = before; here = inr (inl wrong) }, none)
 
   -- meta is reported
-  pub meta_by_form : IsToldIn n db.schema Meta → ToldInOrder n db (Some Meta)
-  meta_by_form it = told_by_form Meta (λ u less. absurd (omega (arith, less))) it
+  pub meta_by_form : IsReportedIn n db.schema Meta → ReportedInOrder n db (Some Meta)
+  meta_by_form it = stated_by_form Meta (λ u less. absurd (omega (arith, less))) it
 
-  pub meta_by_rows : IsMetaOf n db None → ((v : Vault) → ¬ AreSoundAs n db v) → ToldInOrder n db (Some Meta)
-  meta_by_rows wrong none = told_by_rows Meta (λ u less. absurd (omega (arith, less))) wrong none
+  pub meta_by_rows : IsMetaOf n db None → ((v : Vault) → ¬ AreSoundAs n db v) → ReportedInOrder n db (Some Meta)
+  meta_by_rows wrong none = stated_by_rows Meta (λ u less. absurd (omega (arith, less))) wrong none
 
   -- all are right, and this one doesn't fit the others
-  pub told_beside_others : (t : Table) → ToldInOrder n db None → IsToldInOrder n db t
-  told_beside_others t (is, all) = record { before = λ u less. all u; here = inr (inr (λ u. (all u).0, λ e. all)) }
+  pub stated_beside_others : (t : Table) → ReportedInOrder n db None → IsReportedInOrder n db t
+  stated_beside_others t (is, all) = record { before = λ u less. all u; here = inr (inr (λ u. (all u).0, λ e. all)) }
 
   one_meta : (a b : MetaRow) → IsMetaOf n db (Some a) → IsMetaOf n db (Some b) → a ≡ b
   one_meta a b one two =
@@ -158,8 +158,8 @@ module _ (n : Edition) (db : Database) where
   last_of : (v : Vault) (m : MetaRow) → IsMetaOf n db (Some m) → AreSoundAs n db v → v.last ≡ m.last
   last_of v m is it =
       let rows = one_permutation (meta_row m) _ (IsPermutation-trans _ _ _ is.0 (IsPermutation-sym _ _ it.spells.meta)) in
-      let first : meta_row (meta_told n v) ≡ meta_row m = cc in
-      let same : meta_told n v ≡ m = same_meta (meta_told n v) m first in
+      let first : meta_row (meta_stated n v) ≡ meta_row m = cc in
+      let same : meta_stated n v ≡ m = same_meta (meta_stated n v) m first in
       ap (λ (x : MetaRow). x.last) same
 
   -- no vault of that moment, and so none
@@ -172,9 +172,9 @@ module _ (n : Edition) (old new : State) (m : MetaRow) (meta : IsMetaOf n old.no
   meta_later : IsUnchanged old new → IsMetaOf n new.now (Some m)
   meta_later same = subst (λ (db : Database). IsMetaOf n db (Some m)) (sym same.0.now_is) meta
 
-  pub entries_tell : (r : Result Bool Error) → OnOk r (IsUnchanged old new) → IfOk r (AreRecords entry_row (IsEntryBy m.last) (map entry_columns (new.now.trees entries_tree))) → IfOk r (AreRowsRight n new.now Entries)
-  entries_tell (Err e) same told = tt
-  entries_tell (Ok right) same told = of_meta n new.now (λ (x : MetaRow). AreRecords entry_row (IsEntryBy x.last) (map entry_columns (new.now.trees entries_tree)) right) m (meta_later same) told
+  pub entries_read_so : (r : Result Bool Error) → OnOk r (IsUnchanged old new) → IfOk r (AreRecords entry_row (IsEntryBy m.last) (map entry_columns (new.now.trees entries_tree))) → IfOk r (AreRowsRight n new.now Entries)
+  entries_read_so (Err e) same stated = tt
+  entries_read_so (Ok right) same stated = of_meta n new.now (λ (x : MetaRow). AreRecords entry_row (IsEntryBy x.last) (map entry_columns (new.now.trees entries_tree)) right) m (meta_later same) stated
 
   pub entries_damaged : (r : Result Bool Error) → OnOk r (IsUnchanged old new) → IfOk r (λ right. right ≡ false → (v : Vault) → v.last ≡ m.last → ¬ AreSoundAs n new.now v) → IfOk r (λ right. right ≡ false → (v : Vault) → ¬ AreSoundAs n new.now v)
   entries_damaged (Err e) same none = tt

@@ -28,8 +28,8 @@ use Rattle.vault_audit.specs.Looks.{ArePast}
 use Rattle.vault_audit.specs.Whole.{AllFound}
 
 -- the row holds an entry that is past
-abbrev TellsPast : ℕ → Row → Type 0
-TellsPast last row = (e : Entry) × (row ≡ entry_row e) × IsPast last e
+abbrev ReportsPast : ℕ → Row → Type 0
+ReportsPast last row = (e : Entry) × (row ≡ entry_row e) × IsPast last e
 
 each : {A : Type 0} (P Q : A → Type 0) → ((x : A) → P x → Q x) → (xs : List A) → AllByRecursion P xs → AllByRecursion Q xs
 each P Q f [] all = tt
@@ -39,9 +39,9 @@ each P Q f (x ∷ xs) all = (f x all.0, each P Q f xs all.1)
 past_too : (db : Database) (last : ℕ) (es : List Entry) → ArePast db last → AreEntries db es → AllByRecursion (IsPast last) es
 past_too db last es past are =
     let xs = past.0 in
-    let told = all-map (TellsPast last) entry_row xs (each (IsEntryBy last) (λ e. TellsPast last (entry_row e)) (λ e its. (e, refl, its.1)) xs past.2) in
-    let rows = all-permutation (TellsPast last) _ _ (IsPermutation-trans _ _ _ past.1 (IsPermutation-sym _ _ are.0)) told in
-    each (λ e. TellsPast last (entry_row e)) (IsPast last) (λ e its. subst (IsPast last) (sym (same_entry e its.0 its.1)) its.2) es (all_from_map (TellsPast last) entry_row es rows)
+    let stated = all-map (ReportsPast last) entry_row xs (each (IsEntryBy last) (λ e. ReportsPast last (entry_row e)) (λ e its. (e, refl, its.1)) xs past.2) in
+    let rows = all-permutation (ReportsPast last) _ _ (IsPermutation-trans _ _ _ past.1 (IsPermutation-sym _ _ are.0)) stated in
+    each (λ e. ReportsPast last (entry_row e)) (IsPast last) (λ e its. subst (IsPast last) (sym (same_entry e its.0 its.1)) its.2) es (all_from_map (ReportsPast last) entry_row es rows)
 
 module _ (n : Edition) (db : Database) (m : MetaRow) (schema : db.schema ≡ schema_of n) (tied : AreTied n db) (meta : IsMetaOf n db (Some m)) (past : ArePast db m.last) (found : AllFound n db m) where
   -- they are sound for the vault that was found

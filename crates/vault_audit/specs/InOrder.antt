@@ -16,7 +16,7 @@ use Rattle.vault_audit_records.specs.Entries.{IsEntryBy}
 use Rattle.vault_audit_records.specs.Meta.{IsMetaOf}
 use Rattle.vault_audit_walk.specs.Records.{AreRecords}
 
--- whether the rows of the table tell records in their limits, each by itself: of meta one with the number of the edition, and of entries none that is after the last moment
+-- whether the rows of the table state records in their limits, each by itself: of meta one with the number of the edition, and of entries none that is after the last moment
 abbrev pub AreRowsRight : Edition → Database → Table → Bool → Type 0
 AreRowsRight n db Meta true = (m : MetaRow) × IsMetaOf n db (Some m)
 AreRowsRight n db Meta false = IsMetaOf n db None
@@ -39,13 +39,13 @@ IsRight n db t = IsInPlace n db.schema.tables t × AreRowsRight n db t true
 abbrev pub AreRight : Edition → Database → Type 0
 AreRight n db = (t : Table) → IsRight n db t
 
--- All tables before the one that is told are right by themselves, and it is the first that isn't. Or all are in their places,
+-- All tables before the one that is reported are right by themselves, and it is the first that isn't. Or all are in their places,
 -- and an index, a view or a further table stands beside them; or all are right, and it doesn't fit the others.
-pub record IsToldInOrder (n : Edition) (db : Database) (told : Table) : Type 0 where
-  pub before : (t : Table) → place_of t < place_of told → IsRight n db t
-  pub here : ¬ IsInPlace n db.schema.tables told ⊎ AreRowsRight n db told false ⊎ (AreInPlace n db.schema.tables × (db.schema ≡ schema_of n → AreRight n db))
+pub record IsReportedInOrder (n : Edition) (db : Database) (stated : Table) : Type 0 where
+  pub before : (t : Table) → place_of t < place_of stated → IsRight n db t
+  pub here : ¬ IsInPlace n db.schema.tables stated ⊎ AreRowsRight n db stated false ⊎ (AreInPlace n db.schema.tables × (db.schema ≡ schema_of n → AreRight n db))
 
 -- each table is right by itself; or one is reported, and the tables are sound for no vault
-abbrev pub ToldInOrder : Edition → Database → Option Table → Type 0
-ToldInOrder n db None = (db.schema ≡ schema_of n) × AreRight n db
-ToldInOrder n db (Some table) = IsToldInOrder n db table × ((v : Vault) → ¬ AreSoundAs n db v)
+abbrev pub ReportedInOrder : Edition → Database → Option Table → Type 0
+ReportedInOrder n db None = (db.schema ≡ schema_of n) × AreRight n db
+ReportedInOrder n db (Some table) = IsReportedInOrder n db table × ((v : Vault) → ¬ AreSoundAs n db v)

@@ -1,4 +1,4 @@
--- What looks at several tables tell.
+-- What looks at several tables say.
 use Rattle.std.specs.Prelude.{◌≡◌, ℕ, ◌+◌, true, List, length, map, Option, None, Some}
 use Rattle.std.specs.List.{AllByRecursion}
 use Rattle.sqlite.specs.Effect.{Database}
@@ -23,14 +23,14 @@ use Rattle.vault_audit_records.specs.Meta.{IsMetaOf}
 use Rattle.vault_audit_records.specs.ByName.{AreDepartmentsByName}
 
 -- no table is damaged, and this is found; or one is, and the tables are sound for no vault
-abbrev pub Told : Edition → Database → Type 0 → Option Table → Type 0
-Told n db Found None = Found
-Told n db Found (Some table) = (v : Vault) → ¬ AreSoundAs n db v
+abbrev pub Reported : Edition → Database → Type 0 → Option Table → Type 0
+Reported n db Found None = Found
+Reported n db Found (Some table) = (v : Vault) → ¬ AreSoundAs n db v
 
 -- the same, where this is the row of meta
-abbrev pub ToldOf : Edition → Database → MetaRow → Type 0 → Option Table → Type 0
-ToldOf n db m Found None = Found
-ToldOf n db m Found (Some table) = IsMetaOf n db (Some m) → (v : Vault) → ¬ AreSoundAs n db v
+abbrev pub ReportedOf : Edition → Database → MetaRow → Type 0 → Option Table → Type 0
+ReportedOf n db m Found None = Found
+ReportedOf n db m Found (Some table) = IsMetaOf n db (Some m) → (v : Vault) → ¬ AreSoundAs n db v
 
 -- the rows of entries are entries in their limits, none after the last moment
 abbrev pub ArePast : Database → ℕ → Type 0

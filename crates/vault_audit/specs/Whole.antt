@@ -1,4 +1,4 @@
--- What the passes over all tables tell.
+-- What the passes over all tables say.
 use Rattle.std.specs.Prelude.{◌≡◌, ◌⊎◌, ⊤, List, Option, None, Some, Result, Ok, Err}
 use Rattle.sqlite.specs.Effect.{Database}
 use Rattle.vault_base.specs.declared.refusal.Table.{Table}
@@ -32,8 +32,8 @@ IsAudited n db None = (v : Vault) × AreSoundAs n db v
 IsAudited n db (Some table) = (v : Vault) → ¬ AreSoundAs n db v
 
 -- the refusals of an audit
-abbrev pub IsTold : Refusal → Type 0
-IsTold r = (r ≡ Memory) ⊎ (r ≡ Device) ⊎ ((t : Table) × (r ≡ Damaged t))
+abbrev pub IsReported : Refusal → Type 0
+IsReported r = (r ≡ Memory) ⊎ (r ≡ Device) ⊎ ((t : Table) × (r ≡ Damaged t))
 
 -- the tables were judged, whatever they are
 abbrev pub IsJudged : Result (Unit {0}) Refusal → Type 0

@@ -2,7 +2,7 @@
 //! are to each other.
 //!
 //! Within it an error is want of memory, reported as `ErrorCode::OutOfMemory`, or a failure of the store;
-//! `audit` tells each as a refusal.
+//! `audit` reports each as a refusal.
 #![tactic(auto)]
 
 pub mod first_pass;

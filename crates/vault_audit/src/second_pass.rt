@@ -8,7 +8,7 @@ pub mod versions;
 ghost use Rattle.std.specs.Prelude.{IfOk, IfErr};
 ghost use Rattle.sqlite.specs.State.{HasCleanDisk};
 ghost use Rattle.sqlite.specs.Held.{state};
-ghost use Rattle.vault_audit.specs.Looks.{Told, ToldOf};
+ghost use Rattle.vault_audit.specs.Looks.{Reported, ReportedOf};
 ghost use Rattle.vault_audit.specs.Whole.{VersionsAndHeads, AllFound};
 ghost use Rattle.vault_audit_walk.specs.Health.{IsHealthy, IsMemory, IsOfEdition, OnlyLooks};
 
@@ -30,7 +30,7 @@ pub(crate) fn look_at_entries<S: Alter>(
     edition: Edition,
 ) -> Result<Option<Table>, Error>
     requires { IsOfEdition S.Store conn.old edition }
-    ensures reported { HasCleanDisk (state S.Store conn.new) → IfOk result (Told edition (state S.Store conn.new).now (VersionsAndHeads (state S.Store conn.new).now)) }
+    ensures reported { HasCleanDisk (state S.Store conn.new) → IfOk result (Reported edition (state S.Store conn.new).now (VersionsAndHeads (state S.Store conn.new).now)) }
     ensures look { OnlyLooks S.Store conn.old conn.new result }
     ensures err { IsHealthy (state S.Store conn.new) → IfErr result IsMemory }
 {
@@ -55,7 +55,7 @@ pub(crate) fn look_again<S: Alter>(
     meta: MetaRow,
 ) -> Result<Option<Table>, Error>
     requires { IsOfEdition S.Store conn.old edition }
-    ensures reported { HasCleanDisk (state S.Store conn.new) → IfOk result (ToldOf edition (state S.Store conn.new).now meta (AllFound edition (state S.Store conn.new).now meta)) }
+    ensures reported { HasCleanDisk (state S.Store conn.new) → IfOk result (ReportedOf edition (state S.Store conn.new).now meta (AllFound edition (state S.Store conn.new).now meta)) }
     ensures look { OnlyLooks S.Store conn.old conn.new result }
     ensures err { IsHealthy (state S.Store conn.new) → IfErr result IsMemory }
 {

@@ -1,12 +1,12 @@
-//! Both passes, and what they tell.
+//! Both passes, and what they say.
 ghost use Rattle.std.specs.Prelude.{◌≡◌, ◌≢◌, None, IfOk, OnOk, IfErr, IfSome};
 ghost use Rattle.sqlite.specs.State.{HasCleanDisk, IsUnchanged, Survives};
 ghost use Rattle.sqlite.specs.Held.{state};
 ghost use Rattle.vault_base.specs.declared.refusal.Table.{Table};
 ghost use Rattle.vault_core_model.specs.Vault.{Vault};
 ghost use Rattle.vault_audit_model.specs.Spells.{AreSoundAs};
-ghost use Rattle.vault_audit.specs.InOrder.{IsToldInOrder};
-ghost use Rattle.vault_audit.specs.Whole.{IsAudited, IsJudged, IsTold};
+ghost use Rattle.vault_audit.specs.InOrder.{IsReportedInOrder};
+ghost use Rattle.vault_audit.specs.Whole.{IsAudited, IsJudged, IsReported};
 ghost use Rattle.vault_audit_walk.specs.Health.{IsHealthy, IsMemory, OnlyLooks};
 
 use crate::first_pass::in_order::{is_at, look_at_tables};
@@ -27,7 +27,7 @@ fn find_damage<S: Alter>(
     edition: Edition,
 ) -> Result<Option<Table>, Error>
     ensures reported { HasCleanDisk (state S.Store conn.new) → IfOk result (IsAudited edition (state S.Store conn.new).now) }
-    ensures order { HasCleanDisk (state S.Store conn.new) → IfOk result (λ found. IfSome found (IsToldInOrder edition (state S.Store conn.new).now)) }
+    ensures order { HasCleanDisk (state S.Store conn.new) → IfOk result (λ found. IfSome found (IsReportedInOrder edition (state S.Store conn.new).now)) }
     ensures same { HasCleanDisk (state S.Store conn.new) → IfOk result (λ found. found ≡ None → IsUnchanged (state S.Store conn.old) (state S.Store conn.new)) }
     ensures kept { HasCleanDisk (state S.Store conn.new) → OnOk result ((state S.Store conn.new).now ≡ (state S.Store conn.old).now) }
     ensures err { IsHealthy (state S.Store conn.new) → IfErr result IsMemory }
@@ -66,9 +66,9 @@ pub fn audit<S: Alter>(
     // or they are those of none.
     ensures damaged { HasCleanDisk (state S.Store conn.new) → IfErr result (λ r. (t : Table) → r ≡ Refusal.Damaged t → (v : Vault) → ¬ AreSoundAs edition (state S.Store conn.new).now v) }
     // The table that is reported is the first in order that isn't right by itself, whatever the schema; or all are.
-    ensures first { HasCleanDisk (state S.Store conn.new) → IfErr result (λ r. (t : Table) → r ≡ Refusal.Damaged t → IsToldInOrder edition (state S.Store conn.new).now t) }
-    ensures faults { IfErr result IsTold }
-    // A store that works is never told as one that failed.
+    ensures first { HasCleanDisk (state S.Store conn.new) → IfErr result (λ r. (t : Table) → r ≡ Refusal.Damaged t → IsReportedInOrder edition (state S.Store conn.new).now t) }
+    ensures faults { IfErr result IsReported }
+    // A store that works is never reported as one that failed.
     ensures healthy { IsHealthy (state S.Store conn.new) → IfErr result (λ r. r ≢ Refusal.Device) }
     ensures look { OnlyLooks S.Store conn.old conn.new result }
     ensures kept { HasCleanDisk (state S.Store conn.new) → IsJudged result → (state S.Store conn.new).now ≡ (state S.Store conn.old).now }

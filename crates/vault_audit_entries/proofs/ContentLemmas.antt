@@ -34,7 +34,7 @@ use Rattle.vault_audit_walk.specs.Walk.{Walked}
 use Rattle.vault_audit_walk.proofs.ScanLemmas.{first_cmp}
 use Rattle.vault_audit_walk.proofs.PassLemmas.{walk_yes, walk_no}
 use Rattle.vault_audit_entries.specs.declared.contents.beside.ContentPass.{ContentPass}
-use Rattle.vault_audit_entries.specs.Contents.{IsContentOf, IsContentIn, AreRisingFrom, AreOfHeld, TellOfHeld, held_row}
+use Rattle.vault_audit_entries.specs.Contents.{IsContentOf, IsContentIn, AreRisingFrom, AreOfHeld, DecidesHeld, held_row}
 use Rattle.vault_audit_entries.specs.ContentPasses.{ComesLater, with_content}
 use Rattle.vault_audit_entries.proofs.BesideLemmas.{is_of, row_beside, beside, beside_is, beside_number}
 use Rattle.vault_audit_walk.proofs.JoinLemmas.{IsOrderOf}
@@ -121,16 +121,16 @@ unremoved (Some r) e = absurd cc
 no_number : (n : ℕ) → number n ≡ Null → ⊥
 no_number n e = cc
 
-told_by : (o : Option Entry) (c : ContentRow) → number (length c.content) ≡ column (row_beside o) 4 → ◌≡◌ {A = Value} (Blob (sha256 c.content)) (column (row_beside o) 5) → Null ≡ column (row_beside o) 9 → IsContentOf o c
-told_by None c size digest removal = absurd (no_number (length c.content) size)
-told_by (Some e) c size digest removal = (unremoved e.removal removal, number_same (length c.content) e.size size, digest_same (sha256 c.content) e.digest digest)
+stated_by : (o : Option Entry) (c : ContentRow) → number (length c.content) ≡ column (row_beside o) 4 → ◌≡◌ {A = Value} (Blob (sha256 c.content)) (column (row_beside o) 5) → Null ≡ column (row_beside o) 9 → IsContentOf o c
+stated_by None c size digest removal = absurd (no_number (length c.content) size)
+stated_by (Some e) c size digest removal = (unremoved e.removal removal, number_same (length c.content) e.size size, digest_same (sha256 c.content) e.digest digest)
 
 is_extended : (es : List Entry) (c : ContentRow) → held_row c ≡ extended es (content_row c) → IsContentIn es c
 is_extended es c e =
     let o = find (λ x. x.id == c.id) es in
     let found = beside_number es c.id in
     let one = cell (held_row c) (extended es (content_row c)) in
-    told_by o c (one 2 e ∙ ap (λ x. column x 4) found) (one 3 e ∙ ap (λ x. column x 5) found) (one 4 e ∙ ap (λ x. column x 9) found)
+    stated_by o c (one 2 e ∙ ap (λ x. column x 4) found) (one 3 e ∙ ap (λ x. column x 5) found) (one 4 e ∙ ap (λ x. column x 9) found)
 
 abbrev IsExtended : List Entry → Row → Type 0
 IsExtended es row = row ≡ extended es (first_two row)
@@ -191,14 +191,14 @@ abbrev pub start : ContentPass
 start = record { next = 1; count = 0 }
 
 module _ (n : Edition) (old new : State) (has : old.now.schema ≡ schema_of n) (same : IsUnchanged old new) (r : ContentPass) (es : List Entry) (are : AreEntries new.now es) where
-  pub contents_yes : Walked (Takes held_row ComesLater with_content) (Refuses held_row ComesLater with_content) contents_walk old new start r true → TellOfHeld new.now es (Some r.count)
+  pub contents_yes : Walked (Takes held_row ComesLater with_content) (Refuses held_row ComesLater with_content) contents_walk old new start r true → DecidesHeld new.now es (Some r.count)
   contents_yes h =
       let it = walk_yes held_row ComesLater with_content same_row (schema_of n) contents_walk _ _ (contents_walk_is n).0 source (answers n) old new has same start r h in
       let count : r.count ≡ (end_of start it.0).count = ap (λ (p : ContentPass). p.count) it.3 in
       let all = counted start it.0 in
       (it.0, of_held new.now es it.0 are it.1 (rising start it.0 it.2), omega (arith, count, all))
 
-  pub contents_no : Walked (Takes held_row ComesLater with_content) (Refuses held_row ComesLater with_content) contents_walk old new start r false → TellOfHeld new.now es None
+  pub contents_no : Walked (Takes held_row ComesLater with_content) (Refuses held_row ComesLater with_content) contents_walk old new start r false → DecidesHeld new.now es None
   contents_no h hs it =
       let cs = flat_map contents_in hs in
       let its = given_of new.now es hs are it in

@@ -11,11 +11,11 @@ use Rattle.vault_core_model.specs.Sound.{AreIdsFrom, AreInOrder, IsWhole, IsWhol
 use Rattle.vault_core_model.specs.Vault.{Vault}
 use Rattle.vault_audit_model.specs.declared.rows.ContentRow.{ContentRow}
 use Rattle.vault_audit_model.specs.Limits.{IsHistory}
-use Rattle.vault_audit_model.specs.Relations.{AreEntries, AreNumbered, AreContents, TellContents, HasContent, HasContentAs}
+use Rattle.vault_audit_model.specs.Relations.{AreEntries, AreNumbered, AreContents, DecidesContents, HasContent, HasContentAs}
 use Rattle.vault_audit_model.specs.Rows.{entry_row, entry_columns, content_row, content_columns}
 use Rattle.vault_audit_model.specs.Spells.{AreSoundAs, contents_in, entries_in}
 use Rattle.vault_audit_model.specs.Tables.{entries_tree, contents_tree}
-use Rattle.vault_audit_entries.specs.Contents.{held_count, TellOfHeld}
+use Rattle.vault_audit_entries.specs.Contents.{held_count, DecidesHeld}
 use Rattle.vault_audit_entries.proofs.ContentMergeLemmas.{given, itself, same_if}
 use Rattle.vault_audit_entries.proofs.ContentLemmas.{given_of}
 use Rattle.vault_audit_model.specs.declared.schema.Edition.{Edition}
@@ -45,32 +45,32 @@ contents_whole (h ∷ hs) all = (whole_content h.entry.marker h all.0, contents_
 pub sound_contents : (n : Edition) → (db : Database) (v : Vault) → AreSoundAs n db v → AreContents db (entries_in v.histories) v.histories
 sound_contents n db v it = (refl, it.spells.contents, contents_whole v.histories it.spells.kept.sound.whole)
 
-pub unsound : (n : Edition) → (db : Database) → ((es : List Entry) → AreEntries db es → TellContents db es false) → (v : Vault) → ¬ AreSoundAs n db v
-unsound n db told v it = told (entries_in v.histories) ((sound_entries n) db v it) v.histories ((sound_contents n) db v it)
+pub unsound : (n : Edition) → (db : Database) → ((es : List Entry) → AreEntries db es → DecidesContents db es false) → (v : Vault) → ¬ AreSoundAs n db v
+unsound n db stated v it = stated (entries_in v.histories) ((sound_entries n) db v it) v.histories ((sound_contents n) db v it)
 
 -- ---- as many bytes as held versions, or not
 
 not_same : (a b : ℕ) → (a == b) ≡ false → ¬ (a ≡ b)
 not_same a b h same = true≢false (sym (subst (λ x. (a == x) ≡ true) same (itself a)) ∙ h)
 
-module _ (db : Database) (es : List Entry) (are : AreEntries db es) (held count : ℕ) (all : held ≡ held_count es) (told : TellOfHeld db es (Some count)) where
-  as_many : (b : Bool) → (held == count) ≡ b → TellContents db es b
+module _ (db : Database) (es : List Entry) (are : AreEntries db es) (held count : ℕ) (all : held ≡ held_count es) (stated : DecidesHeld db es (Some count)) where
+  as_many : (b : Bool) → (held == count) ≡ b → DecidesContents db es b
   as_many true h =
-      let cs = told.0 in
-      let its = told.1 in
+      let cs = stated.0 in
+      let its = stated.1 in
       let it = given 1 0 es are.1 cs its.1 its.2 in
       let same = same_if held count h in
-      let size = told.2 in
+      let size = stated.2 in
       let rows = it.1.contents in
       (it.0, (it.1.entries, subst (λ (xs : List ContentRow). IsPermutation (map content_row xs) (map content_columns (db.trees contents_tree))) (sym rows) its.0, it.1.all (omega (arith, all, same, size))))
   as_many false h = λ hs it.
       let its = given_of db es hs are it in
       let n = its.count in
-      let size = told.2 in
-      let a = length_permutation _ _ (IsPermutation-trans _ _ _ it.1 (IsPermutation-sym _ _ told.1.0)) in
-      let b : length (map content_row told.0) ≡ length told.0 = simp length-map in
+      let size = stated.2 in
+      let a = length_permutation _ _ (IsPermutation-trans _ _ _ it.1 (IsPermutation-sym _ _ stated.1.0)) in
+      let b : length (map content_row stated.0) ≡ length stated.0 = simp length-map in
       let c : length (map content_row (flat_map contents_in hs)) ≡ length (flat_map contents_in hs) = simp length-map in
       not_same held count h (omega (arith, all, n, size, a, b, c))
 
-  pub decided : TellContents db es (held == count)
+  pub decided : DecidesContents db es (held == count)
   decided = as_many (held == count) refl

@@ -42,7 +42,7 @@ use Rattle.vault_audit_walk.proofs.ScanLemmas.{goes_on_to}
 use Rattle.vault_audit_walk.proofs.RecordLemmas.{between, front}
 use Rattle.vault_audit_model.proofs.ValueLemmas.{agrees}
 use Rattle.vault_audit_walk.proofs.BesideLemmas.{agree_texts, of_records, of_stored, each, passes}
-use Rattle.vault_audit_entries.specs.HeadCounts.{is_under, IsCounted, TellCounts, ShowsCount}
+use Rattle.vault_audit_entries.specs.HeadCounts.{is_under, IsCounted, DecidesCounts, ShowsCount}
 use Rattle.vault_audit_model.specs.declared.schema.Edition.{Edition}
 
 -- ---- the statement
@@ -122,14 +122,14 @@ as_many p f (x ∷ xs) =
       | false ↦ more
     ]
 
--- what a row of heads and a row of entries tell, as their columns
-abbrev tells : Row → Row → Bool
-tells x y =
+-- what a row of heads and a row of entries say, as their columns
+abbrev reads_so : Row → Row → Bool
+reads_so x y =
     agrees (column y 1) (column x 0) && (agrees (column y 2) (column x 1)
     && (is_true (binary (Is Binary) (column y 9) Null) && (is_true (unary Not (binary (Compare Gt Binary) (column y 0) (column x 2))) && true)))
 
 abbrev how_many : List Row → Row → ℕ
-how_many entries x = length (filter (λ s. tells x (entry_columns s)) entries)
+how_many entries x = length (filter (λ s. reads_so x (entry_columns s)) entries)
 
 abbrev Counts : List Row → Row → Type 0
 Counts entries x = column x 3 ≡ number (min most (how_many entries x))
@@ -138,7 +138,7 @@ shown_number : (entries : List Row) (r : Row) → column (shown_counted entries 
 shown_number entries r = ap (λ n. number (min most n)) (as_many (passes tests r) (λ s. [] ∷ r ∷ s ∷ []) entries)
 
 counts_if : (entries : List Row) (r : Row) → ShowsCount (shown_counted entries r) → Counts entries (head_columns r)
-counts_if entries r (n, told, shown) = told ∙ sym shown ∙ shown_number entries r
+counts_if entries r (n, stated, shown) = stated ∙ sym shown ∙ shown_number entries r
 
 shows_if : (entries : List Row) (r : Row) → Counts entries (head_columns r) → ShowsCount (shown_counted entries r)
 shows_if entries r it = (min most (how_many entries (head_columns r)), it, shown_number entries r)
@@ -172,8 +172,8 @@ regrouped false b c d = refl
 each_as : (a b c d e f g h : Bool) → a ≡ e → b ≡ f → c ≡ g → d ≡ h → ((a && (b && c)) && d) ≡ ((e && (f && g)) && h)
 each_as a b c d e f g h p q r s = rw (p, q, r, s) refl
 
-tells_under : (h : HeadRow) (e : Entry) → tells (head_row h) (entry_row e) ≡ is_under h e
-tells_under h e =
+listed_under : (h : HeadRow) (e : Entry) → reads_so (head_row h) (entry_row e) ≡ is_under h e
+listed_under h e =
     regrouped (agrees (Text e.bucket) (Text h.bucket)) (agrees (Text e.key) (Text h.key)) (is_true (binary (Is Binary) (removal_at e.removal) Null)) (is_true (unary Not (binary (Compare Gt Binary) (number e.id) (number h.head.newest))))
     ∙ each_as _ _ _ _ (bytes_eq e.bucket h.bucket) (bytes_eq e.key h.key) (is_none e.removal) (is_le (nat_cmp e.id h.head.newest))
     (agree_texts e.bucket h.bucket ∙ is_eq-slice_cmp e.bucket h.bucket) (agree_texts e.key h.key ∙ is_eq-slice_cmp e.key h.key) (unremoved e.removal) (no_newer e.id h.head.newest)
@@ -220,9 +220,9 @@ below_most n low = grind (arith, low)
 module _ (entries : List Row) (es : List Entry) (are : IsPermutation (map entry_row es) (map entry_columns entries)) (numbered : AreNumbered 1 0 es) where
   found : (h : HeadRow) → how_many entries (head_row h) ≡ length (filter (is_under h) es)
   found h =
-      let p = tells (head_row h) in
+      let p = reads_so (head_row h) in
       sym (mapped_many p entry_columns entries) ∙ length_permutation _ _ (IsPermutation-filter p _ _ are)
-      ∙ mapped_many p entry_row es ∙ filter_alike (λ e. p (entry_row e)) (is_under h) (tells_under h) es
+      ∙ mapped_many p entry_row es ∙ filter_alike (λ e. p (entry_row e)) (is_under h) (listed_under h) es
 
   whole : (h : HeadRow) → min most (how_many entries (head_row h)) ≡ length (filter (is_under h) es)
   whole h =
@@ -237,25 +237,25 @@ module _ (entries : List Row) (es : List Entry) (are : IsPermutation (map entry_
   if_counted : (h : HeadRow) → IsCounted es h → Counts entries (head_row h)
   if_counted h it = ap number (it ∙ sym (whole h))
 
-module _ (n : Edition) (old new : State) (has : old.now.schema ≡ schema_of n) (same : IsUnchanged old new) (es : List Entry) (hs : List HeadRow) (are : AreEntries new.now es) (tell : IsPermutation (map head_row hs) (map head_columns (new.now.trees heads_tree))) where
-  counts_yes : Checked ShowsCount counts_text old new true → TellCounts es hs true
+module _ (n : Edition) (old new : State) (has : old.now.schema ≡ schema_of n) (same : IsUnchanged old new) (es : List Entry) (hs : List HeadRow) (are : AreEntries new.now es) (decides : IsPermutation (map head_row hs) (map head_columns (new.now.trees heads_tree))) where
+  counts_yes : Checked ShowsCount counts_text old new true → DecidesCounts es hs true
   counts_yes (rows, shown, all) =
       let db : new.now ≡ old.now = same.0.now_is in
       let every = subst (λ (d : Database). IsPermutation (source d.trees) rows) (sym db) ((looked n) old new has rows shown) in
       let entries = new.now.trees entries_tree in
       let stored = all_from_map ShowsCount (shown_counted entries) (new.now.trees heads_tree) (all-permutation ShowsCount _ _ (IsPermutation-sym _ _ every) all) in
-      each (counted_if entries es are.0 are.1) hs (of_records head_row head_columns (Counts entries) hs (new.now.trees heads_tree) tell (each (counts_if entries) (new.now.trees heads_tree) stored))
+      each (counted_if entries es are.0 are.1) hs (of_records head_row head_columns (Counts entries) hs (new.now.trees heads_tree) decides (each (counts_if entries) (new.now.trees heads_tree) stored))
 
-  counts_no : Checked ShowsCount counts_text old new false → TellCounts es hs false
+  counts_no : Checked ShowsCount counts_text old new false → DecidesCounts es hs false
   counts_no (rows, row, begins, none) all =
       let known : new.now.schema ≡ schema_of n = ap (λ (b : Database). b.schema) same.0.now_is ∙ has in
       let on = goes_on_to counts_text new (schema_of n) known _ _ (counts_is n).0 same.0.is_open (rows ++ row ∷ []) begins in
       let every = (looked n) new new known ((rows ++ row ∷ []) ++ on.0) on.1 in
       let entries = new.now.trees entries_tree in
-      let stored = of_stored head_row head_columns (Counts entries) hs (new.now.trees heads_tree) tell (each (if_counted entries es are.0 are.1) hs all) in
+      let stored = of_stored head_row head_columns (Counts entries) hs (new.now.trees heads_tree) decides (each (if_counted entries es are.0 are.1) hs all) in
       let passed = all-permutation ShowsCount _ _ every (all-map ShowsCount (shown_counted entries) (new.now.trees heads_tree) (each (shows_if entries) (new.now.trees heads_tree) stored)) in
       none (between ShowsCount rows row [] (front ShowsCount (rows ++ row ∷ []) on.0 passed))
 
-  pub counts_told : (b : Bool) → Checked ShowsCount counts_text old new b → TellCounts es hs b
-  counts_told true = counts_yes
-  counts_told false = counts_no
+  pub counts_stated : (b : Bool) → Checked ShowsCount counts_text old new b → DecidesCounts es hs b
+  counts_stated true = counts_yes
+  counts_stated false = counts_no

@@ -15,16 +15,16 @@ use Rattle.vault_core_model.specs.Sound.{AreIdsFrom}
 use Rattle.vault_core_model.specs.Vault.{Vault}
 use Rattle.vault_audit_model.specs.declared.rows.HeadRow.{HeadRow}
 use Rattle.vault_audit_model.specs.Limits.{IsEntry, IsHeadRow}
-use Rattle.vault_audit_model.specs.Relations.{AreEntries, AreNumbered, AreHeads, TellHeads}
+use Rattle.vault_audit_model.specs.Relations.{AreEntries, AreNumbered, AreHeads, DecidesHeads}
 use Rattle.vault_audit_model.specs.Rows.{head_row, head_columns}
 use Rattle.vault_audit_model.specs.Spells.{AreSoundAs, head_in, heads_in}
 use Rattle.vault_audit_model.specs.Tables.{heads_tree}
 use Rattle.vault_audit_entries.proofs.ContentSoundLemmas.{sound_entries}
-use Rattle.vault_audit_entries.specs.Heads.{head_cmp, IsHeldFor, NamesHeld, AreHeadsByKey, TellHeadsByKey, sum_of_counts, up_to_most}
+use Rattle.vault_audit_entries.specs.Heads.{head_cmp, IsHeldFor, NamesHeld, AreHeadsByKey, DecidesHeadsByKey, sum_of_counts, up_to_most}
 use Rattle.vault_audit_entries.proofs.SortLemmas.{in_order, same_in_order, all_in_order, ascending_in_order}
 use Rattle.vault_audit_entries.proofs.CurrentLemmas.{head_cmp_total, heads_apart, heads_name}
 use Rattle.vault_audit_entries.proofs.HeadRowLemmas.{alike}
-use Rattle.vault_audit_entries.specs.HeadCounts.{is_under, IsCounted, TellCounts, is_held_entry, held_entry_count}
+use Rattle.vault_audit_entries.specs.HeadCounts.{is_under, IsCounted, DecidesCounts, is_held_entry, held_entry_count}
 use Rattle.vault_audit_entries.proofs.HeadCountLemmas.{mapped_many, few_entries, no_more}
 use Rattle.vault_audit_entries.proofs.HeadSumLemmas.{alike_among, none_removed, held_parts, parts_held, under_parts, parts_under, under_all, tie_of, is_covered, counted_once, all_covered, whole_counts, same_sum}
 use Rattle.vault_core_laws.proofs.Tests.{none_is}
@@ -60,8 +60,8 @@ named_in : (h : HeadRow) (es : List Entry) → NamesHeld es h → (e : Entry) ×
 named_in h [] it = absurd it
 named_in h (x ∷ es) it =
     elim (x.id == h.head.newest) as (λ b. (x.id == h.head.newest) ≡ b → IsHeldFor h (cond b (Some x) (find (λ e. e.id == h.head.newest) es)) → (e : Entry) × In e (x ∷ es) × (e.id ≡ h.head.newest) × (e.bucket ≡ h.bucket) × (e.key ≡ h.key) × (e.removal ≡ None)) [
-      | true ↦ λ is told. (x, inl refl, same_id x.id h.head.newest is, told.0, told.1, told.2)
-      | false ↦ λ is told. let more = named_in h es told in (more.0, inr more.1, more.2, more.3, more.4, more.5)
+      | true ↦ λ is stated. (x, inl refl, same_id x.id h.head.newest is, stated.0, stated.1, stated.2)
+      | false ↦ λ is stated. let more = named_in h es stated in (more.0, inr more.1, more.2, more.3, more.4, more.5)
     ] refl it
 
 not_above : (a b c : ℕ) → c ≡ b → (a < b → ⊥) → c ≤ a
@@ -269,11 +269,11 @@ module _ (v : Vault) (numbered : AreNumbered 1 0 (entries_of v)) where
         same_rising head_cmp head_cmp_total ordered hs ordered_up up
         (λ x i. at_in (λ y. In y hs) ordered here x i) (λ x i. at_in (λ y. In y ordered) xs there x (found_current x i))
 
--- ---- what the looks tell
+-- ---- what the looks say
 
 module _ (db : Database) (v : Vault) (are : AreEntries db (entries_of v)) where
   abbrev pub IsWhole : List HeadRow → Type 0
-  IsWhole hs = AreHeadsByKey db (entries_of v) hs × TellCounts (entries_of v) hs true
+  IsWhole hs = AreHeadsByKey db (entries_of v) hs × DecidesCounts (entries_of v) hs true
 
   heads_yes : (hs : List HeadRow) → IsWhole hs → sum_of_counts hs ≡ held_entry_count (entries_of v) → AreHeads db v
   heads_yes hs (by_key, counts) sum =
@@ -285,19 +285,19 @@ module _ (db : Database) (v : Vault) (are : AreEntries db (entries_of v)) where
   heads_no : (hs : List HeadRow) → AreHeadsByKey db (entries_of v) hs → AreHeads db v → sum_of_counts hs ≡ held_entry_count (entries_of v)
   heads_no hs by_key heads = same_sum hs (heads_in v) (IsPermutation-trans _ _ _ by_key.0 (IsPermutation-sym _ _ heads)) ∙ held_sum v are.1
 
-  pub no_by_key : TellHeadsByKey db (entries_of v) None → ¬ AreHeads db v
-  no_by_key told heads =
+  pub no_by_key : DecidesHeadsByKey db (entries_of v) None → ¬ AreHeads db v
+  no_by_key stated heads =
       let xs = heads_in v in
       let numbers = ids v are.1 in
-      told (in_order head_cmp xs) (
+      stated (in_order head_cmp xs) (
         IsPermutation-trans _ _ _ (IsPermutation-map head_row _ _ (same_in_order head_cmp xs)) heads,
         ascending_in_order head_cmp head_cmp_total xs (heads_apart v numbers),
         all_in_order head_cmp IsHeadRow xs (limited v are.1),
         all_in_order head_cmp (NamesHeld (entries_of v)) xs (heads_name v numbers),
       )
 
-  pub no_counts : ((hs : List HeadRow) → IsPermutation (map head_row hs) (map head_columns (db.trees heads_tree)) → TellCounts (entries_of v) hs false) → ¬ AreHeads db v
-  no_counts told heads = told (heads_in v) heads (each_counted v are.1)
+  pub no_counts : ((hs : List HeadRow) → IsPermutation (map head_row hs) (map head_columns (db.trees heads_tree)) → DecidesCounts (entries_of v) hs false) → ¬ AreHeads db v
+  no_counts stated heads = stated (heads_in v) heads (each_counted v are.1)
 
   few : held_entry_count (entries_of v) ≤ 1000000001
   few =
@@ -306,7 +306,7 @@ module _ (db : Database) (v : Vault) (are : AreEntries db (entries_of v)) where
 
   -- the sum of the counts is the number of held entries, or it isn't
   module _ (held total : ℕ) (all : held ≡ held_entry_count (entries_of v)) (hs : List HeadRow) (is : IsWhole hs) (sum : total ≡ up_to_most (sum_of_counts hs)) where
-    decided_as : (b : Bool) → (held == total) ≡ b → TellHeads db v b
+    decided_as : (b : Bool) → (held == total) ≡ b → DecidesHeads db v b
     decided_as true same =
         let n : held ≡ total = same_id held total same in
         let low = few in
@@ -317,9 +317,9 @@ module _ (db : Database) (v : Vault) (are : AreEntries db (entries_of v)) where
         let whole : up_to_most (sum_of_counts hs) ≡ sum_of_counts hs = uncut (sum_of_counts hs) (omega (arith, same, low)) in
         not_one held total other (all ∙ sym same ∙ sym whole ∙ sym sum)
 
-    pub decided : TellHeads db v (held == total)
+    pub decided : DecidesHeads db v (held == total)
     decided = decided_as (held == total) refl
 
 -- heads that are none of any vault are those of no sound vault
-pub unsound : (n : Edition) → (db : Database) → ((v : Vault) → AreEntries db (entries_of v) → TellHeads db v false) → (v : Vault) → ¬ AreSoundAs n db v
-unsound n db told v it = told v (sound_entries n db v it) it.heads
+pub unsound : (n : Edition) → (db : Database) → ((v : Vault) → AreEntries db (entries_of v) → DecidesHeads db v false) → (v : Vault) → ¬ AreSoundAs n db v
+unsound n db stated v it = stated v (sound_entries n db v it) it.heads

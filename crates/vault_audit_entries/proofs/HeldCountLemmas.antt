@@ -78,6 +78,6 @@ module _ (n : Edition) (old new : State) (has : old.now.schema ≡ schema_of n) 
       let start : HeldCount = record { entries = 0; versions = 0 } in
       let all_entries = counted (λ c. c.entries) is_held_row (λ p row q one. one.0) start r rows goes in
       let all_versions = counted (λ c. c.versions) is_version_row (λ p row q one. one.1) start r rows goes in
-      let told_entries = tested is_held_row is_held_entry (λ e. removal_held e.removal) es in
-      let told_versions = tested is_version_row is_held (λ e. cells_held e.marker e.removal) es in
-      (omega (arith, entries, all_entries, told_entries), omega (arith, versions, all_versions, told_versions))
+      let stated_entries = tested is_held_row is_held_entry (λ e. removal_held e.removal) es in
+      let stated_versions = tested is_version_row is_held (λ e. cells_held e.marker e.removal) es in
+      (omega (arith, entries, all_entries, stated_entries), omega (arith, versions, all_versions, stated_versions))

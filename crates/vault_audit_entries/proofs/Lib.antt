@@ -9,7 +9,7 @@ pub mod HeadCountLemmas
 pub mod HeadRiseLemmas
 pub mod HeadRowLemmas
 pub mod HeadSumLemmas
-pub mod HeadTellLemmas
+pub mod HeadDecisionLemmas
 pub mod HeadTextLemmas
 pub mod HeadsOfKeysLemmas
 pub mod HeldCountLemmas
@@ -24,6 +24,6 @@ pub mod SettingOwnerLemmas
 pub mod SettingPlaceLemmas
 pub mod SettingPresenceLemmas
 pub mod SettingRowLemmas
-pub mod SettingTellLemmas
+pub mod SettingDecisionLemmas
 pub mod SettingTextLemmas
 pub mod SortLemmas

@@ -25,7 +25,7 @@ use Rattle.vault_core_model.specs.Sound.{IsNoted}
 use Rattle.vault_core_model.specs.Vault.{Vault}
 use Rattle.vault_core_laws.proofs.NameOrder.{notes_total}
 use Rattle.vault_audit_model.specs.Limits.{IsNote}
-use Rattle.vault_audit_model.specs.Relations.{AreEntries, AreNotes, TellNotes, NamesOneOf}
+use Rattle.vault_audit_model.specs.Relations.{AreEntries, AreNotes, DecidesNotes, NamesOneOf}
 use Rattle.vault_audit_model.specs.Rows.{note_row, note_columns, entry_columns}
 use Rattle.vault_audit_model.specs.Spells.{AreSoundAs, entries_in}
 use Rattle.vault_audit_model.specs.Tables.{schema_of, intake_tree, entries_tree}
@@ -134,16 +134,16 @@ source_is db es are =
 no_number : (n : ℕ) → number n ≡ Null → ⊥
 no_number n e = cc
 
-told_by : (o : Option Entry) (n : Note) → ◌≡◌ {A = Value} (Text n.bucket) (column (row_beside o) 1) → ◌≡◌ {A = Value} (Text n.key) (column (row_beside o) 2) → number n.size ≡ column (row_beside o) 4 → ◌≡◌ {A = Value} (Blob n.digest) (column (row_beside o) 5) → IsNoted n o
-told_by None n bucket key size digest = no_number n.size size
-told_by (Some e) n bucket key size digest = (sym (text_same n.bucket e.bucket bucket), sym (text_same n.key e.key key), sym (number_same n.size e.size size), digest_same n.digest e.digest digest)
+stated_by : (o : Option Entry) (n : Note) → ◌≡◌ {A = Value} (Text n.bucket) (column (row_beside o) 1) → ◌≡◌ {A = Value} (Text n.key) (column (row_beside o) 2) → number n.size ≡ column (row_beside o) 4 → ◌≡◌ {A = Value} (Blob n.digest) (column (row_beside o) 5) → IsNoted n o
+stated_by None n bucket key size digest = no_number n.size size
+stated_by (Some e) n bucket key size digest = (sym (text_same n.bucket e.bucket bucket), sym (text_same n.key e.key key), sym (number_same n.size e.size size), digest_same n.digest e.digest digest)
 
 is_extended : (es : List Entry) (n : Note) → noted_row n ≡ extended es (note_row n) → NamesOneOf es n
 is_extended es n e =
     let o = find (λ x. x.id == n.id) es in
     let found = beside_number es n.id in
     let one = cell (noted_row n) (extended es (note_row n)) in
-    told_by o n (one 10 e ∙ ap (λ x. column x 1) found) (one 11 e ∙ ap (λ x. column x 2) found) (one 12 e ∙ ap (λ x. column x 4) found) (one 13 e ∙ ap (λ x. column x 5) found)
+    stated_by o n (one 10 e ∙ ap (λ x. column x 1) found) (one 11 e ∙ ap (λ x. column x 2) found) (one 12 e ∙ ap (λ x. column x 4) found) (one 13 e ∙ ap (λ x. column x 5) found)
 
 abbrev IsExtended : List Entry → Row → Type 0
 IsExtended es row = row ≡ extended es (first_ten row)
@@ -201,19 +201,19 @@ abbrev pub start : NotePass
 start = record { last = None }
 
 module _ (n : Edition) (old new : State) (has : old.now.schema ≡ schema_of n) (same : IsUnchanged old new) (r : NotePass) (es : List Entry) (are : AreEntries new.now es) where
-  notes_yes : Walked (Takes noted_row ComesAfter with_note) (Refuses noted_row ComesAfter with_note) notes_walk old new start r true → TellNotes new.now es true
+  notes_yes : Walked (Takes noted_row ComesAfter with_note) (Refuses noted_row ComesAfter with_note) notes_walk old new start r true → DecidesNotes new.now es true
   notes_yes h =
       let it = pass_yes noted_row ComesAfter with_note same_row row_order row_order_total (schema_of n) notes_walk _ _ (notes_walk_is n).0 source (answers n) old new has same start r h in
       (it.0, are_notes new.now es it.0 are it.1 (ascending_notes start it.0 it.2) (limits start it.0 it.2))
 
-  notes_no : Walked (Takes noted_row ComesAfter with_note) (Refuses noted_row ComesAfter with_note) notes_walk old new start r false → TellNotes new.now es false
+  notes_no : Walked (Takes noted_row ComesAfter with_note) (Refuses noted_row ComesAfter with_note) notes_walk old new start r false → DecidesNotes new.now es false
   notes_no h ns it =
       let fit = fitting start ns (no_last ns) it.1 it.2 in
       pass_no noted_row ComesAfter with_note same_row row_order row_order_total (schema_of n) notes_walk _ _ (notes_walk_is n).0 source (answers n) old new has same start r (λ xs fits. rows_rise xs (ascending_notes start xs fits)) h ns (shown_noted new.now es ns are it.0 it.3) fit
 
-  pub notes_told : (found : Bool) → Walked (Takes noted_row ComesAfter with_note) (Refuses noted_row ComesAfter with_note) notes_walk old new start r found → TellNotes new.now es found
-  notes_told true = notes_yes
-  notes_told false = notes_no
+  pub notes_stated : (found : Bool) → Walked (Takes noted_row ComesAfter with_note) (Refuses noted_row ComesAfter with_note) notes_walk old new start r found → DecidesNotes new.now es found
+  notes_stated true = notes_yes
+  notes_stated false = notes_no
 
 -- ---- a sound vault
 
@@ -226,5 +226,5 @@ sound_notes n db v it =
     let kept = it.spells.kept in
     (it.spells.intake, kept.sound.ordered.notes, kept.limits.notes, named v v.notes kept.sound.notes)
 
-pub unsound : (n : Edition) → (db : Database) → ((es : List Entry) → AreEntries db es → TellNotes db es false) → (v : Vault) → ¬ AreSoundAs n db v
-unsound n db told v it = told (entries_in v.histories) (sound_entries n db v it) v.notes ((sound_notes n) db v it)
+pub unsound : (n : Edition) → (db : Database) → ((es : List Entry) → AreEntries db es → DecidesNotes db es false) → (v : Vault) → ¬ AreSoundAs n db v
+unsound n db stated v it = stated (entries_in v.histories) (sound_entries n db v it) v.notes ((sound_notes n) db v it)

@@ -1,4 +1,4 @@
--- Whether the versions are the entries with settings, told by the rows that stand beside each other.
+-- Whether the versions are the entries with settings, as stated by the rows that stand beside each other.
 use Rattle.std.proofs.Common.{◌≡◌, ◌==◌, ℕ, List, Bool, true, false, refl, sym, ◌∙◌}
 use Rattle.std.specs.List.{AllByRecursion, list_any}
 use Rattle.sqlite_value.specs.Order.{Row, column}
@@ -12,10 +12,10 @@ use Rattle.vault_audit_model.specs.Rows.{entry_row, entry_columns, setting_row, 
 use Rattle.vault_audit_model.specs.Tables.{schema_of, entries_tree, settings_tree}
 use Rattle.vault_audit_model.specs.Values.{number}
 use Rattle.vault_audit_walk.specs.Records.{Checked}
-use Rattle.vault_audit_walk.specs.Beside.{TellsAbsence}
+use Rattle.vault_audit_walk.specs.Beside.{ReportsAbsence}
 use Rattle.vault_audit_model.proofs.ValueLemmas.{agrees}
 use Rattle.vault_audit_walk.proofs.BesideLemmas.{agree_numbers, beside_row, beside_yes, beside_no, met_yes, met_no, met_as, of_records, of_stored, each}
-use Rattle.vault_audit_entries.specs.SettingPlaces.{AreRowsOf, IsSetAs, TellPresence}
+use Rattle.vault_audit_entries.specs.SettingPlaces.{AreRowsOf, IsSetAs, DecidesPresence}
 use Rattle.vault_audit_entries.proofs.SettingTextLemmas.{settings_beside, settings_beside_is}
 use Rattle.vault_audit_model.specs.declared.schema.Edition.{Edition}
 
@@ -27,20 +27,20 @@ module _ (db : Database) (es : List Entry) (are : AreEntries db es) (xs : List S
 
   -- what stands beside a row, by its columns alone
   abbrev Besides : Row → Type 0
-  Besides row = AllByRecursion TellsAbsence (beside_row (col 1 3) 1 0 Settings row)
+  Besides row = AllByRecursion ReportsAbsence (beside_row (col 1 3) 1 0 Settings row)
 
   has : (i : ℕ) → list_any (λ s. agrees (column s 1) (number i)) Settings ≡ list_any (λ x. x.id == i) xs
   has i = met_as setting_row setting_columns (number i) (λ x. x.id == i) (λ x. agree_numbers x.id i) xs Settings rows
 
-  set_yes : AllByRecursion (λ r. AllByRecursion TellsAbsence (beside_row (col 1 4) 1 0 Settings r)) (db.trees entries_tree) → AllByRecursion (IsSetAs xs) es
+  set_yes : AllByRecursion (λ r. AllByRecursion ReportsAbsence (beside_row (col 1 4) 1 0 Settings r)) (db.trees entries_tree) → AllByRecursion (IsSetAs xs) es
   set_yes all =
-      each (λ e told. sym (has e.id) ∙ met_yes (col 1 3) 1 0 (entry_row e) e.marker (λ s. refl) Settings told) es (of_records entry_row entry_columns Besides es (db.trees entries_tree) are.0 all)
+      each (λ e stated. sym (has e.id) ∙ met_yes (col 1 3) 1 0 (entry_row e) e.marker (λ s. refl) Settings stated) es (of_records entry_row entry_columns Besides es (db.trees entries_tree) are.0 all)
 
-  set_no : AllByRecursion (IsSetAs xs) es → AllByRecursion (λ r. AllByRecursion TellsAbsence (beside_row (col 1 4) 1 0 Settings r)) (db.trees entries_tree)
+  set_no : AllByRecursion (IsSetAs xs) es → AllByRecursion (λ r. AllByRecursion ReportsAbsence (beside_row (col 1 4) 1 0 Settings r)) (db.trees entries_tree)
   set_no all =
-      of_stored entry_row entry_columns Besides es (db.trees entries_tree) are.0 (each (λ e told. met_no (col 1 3) 1 0 (entry_row e) e.marker (λ s. refl) Settings (has e.id ∙ told)) es all)
+      of_stored entry_row entry_columns Besides es (db.trees entries_tree) are.0 (each (λ e stated. met_no (col 1 3) 1 0 (entry_row e) e.marker (λ s. refl) Settings (has e.id ∙ stated)) es all)
 
 module _ (n : Edition) (old new : State) (has : old.now.schema ≡ schema_of n) (same : IsUnchanged old new) where
-  pub presence : (b : Bool) → Checked TellsAbsence settings_beside old new b → TellPresence new.now b
-  presence true h es are xs rows = set_yes new.now es are xs rows (beside_yes (settings_beside_is n) (λ trees. (refl, refl)) TellsAbsence old new has same h)
-  presence false h es are xs rows = λ all. beside_no (settings_beside_is n) (λ trees. (refl, refl)) TellsAbsence old new has same h (set_no new.now es are xs rows all)
+  pub presence : (b : Bool) → Checked ReportsAbsence settings_beside old new b → DecidesPresence new.now b
+  presence true h es are xs rows = set_yes new.now es are xs rows (beside_yes (settings_beside_is n) (λ trees. (refl, refl)) ReportsAbsence old new has same h)
+  presence false h es are xs rows = λ all. beside_no (settings_beside_is n) (λ trees. (refl, refl)) ReportsAbsence old new has same h (set_no new.now es are xs rows all)

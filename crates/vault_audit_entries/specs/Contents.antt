@@ -41,9 +41,9 @@ AreOfHeld db es cs =
     IsPermutation (map content_row cs) (map content_columns (db.trees contents_tree)) × AreRisingFrom 1 cs × AllByRecursion (IsContentIn es) cs
 
 -- how many they are; or they aren't such rows
-abbrev pub TellOfHeld : Database → List Entry → Option ℕ → Type 0
-TellOfHeld db es (Some count) = (cs : List ContentRow) × AreOfHeld db es cs × (count ≡ length cs)
-TellOfHeld db es None = (hs : List History) → ¬ AreContents db es hs
+abbrev pub DecidesHeld : Database → List Entry → Option ℕ → Type 0
+DecidesHeld db es (Some count) = (cs : List ContentRow) × AreOfHeld db es cs × (count ≡ length cs)
+DecidesHeld db es None = (hs : List History) → ¬ AreContents db es hs
 
 -- what is shown of bytes beside their entry, where that is a held version of their size and digest
 abbrev pub held_row : ContentRow → Row

@@ -17,9 +17,9 @@ abbrev pub IsCounted : List Entry → HeadRow → Type 0
 IsCounted es h = h.head.count ≡ length (filter (is_under h) es)
 
 -- whether each head has
-abbrev pub TellCounts : List Entry → List HeadRow → Bool → Type 0
-TellCounts es hs true = AllByRecursion (IsCounted es) hs
-TellCounts es hs false = ¬ AllByRecursion (IsCounted es) hs
+abbrev pub DecidesCounts : List Entry → List HeadRow → Bool → Type 0
+DecidesCounts es hs true = AllByRecursion (IsCounted es) hs
+DecidesCounts es hs false = ¬ AllByRecursion (IsCounted es) hs
 
 -- the row shows one number twice
 abbrev pub ShowsCount : Row → Type 0

@@ -54,6 +54,6 @@ abbrev pub up_to_most : ℕ → ℕ
 up_to_most n = min n (2 ^ 64 - 1)
 
 -- the sum of their counts; or the rows aren't such heads
-abbrev pub TellHeadsByKey : Database → List Entry → Option ℕ → Type 0
-TellHeadsByKey db es (Some total) = (hs : List HeadRow) × AreHeadsByKey db es hs × (total ≡ up_to_most (sum_of_counts hs))
-TellHeadsByKey db es None = (hs : List HeadRow) → ¬ AreHeadsByKey db es hs
+abbrev pub DecidesHeadsByKey : Database → List Entry → Option ℕ → Type 0
+DecidesHeadsByKey db es (Some total) = (hs : List HeadRow) × AreHeadsByKey db es hs × (total ≡ up_to_most (sum_of_counts hs))
+DecidesHeadsByKey db es None = (hs : List HeadRow) → ¬ AreHeadsByKey db es hs

@@ -1,4 +1,4 @@
--- Notes beside the versions that they tell of.
+-- Notes beside the versions that they are about.
 use Rattle.std.specs.Prelude.{◌≡◌, [], ◌∷◌, Option, None, Some}
 use Rattle.std.specs.declared.cmp.Ordering.TheVariants.{Less}
 use Rattle.sqlite_value.specs.declared.value.Value.TheVariants.{Text, Blob}

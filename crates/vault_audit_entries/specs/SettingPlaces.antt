@@ -8,7 +8,7 @@ use Rattle.vault_audit_model.specs.Limits.{IsSettingRow}
 use Rattle.vault_audit_model.specs.Relations.{AreEntries}
 use Rattle.vault_audit_model.specs.Rows.{setting_row, setting_columns}
 use Rattle.vault_audit_model.specs.Tables.{settings_tree}
-use Rattle.vault_audit_walk.specs.Beside.{Tell}
+use Rattle.vault_audit_walk.specs.Beside.{Decides}
 use Rattle.vault_audit_walk.specs.Pass.{AllFit}
 use Rattle.vault_audit_entries.specs.declared.settings.placed.SettingPass.{SettingPass}
 
@@ -31,9 +31,9 @@ abbrev pub AreRowsOf : Database → List SettingRow → Type 0
 AreRowsOf db xs = IsPermutation (map setting_row xs) (map setting_columns (db.trees settings_tree))
 
 -- whether the settings of each id stand at the places 1, 2, 3 and so on
-abbrev pub TellPlaces : Database → Bool → Type 0
-TellPlaces db true = (xs : List SettingRow) × AreRowsOf db xs × AllFit setting_row ComesNext with_setting no_setting xs
-TellPlaces db false = (xs : List SettingRow) → AreRowsOf db xs → ¬ AllFit setting_row ComesNext with_setting no_setting xs
+abbrev pub DecidesPlaces : Database → Bool → Type 0
+DecidesPlaces db true = (xs : List SettingRow) × AreRowsOf db xs × AllFit setting_row ComesNext with_setting no_setting xs
+DecidesPlaces db false = (xs : List SettingRow) → AreRowsOf db xs → ¬ AllFit setting_row ComesNext with_setting no_setting xs
 
 -- some setting is of the entry, unless it is a marker
 abbrev pub IsSetAs : List SettingRow → Entry → Type 0
@@ -44,8 +44,8 @@ abbrev pub IsOfOne : List Entry → SettingRow → Type 0
 IsOfOne es x = list_any (λ e. e.id == x.id) es ≡ true
 
 -- whether each version has a setting and no marker has one
-abbrev pub TellPresence : Database → Bool → Type 0
-TellPresence db b = (es : List Entry) → AreEntries db es → (xs : List SettingRow) → AreRowsOf db xs → Tell b (AllByRecursion (IsSetAs xs) es)
+abbrev pub DecidesPresence : Database → Bool → Type 0
+DecidesPresence db b = (es : List Entry) → AreEntries db es → (xs : List SettingRow) → AreRowsOf db xs → Decides b (AllByRecursion (IsSetAs xs) es)
 
 -- each setting has an entry
 abbrev pub HaveOwners : Database → Type 0

@@ -22,7 +22,7 @@ use vault_audit_walk::walk::{Pass, walk};
 pub struct HeldCount {
     /// How many rows had a held entry.
     pub entries: u64,
-    /// How many of these told a version.
+    /// How many of these stated a version.
     pub versions: u64,
 }
 

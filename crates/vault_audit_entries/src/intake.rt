@@ -1,4 +1,4 @@
-//! The second look at `intake`: each note tells of a version of its bucket, key, size and digest, and no
+//! The second look at `intake`: each note is about a version of its bucket, key, size and digest, and no
 //! line of a batch has two.
 
 ghost use Rattle.std.specs.Prelude.{◌≡◌, ◌≢◌, ◌↔◌, false, List, Option, IsTrue, IfOk, IfErr};
@@ -7,11 +7,11 @@ ghost use Rattle.sqlite_value.specs.Order.{column};
 ghost use Rattle.sqlite.specs.State.{HasCleanDisk};
 ghost use Rattle.sqlite.specs.Held.{state};
 ghost use Rattle.vault_core_model.specs.declared.records.Entry.{Entry};
-ghost use Rattle.vault_core_model.specs.declared.records.Note.{Note as Told};
+ghost use Rattle.vault_core_model.specs.declared.records.Note.{Note as Reported};
 ghost use Rattle.vault_core_model.specs.Order.{note_cmp};
 ghost use Rattle.vault_core_model.specs.Vault.{Vault};
 ghost use Rattle.vault_audit_model.specs.Limits.{IsNote};
-ghost use Rattle.vault_audit_model.specs.Relations.{AreEntries, TellNotes};
+ghost use Rattle.vault_audit_model.specs.Relations.{AreEntries, DecidesNotes};
 ghost use Rattle.vault_audit_model.specs.Rows.{retention_mode, retention_until};
 ghost use Rattle.vault_audit_model.specs.Spells.{AreSoundAs};
 ghost use Rattle.vault_audit_model.specs.Values.{number as value, flag_or_null as hold_value};
@@ -38,14 +38,14 @@ pub struct NotePass {
     pub last: Option<Note>,
 }
 
-/// The note that the first ten columns tell.
+/// The note that the first ten columns state.
 fn note_in(row: &Row) -> Result<Note, Misread>
     ensures names { IfOk result (λ n. (column row.now 0 ≡ Text n.bucket) × (column row.now 1 ≡ Text n.batch) × (column row.now 2 ≡ value n.line) × (column row.now 3 ≡ Text n.key)) }
     ensures extent { IfOk result (λ n. (column row.now 4 ≡ value n.size) × (column row.now 5 ≡ Blob n.digest)) }
     ensures lock { IfOk result (λ n. (column row.now 6 ≡ retention_mode n.retention) × (column row.now 7 ≡ retention_until n.retention) × (column row.now 8 ≡ hold_value n.hold)) }
     ensures id { IfOk result (λ n. column row.now 9 ≡ value n.id) }
     ensures fits { IfOk result IsNote }
-    ensures wrong { IfErr result (λ e. e ≡ Misread.Wrong → (n : Told) → IsNote n → row.now ≢ noted_row n) }
+    ensures wrong { IfErr result (λ e. e ≡ Misread.Wrong → (n : Reported) → IsNote n → row.now ≢ noted_row n) }
 {
     let line = number_within(row, 2, 1, u32::MAX).ok_or(Misread::Wrong)?;
     let size = number_within(row, 4, 0, MOST_CONTENT as u32).ok_or(Misread::Wrong)?;
@@ -73,7 +73,7 @@ fn note_in(row: &Row) -> Result<Note, Misread>
 fn read_noted(row: &Row) -> Result<Note, Misread>
     ensures row { IfOk result (λ n. row.now ≡ noted_row n) }
     ensures fits { IfOk result IsNote }
-    ensures wrong { IfErr result (λ e. e ≡ Misread.Wrong → (n : Told) → IsNote n → row.now ≢ noted_row n) }
+    ensures wrong { IfErr result (λ e. e ≡ Misread.Wrong → (n : Reported) → IsNote n → row.now ≢ noted_row n) }
 {
     if row.column_count() != 14 {
         return Err(Misread::Wrong);
@@ -150,7 +150,7 @@ impl Pass for NotePass {
 /// two are of one line of a batch. It is meant for entries whose ids are 1, 2, 3 and so on.
 pub fn check_notes<S: Alter>(conn: &mut Connection<S>, edition: Edition) -> Result<bool, Error>
     requires { IsOfEdition S.Store conn.old edition }
-    ensures reported { HasCleanDisk (state S.Store conn.new) → IfOk result (λ found. (es : List Entry) → AreEntries (state S.Store conn.new).now es → TellNotes (state S.Store conn.new).now es found) }
+    ensures reported { HasCleanDisk (state S.Store conn.new) → IfOk result (λ found. (es : List Entry) → AreEntries (state S.Store conn.new).now es → DecidesNotes (state S.Store conn.new).now es found) }
     ensures damaged { HasCleanDisk (state S.Store conn.new) → IfOk result (λ found. found ≡ false → (v : Vault) → ¬ AreSoundAs edition (state S.Store conn.new).now v) }
     ensures look { OnlyLooks S.Store conn.old conn.new result }
     ensures err { IsHealthy (state S.Store conn.new) → IfErr result IsMemory }

@@ -68,7 +68,7 @@ module _ (P Q : History → Type 0) where
   all_third has (c ∷ cs) (s ∷ ss) (t ∷ ts) e f all =
       (has c s t (heads_same _ _ _ _ e) (heads_same _ _ _ _ f) all.0, all_third has cs ss ts (tails_same _ _ _ _ e) (tails_same _ _ _ _ f) all.1)
 
--- what one list tells of each history, the whole tells
+-- what one list says of each history, the whole says
 module _ {A : Type 0} (of : History → List A) where
   rows_second : ((c s t : History) → c.entry ≡ s.entry → c.entry ≡ t.entry → of (put_together c s t) ≡ of s) → (cs ss ts : List History) → entries_in cs ≡ entries_in ss → entries_in cs ≡ entries_in ts → flat_map of (joined cs ss ts) ≡ flat_map of ss
   rows_second same [] [] ts e f = refl
@@ -95,7 +95,7 @@ module _ (cs ss ts : List History) (e : entries_in cs ≡ entries_in ss) (f : en
   pub joined_tenures : flat_map tenures_in (joined cs ss ts) ≡ flat_map tenures_in ts
   joined_tenures = rows_third tenures_in tenures_same cs ss ts e f
 
-  -- what a department has is told by the tenures
+  -- what a department has is stated by the tenures
   pub joined_items : (dept : List ℕ) → items_in dept (joined cs ss ts) ≡ items_in dept ts
   joined_items dept = rows_third (λ (h : History). items_by dept (shares_of h)) (items_same dept) cs ss ts e f
 

@@ -27,7 +27,7 @@ use Rattle.vault_audit_model.specs.declared.rows.MetaRow.{MetaRow}
 use Rattle.vault_audit_model.specs.Limits.{IsInLimits, IsHistory, IsEntry, IsSizedAs, IsBucket, AreRules, IsNote}
 use Rattle.vault_audit_model.specs.Relations.{AreNumbered, IsPast, HasContent, HasContentAs, HasSettings, HasSettingsAs, NamesOneOf}
 use Rattle.vault_audit_model.specs.Rows.{meta_row, meta_columns_as, entry_row, entry_columns, content_row, content_columns, setting_row, setting_columns}
-use Rattle.vault_audit_model.specs.Spells.{SpellsAs, meta_told, entries_in, tenure_rows_in}
+use Rattle.vault_audit_model.specs.Spells.{SpellsAs, meta_stated, entries_in, tenure_rows_in}
 use Rattle.vault_audit_model.specs.Tables.{meta_tree, entries_tree, contents_tree, settings_tree}
 use Rattle.vault_audit_model.proofs.ListLemmas.{all_as, all_both}
 use Rattle.vault_audit_laws.specs.Parts.{AreParts, joined, vault_of}
@@ -180,7 +180,7 @@ module _ (ed : Edition) (db : Database) (m : MetaRow) (departments : List (List 
     histories = all_as limited hs each;
   }
 
-  meta_same : meta_row m ≡ meta_row (meta_told ed v)
+  meta_same : meta_row m ≡ meta_row (meta_stated ed v)
   meta_same =
       ap (λ n. meta_row (record { schema = m.schema; last = m.last; next = n; moves = m.moves })) (are.meta.2 ∙ ap (λ n. n + 1) (sym many))
       ∙ ap (λ n. meta_row (record { schema = n; last = m.last; next = next_id v; moves = m.moves })) are.meta.3

@@ -69,7 +69,7 @@ placed_by : (buckets : List Bucket) (name : List ℕ) (row : Row) (b : Bucket) �
 placed_by buckets name row b there is same =
     found_in buckets name b there ((bytes_eq-Decides b.name name).1 (sym (text_same name b.name (is ∙ ap (λ r. column r 0) same))))
 
--- ---- tenures that tables without them tell
+-- ---- tenures that tables without them state
 
 owned_config : (departments : List (List ℕ)) (buckets : List Bucket) (name : List ℕ) → AllByRecursion (λ (b : Bucket). IsTrue (is_among departments b.config.dept)) buckets
     → IfSome (config_in buckets name) (λ (c : BucketConfig). IsTrue (is_among departments c.dept))
@@ -97,17 +97,17 @@ unmoved_owned departments v unmoved owned =
 module _ (n : Edition) (db : Database) (tied : AreTied n db) where
   pub callers_employed : (departments : List (List ℕ)) (callers : List Caller) → IsPermutation (map (λ d. Text d) departments) (map (λ r. column r 1) (db.trees departments_tree))
       → IsPermutation (map caller_row callers) (map caller_columns (db.trees callers_tree)) → AllByRecursion (λ (c : Caller). IsTrue (passes_if_given (is_among departments) c.dept)) callers
-  callers_employed departments callers told are =
+  callers_employed departments callers stated are =
       all_from (λ (c : Caller). IsTrue (passes_if_given (is_among departments) c.dept)) callers (λ c there.
-      among_if_given departments (map (λ r. column r 1) (db.trees departments_tree)) c.dept told
+      among_if_given departments (map (λ r. column r 1) (db.trees departments_tree)) c.dept stated
       (all_has (λ v. (v ≡ Null) ⊎ Has (map (λ r. column r 1) (db.trees departments_tree)) v) (map (λ r. column r 2) (db.trees callers_tree)) (text_or_null c.dept) tied.departments_of_callers
       (in_column caller_row caller_columns 1 callers (db.trees callers_tree) are 2 (λ r. refl) c there)))
 
   pub buckets_owned : (departments : List (List ℕ)) (buckets : List Bucket) → IsPermutation (map (λ d. Text d) departments) (map (λ r. column r 1) (db.trees departments_tree))
       → IsPermutation (map (λ b. bucket_row (bucket_of b)) buckets) (map bucket_columns (db.trees buckets_tree)) → AllByRecursion (λ (b : Bucket). IsTrue (is_among departments b.config.dept)) buckets
-  buckets_owned departments buckets told are =
+  buckets_owned departments buckets stated are =
       all_from (λ (b : Bucket). IsTrue (is_among departments b.config.dept)) buckets (λ b there.
-      among departments (map (λ r. column r 1) (db.trees departments_tree)) b.config.dept told
+      among departments (map (λ r. column r 1) (db.trees departments_tree)) b.config.dept stated
       (all_has (λ v. (v ≡ Null) ⊎ Has (map (λ r. column r 1) (db.trees departments_tree)) v) (map (λ r. column r 2) (db.trees buckets_tree)) (Text b.config.dept) tied.departments_of_buckets
       (in_column (λ x. bucket_row (bucket_of x)) bucket_columns 1 buckets (db.trees buckets_tree) are 2 (λ r. refl) b there)))
 
@@ -122,22 +122,22 @@ module _ (n : Edition) (db : Database) (tied : AreTied n db) where
       let found = has_mapped (λ b. bucket_row (bucket_of b)) buckets (bucket_columns row.0) (permuted_within (map (λ b. bucket_row (bucket_of b)) buckets) (map bucket_columns (db.trees buckets_tree)) held (bucket_columns row.0) (mapped_has bucket_columns (db.trees buckets_tree) row.0 row.1)) in
       placed_by buckets e.bucket row.0 found.0 found.1 row.2 found.2)
 
--- the rows of tenures tell their departments
-told_owned : (db : Database) → AreTied Third db → (departments : List (List ℕ)) (v : Vault) → IsPermutation (map (λ d. Text d) departments) (map (λ r. column r 1) (db.trees departments_tree))
+-- the rows of tenures state their departments
+stated_owned : (db : Database) → AreTied Third db → (departments : List (List ℕ)) (v : Vault) → IsPermutation (map (λ d. Text d) departments) (map (λ r. column r 1) (db.trees departments_tree))
     → IsPermutation (tenure_rows_of Third v) (tenure_rows_in Third db) → AllByRecursion (λ (h : History). AllByRecursion (λ (t : Tenure). IsTrue (is_among departments t.dept)) h.tenures) v.histories
-told_owned db tied departments v told are =
+stated_owned db tied departments v stated are =
     all_from (λ (h : History). AllByRecursion (λ (t : Tenure). IsTrue (is_among departments t.dept)) h.tenures) v.histories (λ h there.
     all_from (λ (t : Tenure). IsTrue (is_among departments t.dept)) h.tenures (λ t its.
     let names = map (λ r. column r 1) (db.trees departments_tree) in
     let row = tenure_row (tenure_at h.entry.id t) in
     let one = mapped_has tenure_row (flat_map tenures_in v.histories) (tenure_at h.entry.id t) (part_has tenures_in (tenure_at h.entry.id t) h v.histories there (mapped_has (tenure_at h.entry.id) h.tenures t its)) in
     let stored = permuted_within (tenure_rows_in Third db) (tenure_rows_of Third v) (IsPermutation-sym (tenure_rows_of Third v) (tenure_rows_in Third db) are) row one in
-    among departments names t.dept told
+    among departments names t.dept stated
     (all_has (λ x. (x ≡ Null) ⊎ Has names x) (map (λ r. column r 2) (tenure_rows_in Third db)) (Text t.dept) tied.departments_of_tenures (mapped_has (λ r. column r 2) (tenure_rows_in Third db) row stored))))
 
 pub tenures_owned : (n : Edition) (db : Database) → AreTied n db → (departments : List (List ℕ)) (v : Vault) → IsPermutation (map (λ d. Text d) departments) (map (λ r. column r 1) (db.trees departments_tree))
     → IsPermutation (tenure_rows_of n v) (tenure_rows_in n db) → IsUnmovedIn n v → AllByRecursion (λ (b : Bucket). IsTrue (is_among departments b.config.dept)) v.buckets
     → AllByRecursion (λ (h : History). AllByRecursion (λ (t : Tenure). IsTrue (is_among departments t.dept)) h.tenures) v.histories
-tenures_owned First db tied departments v told are unmoved owned = unmoved_owned departments v unmoved owned
-tenures_owned Second db tied departments v told are unmoved owned = unmoved_owned departments v unmoved owned
-tenures_owned Third db tied departments v told are unmoved owned = told_owned db tied departments v told are
+tenures_owned First db tied departments v stated are unmoved owned = unmoved_owned departments v unmoved owned
+tenures_owned Second db tied departments v stated are unmoved owned = unmoved_owned departments v unmoved owned
+tenures_owned Third db tied departments v stated are unmoved owned = stated_owned db tied departments v stated are

@@ -31,7 +31,7 @@ use Rattle.vault_audit_model.specs.declared.schema.Edition.{Edition}
 use Rattle.vault_audit_model.specs.declared.schema.Edition.TheVariants.{First, Second, Third}
 use Rattle.vault_audit_model.specs.Editions.{newest}
 use Rattle.vault_audit_model.specs.Rows.{meta_row, caller_row, bucket_row, rule_row, entry_row, content_row, setting_row, note_row, tenure_row, meta_columns_as, caller_columns, bucket_columns, rule_columns_as, entry_columns, content_columns, setting_columns, note_columns, tenure_columns}
-use Rattle.vault_audit_model.specs.Spells.{SpellsAs, meta_told, bucket_of, rules_from, rules_if_given, rules_in, content_if_given, contents_in, settings_from, settings_in, tenure_at, tenures_in}
+use Rattle.vault_audit_model.specs.Spells.{SpellsAs, meta_stated, bucket_of, rules_from, rules_if_given, rules_in, content_if_given, contents_in, settings_from, settings_in, tenure_at, tenures_in}
 use Rattle.vault_audit_model.specs.Tables.{meta_tree, departments_tree, callers_tree, buckets_tree, rules_tree, entries_tree, contents_tree, settings_tree, intake_tree, tenures_tree}
 use Rattle.vault_audit_model.specs.Tenures.{HasFirstTenures, IsUnmoved, first_tenures_in}
 use Rattle.vault_audit_model.proofs.SameRows.{text_same, same_meta, same_caller, same_bucket, same_rule, same_entry, same_content, same_setting, same_note, same_tenure}
@@ -56,7 +56,7 @@ same_rules bucket place rs ss there back =
     (ascending_numbered by place (rules_from bucket place rs) (rules_numbered bucket place rs)) (ascending_numbered by place (rules_from bucket place ss) (rules_numbered bucket place ss)) there back in
     sym (rules_back bucket place rs) ∙ ap (map (λ (r : RuleRow). r.rule)) same ∙ rules_back bucket place ss
 
--- rules that may be given are not empty, so none are told from some
+-- rules that may be given are not empty, so none are distinguished from some
 no_rules_apart : (bucket : List ℕ) (rules : List Rule) → IsTrue (is_rule_set rules) → IsWithin (rules_from bucket 1 rules) [] → ⊥
 no_rules_apart bucket [] is none = absurd (cc is)
 no_rules_apart bucket (r ∷ rs) is none = none (record { bucket = bucket; place = 1; rule = r }) (inl refl)
@@ -247,9 +247,9 @@ module _ (n : Edition) (db : Database) where
       ∙ ap (first_tenures_in w.buckets) same ∙ sym (all_has (HasFirstTenures w.buckets) w.histories h calm.tenures in_w)
 
   -- else they are those of the rows, which rise
-  same_told_tenures : (v w : Vault) → SpellsAs n db v → SpellsAs n db w → IsWithin (flat_map tenures_in v.histories) (flat_map tenures_in w.histories) → IsWithin (flat_map tenures_in w.histories) (flat_map tenures_in v.histories)
+  same_stated_tenures : (v w : Vault) → SpellsAs n db v → SpellsAs n db w → IsWithin (flat_map tenures_in v.histories) (flat_map tenures_in w.histories) → IsWithin (flat_map tenures_in w.histories) (flat_map tenures_in v.histories)
       → (g h : History) → Has v.histories g → Has w.histories h → g.entry ≡ h.entry → g.tenures ≡ h.tenures
-  same_told_tenures v w it is within without g h in_v in_w same =
+  same_stated_tenures v w it is within without g h in_v in_w same =
       let id : g.entry.id ≡ h.entry.id = ap (λ e. e.id) same in
       let own = λ (x : History) (t : TenureRow) (there : Has (tenures_in x) t). tenure_of_id x.entry.id x.tenures t there in
       let there = same_parts id_of (λ (t : TenureRow). t.id) tenures_in own v.histories w.histories (one_history w.histories (ordered_ids w is)) within g h in_v in_w id in
@@ -265,7 +265,7 @@ tenures_within db v w it is = within_by_rows tenure_row same_tenure (flat_map te
 same_tenures : (n : Edition) (db : Database) (v w : Vault) → SpellsAs n db v → SpellsAs n db w → (g h : History) → Has v.histories g → Has w.histories h → g.entry ≡ h.entry → g.tenures ≡ h.tenures
 same_tenures First db v w it is = same_first_tenures First db v w it is it.kept.unmoved is.kept.unmoved
 same_tenures Second db v w it is = same_first_tenures Second db v w it is it.kept.unmoved is.kept.unmoved
-same_tenures Third db v w it is = same_told_tenures Third db v w it is (tenures_within db v w it is) (tenures_within db w v is it)
+same_tenures Third db v w it is = same_stated_tenures Third db v w it is (tenures_within db v w it is) (tenures_within db w v is it)
 
 module _ (n : Edition) (db : Database) where
   same_history_there : (v w : Vault) → SpellsAs n db v → SpellsAs n db w → (g h : History) → Has v.histories g → Has w.histories h → g.entry ≡ h.entry → g ≡ h
@@ -284,9 +284,9 @@ module _ (n : Edition) (db : Database) where
       let found = matched (λ h. entry_row h.entry) v.histories w.histories (map entry_columns (db.trees entries_tree)) it.entries is.entries g in_v in
       subst (λ h. Has w.histories h) (sym (same_history_there v w it is g found.0 in_v found.1 (same_entry g.entry found.0.entry found.2))) found.1
 
-  same_told : (v w : Vault) → SpellsAs n db v → SpellsAs n db w → meta_told n v ≡ meta_told n w
-  same_told v w it is =
-      elim (within_by_rows meta_row same_meta (meta_told n v ∷ []) (meta_told n w ∷ []) (map (meta_columns_as n) (db.trees meta_tree)) it.meta is.meta (meta_told n v) (inl refl)) [
+  same_stated : (v w : Vault) → SpellsAs n db v → SpellsAs n db w → meta_stated n v ≡ meta_stated n w
+  same_stated v w it is =
+      elim (within_by_rows meta_row same_meta (meta_stated n v ∷ []) (meta_stated n w ∷ []) (map (meta_columns_as n) (db.trees meta_tree)) it.meta is.meta (meta_stated n v) (inl refl)) [
         | inl e ↦ e
         | inr none ↦ absurd none
       ]
@@ -297,15 +297,15 @@ pub same_vault_as : (n : Edition) (db : Database) (v w : Vault) → SpellsAs n d
 same_vault_as n db v w it is =
     let first = it.kept.sound.ordered in
     let second = is.kept.sound.ordered in
-    let told = same_told n db v w it is in
+    let stated = same_stated n db v w it is in
     alike_vaults v.last w.last v.departments w.departments v.callers w.callers v.buckets w.buckets v.notes w.notes v.histories w.histories v.moves w.moves
-    (ap (λ (m : MetaRow). m.last) told)
+    (ap (λ (m : MetaRow). m.last) stated)
     (same_ascending name_cmp nat_list_cmp_total v.departments w.departments first.departments second.departments (departments_within n db v w it is) (departments_within n db w v is it))
     (same_ascending caller_cmp callers_total v.callers w.callers first.callers second.callers (callers_within n db v w it is) (callers_within n db w v is it))
     (same_buckets n db v w it is)
     (same_ascending note_cmp notes_total v.notes w.notes first.notes second.notes (notes_within n db v w it is) (notes_within n db w v is it))
     (same_ascending (on id_of nat_cmp) (by_number_total id_of) v.histories w.histories (ordered_ids n db v it) (ordered_ids n db w is) (histories_within n db v w it is) (histories_within n db w v is it))
-    (ap (λ (m : MetaRow). m.moves) told)
+    (ap (λ (m : MetaRow). m.moves) stated)
 
 pub same_vault : (db : Database) (v w : Vault) → SpellsAs newest db v → SpellsAs newest db w → v ≡ w
 same_vault db v w it is = same_vault_as newest db v w it is

@@ -1,4 +1,4 @@
--- What the tables tell, each by itself, and the vault that this makes.
+-- What the tables say, each by itself, and the vault that this makes.
 use Rattle.std.specs.Prelude.{◌≡◌, ℕ, ◌+◌, List, [], ◌∷◌, length, map, IsSome, IsTrue, IsPermutation}
 use Rattle.std.specs.List.{AllByRecursion, list_any}
 use Rattle.std.specs.Str.{bytes_eq}
@@ -52,7 +52,7 @@ joined (c ∷ cs) [] ts = []
 joined (c ∷ cs) (s ∷ ss) [] = []
 joined (c ∷ cs) (s ∷ ss) (t ∷ ts) = put_together c s t ∷ joined cs ss ts
 
--- these histories in these buckets, at the moment and with the moves that meta tells
+-- these histories in these buckets, at the moment and with the moves that meta states
 abbrev pub versions_at : MetaRow → List Bucket → List History → Vault
 versions_at m buckets hs =
     record { last = m.last; departments = []; callers = []; buckets = buckets; notes = []; histories = hs; moves = m.moves }
@@ -73,7 +73,7 @@ vault_of m departments callers buckets notes contents settings tenures = record 
 abbrev pub IsTenuredAmong : List (List ℕ) → History → Type 0
 IsTenuredAmong ds h = AllByRecursion (λ t. IsAmong ds t.dept) h.tenures
 
--- what each table tells by itself, and what ties them to each other
+-- what each table says by itself, and what ties them to each other
 pub record AreParts (ed : Edition) (db : Database) (m : MetaRow) (departments : List (List ℕ)) (callers : List Caller) (buckets : List Bucket) (notes : List Note) (entries : List Entry) (contents settings tenures : List History) : Type 0 where
   pub schema : db.schema ≡ schema_of ed
   pub meta : IsMeta ed db entries m

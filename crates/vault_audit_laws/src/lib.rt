@@ -33,7 +33,7 @@ pub fn live_tables_are_tied()
 {}
 
 /// Where it does, the records that the rows hold have what they name: a caller the department, if it has
-/// one, a bucket its department, and an entry its bucket; a tenure its department, where the buckets that tell it
+/// one, a bucket its department, and an entry its bucket; a tenure its department, where the buckets that state it
 /// without a row have theirs.
 pub fn tied_records_have_what_they_name()
     ensures employed { (n : Edition) (db : Database) (departments : List (List ℕ)) (callers : List Caller) → AreTied n db →

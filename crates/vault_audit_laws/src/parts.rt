@@ -1,4 +1,4 @@
-//! The vault that the rows of the tables spell, put together from what each table tells by itself.
+//! The vault that the rows of the tables spell, put together from what each table says by itself.
 //! Its one law is the contract of a public function that does nothing.
 
 ghost use Rattle.std.specs.Prelude.{ℕ, List};

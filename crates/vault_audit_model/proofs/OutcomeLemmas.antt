@@ -1,4 +1,4 @@
--- What is told by how a statement, or a part of it, came out.
+-- What follows from how a statement, or a part of it, came out.
 use Rattle.std.proofs.Common.{◌≡◌, ◌⊎◌, inl, inr, ℕ, List, Ok, Err, Result, OnOk, OnErr}
 use Rattle.sqlite_value.specs.Order.{Row}
 use Rattle.sqlite.specs.declared.error.Error.{Error}

@@ -1,4 +1,4 @@
--- What the rows of the tables are to each other, told of one table at a time.
+-- What the rows of the tables are to each other, said of one table at a time.
 use Rattle.std.specs.Prelude.{◌≡◌, ℕ, ◌+◌, ◌≤◌, Bool, true, false, ◌==◌, List, [], ◌∷◌, length, map, find, flat_map, sum_by, Option, None, IfSome, IsPermutation}
 use Rattle.std.specs.List.{AllByRecursion}
 use Rattle.std.specs.declared.cmp.Ordering.TheVariants.{Less}
@@ -67,9 +67,9 @@ AreContents db es hs =
     × AllByRecursion HasContent hs
 
 -- whether there are such histories
-abbrev pub TellContents : Database → List Entry → Bool → Type 0
-TellContents db es true = (hs : List History) × AreContents db es hs
-TellContents db es false = (hs : List History) → ¬ AreContents db es hs
+abbrev pub DecidesContents : Database → List Entry → Bool → Type 0
+DecidesContents db es true = (hs : List History) × AreContents db es hs
+DecidesContents db es false = (hs : List History) → ¬ AreContents db es hs
 
 -- ---- settings
 
@@ -87,13 +87,13 @@ AreSettings db es hs =
     (map (λ h. h.entry) hs ≡ es) × IsPermutation (map setting_row (flat_map settings_in hs)) (map setting_columns (db.trees settings_tree))
     × AllByRecursion HasSettings hs
 
-abbrev pub TellSettings : Database → List Entry → Bool → Type 0
-TellSettings db es true = (hs : List History) × AreSettings db es hs
-TellSettings db es false = (hs : List History) → ¬ AreSettings db es hs
+abbrev pub DecidesSettings : Database → List Entry → Bool → Type 0
+DecidesSettings db es true = (hs : List History) × AreSettings db es hs
+DecidesSettings db es false = (hs : List History) → ¬ AreSettings db es hs
 
 -- ---- intake
 
--- the note names the version among these entries that it tells of
+-- the note names the version among these entries that it is about
 abbrev pub NamesOneOf : List Entry → Note → Type 0
 NamesOneOf es n = IsNoted n (find (λ e. e.id == n.id) es)
 
@@ -103,9 +103,9 @@ AreNotes db es ns =
     IsPermutation (map note_row ns) (map note_columns (db.trees intake_tree)) × IsAscending note_cmp ns × AllByRecursion IsNote ns
     × AllByRecursion (NamesOneOf es) ns
 
-abbrev pub TellNotes : Database → List Entry → Bool → Type 0
-TellNotes db es true = (ns : List Note) × AreNotes db es ns
-TellNotes db es false = (ns : List Note) → ¬ AreNotes db es ns
+abbrev pub DecidesNotes : Database → List Entry → Bool → Type 0
+DecidesNotes db es true = (ns : List Note) × AreNotes db es ns
+DecidesNotes db es false = (ns : List Note) → ¬ AreNotes db es ns
 
 -- ---- tenures
 
@@ -132,9 +132,9 @@ abbrev pub AreTenuresWith : Edition → Database → Vault → List History → 
 AreTenuresWith n db v hs = (entries_in hs ≡ entries_in v.histories) × AreTenuresOf n db (record v { histories = hs })
 
 -- whether there are such histories
-abbrev pub TellTenures : Edition → Database → Vault → Bool → Type 0
-TellTenures n db v true = (hs : List History) × AreTenuresWith n db v hs
-TellTenures n db v false = (hs : List History) → ¬ AreTenuresWith n db v hs
+abbrev pub DecidesTenures : Edition → Database → Vault → Bool → Type 0
+DecidesTenures n db v true = (hs : List History) × AreTenuresWith n db v hs
+DecidesTenures n db v false = (hs : List History) → ¬ AreTenuresWith n db v hs
 
 -- ---- buckets and rules
 
@@ -145,9 +145,9 @@ AreBuckets n db bs =
     × IsPermutation (map rule_row (flat_map rules_in bs)) (map (rule_columns_as n) (db.trees rules_tree)) × IsAscending bucket_cmp bs
     × AllByRecursion IsBucket bs
 
-abbrev pub TellBuckets : Edition → Database → Bool → Type 0
-TellBuckets n db true = (bs : List Bucket) × AreBuckets n db bs
-TellBuckets n db false = (bs : List Bucket) → ¬ AreBuckets n db bs
+abbrev pub DecidesBuckets : Edition → Database → Bool → Type 0
+DecidesBuckets n db true = (bs : List Bucket) × AreBuckets n db bs
+DecidesBuckets n db false = (bs : List Bucket) → ¬ AreBuckets n db bs
 
 -- ---- running numbers
 
@@ -169,14 +169,14 @@ AreSums n db hs ds =
     IsPermutation (map (λ d. department_row (department_with hs d)) ds) (map (department_columns_as n) (db.trees departments_tree))
     × AllByRecursion IsPlainName ds × AllByRecursion (IsWithin hs) ds
 
-abbrev pub TellSums : Edition → Database → List History → Bool → Type 0
-TellSums n db hs true = (ds : List (List ℕ)) × AreSums n db hs ds
-TellSums n db hs false = (ds : List (List ℕ)) → ¬ AreSums n db hs ds
+abbrev pub DecidesSums : Edition → Database → List History → Bool → Type 0
+DecidesSums n db hs true = (ds : List (List ℕ)) × AreSums n db hs ds
+DecidesSums n db hs false = (ds : List (List ℕ)) → ¬ AreSums n db hs ds
 
 -- the rows of heads are those of the vault's keys
 abbrev pub AreHeads : Database → Vault → Type 0
 AreHeads db v = IsPermutation (map head_row (heads_in v)) (map head_columns (db.trees heads_tree))
 
-abbrev pub TellHeads : Database → Vault → Bool → Type 0
-TellHeads db v true = AreHeads db v
-TellHeads db v false = ¬ AreHeads db v
+abbrev pub DecidesHeads : Database → Vault → Bool → Type 0
+DecidesHeads db v true = AreHeads db v
+DecidesHeads db v false = ¬ AreHeads db v

@@ -115,7 +115,7 @@ noncurrent_newer noncurrent = number_or_null (option_and_then (λ n. n.newer) no
 
 -- ---- rows
 
--- the first number tells the one row apart, the second is that of the schema
+-- the first number distinguishes the one row, the second is that of the schema
 abbrev pub meta_row : MetaRow → Row
 meta_row m = number 1 ∷ number m.schema ∷ number m.last ∷ number m.next ∷ number m.moves ∷ []
 

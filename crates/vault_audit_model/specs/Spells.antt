@@ -33,11 +33,11 @@ use Rattle.vault_audit_model.specs.Tenures.{IsUnmovedIn}
 
 -- ---- the rows of a vault
 
-abbrev pub meta_told : Edition → Vault → MetaRow
-meta_told n v = record { schema = number_of n; last = v.last; next = next_id v; moves = v.moves }
+abbrev pub meta_stated : Edition → Vault → MetaRow
+meta_stated n v = record { schema = number_of n; last = v.last; next = next_id v; moves = v.moves }
 
 abbrev pub meta_of : Vault → MetaRow
-meta_of = meta_told newest
+meta_of = meta_stated newest
 
 -- a bucket without its rules
 abbrev pub bucket_of : Bucket → BucketRow
@@ -124,7 +124,7 @@ heads_in v = map (head_in v) (filter (is_current v) v.histories)
 
 -- ---- what holds beyond the limits of values
 
--- a vault as tables of that edition may keep it: in its limits, sound, and with no tenures but those that they can tell
+-- a vault as tables of that edition may keep it: in its limits, sound, and with no tenures but those that they can state
 pub record IsKeptAs (n : Edition) (v : Vault) : Type 0 where
   pub limits : IsInLimits v
   pub sound : Sound v
@@ -135,10 +135,10 @@ IsKept = IsKeptAs newest
 
 -- ---- the vault that the rows spell
 
--- The rows of each table of that edition are those of the vault, in any order. The running numbers and the heads tell nothing of a vault.
+-- The rows of each table of that edition are those of the vault, in any order. The running numbers and the heads say nothing of a vault.
 pub record SpellsAs (n : Edition) (db : Database) (v : Vault) : Type 0 where
   pub schema : db.schema ≡ schema_of n
-  pub meta : IsPermutation (meta_row (meta_told n v) ∷ []) (map (meta_columns_as n) (db.trees meta_tree))
+  pub meta : IsPermutation (meta_row (meta_stated n v) ∷ []) (map (meta_columns_as n) (db.trees meta_tree))
   pub departments : IsPermutation (map (λ d. Text d) v.departments) (map (λ r. column r 1) (db.trees departments_tree))
   pub callers : IsPermutation (map caller_row v.callers) (map caller_columns (db.trees callers_tree))
   pub buckets : IsPermutation (map (λ b. bucket_row (bucket_of b)) v.buckets) (map bucket_columns (db.trees buckets_tree))

@@ -51,7 +51,7 @@ table name tree columns key primary uniques orders references = record {
   is_counted = false;
 }
 
--- a table whose first column is a number that tells its rows apart
+-- a table whose first column is a number that distinguishes its rows
 abbrev pub table_by_number : List ℕ → ℕ → List Column → List Reference → Table
 table_by_number name tree columns references = table name tree columns (Some 0) (0 ∷ []) [] [] references
 
@@ -59,7 +59,7 @@ table_by_number name tree columns references = table name tree columns (Some 0) 
 abbrev pub table_by_number_and : List ℕ → List ℕ → ℕ → List Column → List Reference → Table
 table_by_number_and places name tree columns references = table name tree columns (Some 0) (0 ∷ []) (places ∷ []) (plain ∷ []) references
 
--- a table whose rows are told apart by the columns at these places, counted from 1; an index follows its tree
+-- a table whose rows are distinguished by the columns at these places, counted from 1; an index follows its tree
 abbrev pub table_by : List ℕ → List ℕ → ℕ → List Column → List Reference → Table
 table_by key name tree columns references = table name tree columns None key (key ∷ []) (plain ∷ []) references
 

@@ -1,4 +1,4 @@
--- What tables without tenures tell of them: no bucket was moved, so each version has been its bucket's department's since its admission.
+-- What tables without tenures say of them: no bucket was moved, so each version has been its bucket's department's since its admission.
 use Rattle.std.specs.Prelude.{◌≡◌, ℕ, Bool, true, false, List, [], ◌∷◌, Option, Some, None}
 use Rattle.std.specs.List.{AllByRecursion}
 use Rattle.vault_core_model.specs.declared.records.Bucket.{Bucket}
@@ -32,7 +32,7 @@ pub record IsUnmoved (v : Vault) : Type 0 where
   pub moves : v.moves ≡ 0
   pub tenures : AllByRecursion (HasFirstTenures v.buckets) v.histories
 
--- an edition without tenures can tell no other vault; the third can tell any
+-- an edition without tenures can state no other vault; the third can state any
 abbrev pub IsUnmovedIn : Edition → Vault → Type 0
 IsUnmovedIn First v = IsUnmoved v
 IsUnmovedIn Second v = IsUnmoved v

@@ -1,4 +1,4 @@
-//! What a row of a table tells, where the machine has no record of its own for it.
+//! What a row of a table says, where the machine has no record of its own for it.
 
 use vault_base::content::Content;
 use vault_base::moment::Moment;

@@ -22,7 +22,7 @@ use Rattle.vault_audit_model.specs.declared.rows.TenureRow.{TenureRow}
 use Rattle.vault_audit_model.specs.declared.schema.Edition.{Edition}
 use Rattle.vault_audit_model.specs.declared.schema.Edition.TheVariants.{First, Second, Third}
 use Rattle.vault_audit_model.specs.Rows.{department_row, caller_row, bucket_row, rule_row, entry_row, content_row, setting_row, note_row, head_row, tenure_row, department_columns_as, caller_columns, bucket_columns, rule_columns_as, entry_columns, content_columns, setting_columns, note_columns, head_columns}
-use Rattle.vault_audit_model.specs.Spells.{AreSoundAs, meta_told, bucket_of, rules_from, rules_if_given, rules_in, content_if_given, contents_in, settings_from, settings_in, IsKeptAs, tenures_in, tenure_at, tenure_rows_of, tenure_rows_in, department_in, head_in, heads_in}
+use Rattle.vault_audit_model.specs.Spells.{AreSoundAs, meta_stated, bucket_of, rules_from, rules_if_given, rules_in, content_if_given, contents_in, settings_from, settings_in, IsKeptAs, tenures_in, tenure_at, tenure_rows_of, tenure_rows_in, department_in, head_in, heads_in}
 use Rattle.vault_audit_model.specs.Tables.{departments_tree, callers_tree, buckets_tree, rules_tree, entries_tree, contents_tree, settings_tree, intake_tree, heads_tree}
 use Rattle.vault_audit_walk.specs.Records.{AreRecords}
 use Rattle.vault_audit_rows.proofs.ColumnLemmas.{few}
@@ -35,7 +35,7 @@ use Rattle.vault_audit_records.proofs.TenureLemmas.{kept_tenures}
 
 -- ---- the answer of a look
 
-pub refused_if_ok : (Rec : Bool → Type 0) (P : Type 0) → (Rec false → P) → (r : Result Bool Error) → IfOk r Rec → IfOk r (λ told. told ≡ false → P)
+pub refused_if_ok : (Rec : Bool → Type 0) (P : Type 0) → (Rec false → P) → (r : Result Bool Error) → IfOk r Rec → IfOk r (λ stated. stated ≡ false → P)
 refused_if_ok Rec P f (Ok b) h = λ e. f (subst Rec e h)
 refused_if_ok Rec P f (Err x) h = tt
 
@@ -108,11 +108,11 @@ setting_rows h (is, whole) =
 tenure_rows : (h : History) → IsHistory h × AreTenuresInLimits h → AllByRecursion IsTenureRow (tenures_in h)
 tenure_rows h (is, are) = all_mapped IsTenureRow (tenure_at h.entry.id) h.tenures (all_as (λ t its. record { id = is.entry.id; tenure = its }) h.tenures are)
 
--- the rows of tenures tell tenures in their limits, and where an edition has no such rows, none
-told_tenures : (n : Edition) (v : Vault) → IsKeptAs n v → (xs : List TenureRow) × (map tenure_row xs ≡ tenure_rows_of n v) × AllByRecursion IsTenureRow xs
-told_tenures First v kept = ([], refl, tt)
-told_tenures Second v kept = ([], refl, tt)
-told_tenures Third v kept =
+-- the rows of tenures state tenures in their limits, and where an edition has no such rows, none
+stated_tenures : (n : Edition) (v : Vault) → IsKeptAs n v → (xs : List TenureRow) × (map tenure_row xs ≡ tenure_rows_of n v) × AllByRecursion IsTenureRow xs
+stated_tenures First v kept = ([], refl, tt)
+stated_tenures Second v kept = ([], refl, tt)
+stated_tenures Third v kept =
     let all = all_both IsHistory AreTenuresInLimits v.histories kept.limits.histories (kept_tenures Third v kept) in
     (flat_map tenures_in v.histories, refl, all_flat IsTenureRow tenures_in v.histories (all_as tenure_rows v.histories all))
 
@@ -139,7 +139,7 @@ module _ (n : Edition) (db : Database) (v : Vault) where
   wholes it = all_both IsHistory IsWhole v.histories it.spells.kept.limits.histories it.spells.kept.sound.whole
 
   pub no_meta : IsMetaOf n db None → ¬ AreSoundAs n db v
-  no_meta none it = none (meta_told n v) it.spells.meta (record { last = it.spells.kept.limits.last; moves = it.spells.kept.sound.enough_moves }, refl)
+  no_meta none it = none (meta_stated n v) it.spells.meta (record { last = it.spells.kept.limits.last; moves = it.spells.kept.sound.enough_moves }, refl)
 
   pub no_departments : AreRecords department_row IsDepartmentRow (map (department_columns_as n) (db.trees departments_tree)) false → ¬ AreSoundAs n db v
   no_departments none it =
@@ -183,8 +183,8 @@ module _ (n : Edition) (db : Database) (v : Vault) where
 
   pub no_tenures : AreRecords tenure_row IsTenureRow (tenure_rows_in n db) false → ¬ AreSoundAs n db v
   no_tenures none it =
-      let told = told_tenures n v it.spells.kept in
-      none told.0 (subst (λ rows. IsPermutation rows (tenure_rows_in n db)) (sym told.1) it.spells.tenures) told.2
+      let stated = stated_tenures n v it.spells.kept in
+      none stated.0 (subst (λ rows. IsPermutation rows (tenure_rows_in n db)) (sym stated.1) it.spells.tenures) stated.2
 
   numbers_are : AreSoundAs n db v → AreNumbered 1 0 entries_are
   numbers_are it = numbers_of 1 0 v.last v.histories it.spells.kept.sound.ids it.spells.kept.sound.order it.spells.kept.limits.histories

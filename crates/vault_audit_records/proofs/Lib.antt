@@ -5,12 +5,12 @@ pub mod EntryTextLemmas
 pub mod MetaCountLemmas
 pub mod NameRiseLemmas
 pub mod NameRowLemmas
-pub mod NameTellLemmas
+pub mod NameDecisionLemmas
 pub mod NameTextLemmas
 pub mod WholeWalkLemmas
 pub mod RuleGroupLemmas
 pub mod RuleRiseLemmas
 pub mod RuleRowLemmas
-pub mod RuleTellLemmas
+pub mod RuleDecisionLemmas
 pub mod RuleTextLemmas
 pub mod TenureLemmas

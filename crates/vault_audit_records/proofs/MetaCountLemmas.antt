@@ -14,7 +14,7 @@ use Rattle.vault_core_model.specs.declared.records.History.{History}
 use Rattle.vault_core_model.specs.Vault.{Vault}
 use Rattle.vault_audit_model.specs.declared.rows.MetaRow.{MetaRow}
 use Rattle.vault_audit_model.specs.Rows.{meta_row, entry_row, entry_columns}
-use Rattle.vault_audit_model.specs.Spells.{AreSoundAs, meta_told}
+use Rattle.vault_audit_model.specs.Spells.{AreSoundAs, meta_stated}
 use Rattle.vault_audit_model.specs.Tables.{schema_of, entries_tree}
 use Rattle.vault_audit_model.proofs.SameRows.{same_meta}
 use Rattle.vault_audit_walk.specs.Walk.{Goes, Walked}
@@ -22,7 +22,7 @@ use Rattle.vault_audit_walk.proofs.RecordLemmas.{Scans, scanned}
 use Rattle.vault_audit_walk.proofs.ScanLemmas.{shows}
 use Rattle.vault_audit_records.specs.Meta.{IsMetaOf}
 use Rattle.vault_audit_records.specs.declared.meta.second_look.RowCount.{RowCount}
-use Rattle.vault_audit_records.specs.MetaCount.{CountsOne, TellNext}
+use Rattle.vault_audit_records.specs.MetaCount.{CountsOne, DecidesNext}
 use Rattle.vault_audit_walk.specs.Health.{Asks}
 use Rattle.vault_audit_model.specs.declared.schema.Edition.{Edition}
 
@@ -59,8 +59,8 @@ all_counted n old new has same p q false (rows, row, m, begins, goes, never) = a
 pub next_of : (n : Edition) → (db : Database) (v : Vault) (m : MetaRow) → IsMetaOf n db (Some m) → AreSoundAs n db v → m.next ≡ length (db.trees entries_tree) + 1
 next_of n db v m is it =
     let rows = one_permutation (meta_row m) _ (IsPermutation-trans _ _ _ is.0 (IsPermutation-sym _ _ it.spells.meta)) in
-    let first : meta_row (meta_told n v) ≡ meta_row m = cc in
-    let same : meta_told n v ≡ m = same_meta (meta_told n v) m first in
+    let first : meta_row (meta_stated n v) ≡ meta_row m = cc in
+    let same : meta_stated n v ≡ m = same_meta (meta_stated n v) m first in
     let next = ap (λ (x : MetaRow). x.next) same in
     let a = length_permutation _ _ it.spells.entries in
     let b : length (map (λ (h : History). entry_row h.entry) v.histories) ≡ length v.histories = simp length-map in
@@ -69,9 +69,9 @@ next_of n db v m is it =
 
 -- ---- the comparison
 
-pub told : (db : Database) (count next : ℕ) → count ≡ length (db.trees entries_tree) → (¬ (next ≡ 0)) → TellNext db next (count == next - 1)
-told db count next all some = by (count == next - 1) refl
+pub stated : (db : Database) (count next : ℕ) → count ≡ length (db.trees entries_tree) → (¬ (next ≡ 0)) → DecidesNext db next (count == next - 1)
+stated db count next all some = by (count == next - 1) refl
   where
-    by : (b : Bool) → (count == next - 1) ≡ b → TellNext db next b
+    by : (b : Bool) → (count == next - 1) ≡ b → DecidesNext db next b
     by true is = grind (arith, nat_tests, all, some, is)
     by false is = λ same. let n : count ≡ next - 1 = omega (arith, all, same) in absurd (let yes : (count == next - 1) ≡ true = grind (arith, nat_tests, n) in cc)

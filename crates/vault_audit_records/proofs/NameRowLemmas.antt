@@ -6,7 +6,7 @@ use Rattle.vault_audit_model.specs.declared.rows.DepartmentRow.{DepartmentRow}
 use Rattle.vault_audit_model.specs.Rows.{caller_row, department_row}
 use Rattle.vault_audit_model.proofs.SameRows.{text_same, same_caller}
 
--- the row of a department tells its name
+-- the row of a department states its name
 pub same_name : (x y : DepartmentRow) → department_row x ≡ department_row y → x.name ≡ y.name
 same_name x y e = text_same _ _ (ap (λ (r : Row). column r 0) e)
 

@@ -1,4 +1,4 @@
--- The tenures of a vault that tables keep are in their limits, and tables that are sound tell them.
+-- The tenures of a vault that tables keep are in their limits, and tables that are sound state them.
 use Rattle.std.proofs.Common.{inl, inr, ℕ, ◌≤◌, Bool, true, false, List, [], ◌∷◌, Option, Some, None, IsTrue, sym, subst, arith}
 use Rattle.std.specs.List.{AllByRecursion, list_any}
 use Rattle.std.specs.Str.{bytes_eq}

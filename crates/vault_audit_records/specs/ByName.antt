@@ -21,9 +21,9 @@ IsNextCaller before c = IsCaller c × IsAfter before c.name
 abbrev pub with_caller : Option (List ℕ) → Caller → Option (List ℕ)
 with_caller before c = Some c.name
 
-abbrev pub TellCallers : Database → Bool → Type 0
-TellCallers db true = (cs : List Caller) × AreCallers db cs
-TellCallers db false = (cs : List Caller) → ¬ AreCallers db cs
+abbrev pub DecidesCallers : Database → Bool → Type 0
+DecidesCallers db true = (cs : List Caller) × AreCallers db cs
+DecidesCallers db false = (cs : List Caller) → ¬ AreCallers db cs
 
 -- ---- departments
 
@@ -43,6 +43,6 @@ AreDepartmentsByName n db ds =
     IsPermutation (map department_row ds) (map (department_columns_as n) (db.trees departments_tree)) × IsAscending department_cmp ds
     × AllByRecursion IsDepartmentRow ds
 
-abbrev pub TellDepartments : Edition → Database → Bool → Type 0
-TellDepartments n db true = (ds : List DepartmentRow) × AreDepartmentsByName n db ds
-TellDepartments n db false = (ds : List DepartmentRow) → ¬ AreDepartmentsByName n db ds
+abbrev pub DecidesDepartments : Edition → Database → Bool → Type 0
+DecidesDepartments n db true = (ds : List DepartmentRow) × AreDepartmentsByName n db ds
+DecidesDepartments n db false = (ds : List DepartmentRow) → ¬ AreDepartmentsByName n db ds

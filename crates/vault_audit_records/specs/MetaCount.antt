@@ -9,6 +9,6 @@ abbrev pub CountsOne : RowCount → RowCount → Type 0
 CountsOne p q = q.count ≡ p.count + 1
 
 -- whether this is one above the number of entries
-abbrev pub TellNext : Database → ℕ → Bool → Type 0
-TellNext db next true = next ≡ length (db.trees entries_tree) + 1
-TellNext db next false = ¬ (next ≡ length (db.trees entries_tree) + 1)
+abbrev pub DecidesNext : Database → ℕ → Bool → Type 0
+DecidesNext db next true = next ≡ length (db.trees entries_tree) + 1
+DecidesNext db next false = ¬ (next ≡ length (db.trees entries_tree) + 1)

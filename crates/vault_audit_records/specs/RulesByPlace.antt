@@ -12,7 +12,7 @@ use Rattle.vault_audit_model.specs.declared.schema.Edition.{Edition}
 use Rattle.vault_audit_model.specs.Limits.{IsBucketRow, IsRuleRow}
 use Rattle.vault_audit_model.specs.Rows.{bucket_row, rule_row, bucket_columns, rule_columns_as}
 use Rattle.vault_audit_model.specs.Tables.{buckets_tree, rules_tree}
-use Rattle.vault_audit_walk.specs.Beside.{Tell}
+use Rattle.vault_audit_walk.specs.Beside.{Decides}
 use Rattle.vault_audit_walk.specs.Pass.{AllFit, after}
 pub use Rattle.vault_audit_model.specs.Relations.{IsAfter}
 
@@ -31,9 +31,9 @@ abbrev pub AreBucketRows : Database → List BucketRow → Type 0
 AreBucketRows db bs = IsPermutation (map bucket_row bs) (map bucket_columns (db.trees buckets_tree)) × AllFit bucket_row IsNextBucket with_bucket None bs
 
 -- whether the rows of buckets are buckets in their limits, of which no two have one name
-abbrev pub TellBucketRows : Database → Bool → Type 0
-TellBucketRows db true = (bs : List BucketRow) × AreBucketRows db bs
-TellBucketRows db false = (bs : List BucketRow) → ¬ AreBucketRows db bs
+abbrev pub DecidesBucketRows : Database → Bool → Type 0
+DecidesBucketRows db true = (bs : List BucketRow) × AreBucketRows db bs
+DecidesBucketRows db false = (bs : List BucketRow) → ¬ AreBucketRows db bs
 
 -- ---- rules
 
@@ -71,14 +71,14 @@ abbrev pub AreWholeSets : List RuleRow → Type 0
 AreWholeSets xs = AllFit rule_row ComesNext with_rule no_rule xs × IsWhole (after rule_row ComesNext with_rule no_rule xs)
 
 -- whether the rules of each bucket stand at the places 1, 2, 3 and so on, and are a set that it may have
-abbrev pub TellRuns : Edition → Database → Bool → Type 0
-TellRuns n db true = (xs : List RuleRow) × AreRowsOf n db xs × AreWholeSets xs
-TellRuns n db false = (xs : List RuleRow) → AreRowsOf n db xs → ¬ AreWholeSets xs
+abbrev pub DecidesRuns : Edition → Database → Bool → Type 0
+DecidesRuns n db true = (xs : List RuleRow) × AreRowsOf n db xs × AreWholeSets xs
+DecidesRuns n db false = (xs : List RuleRow) → AreRowsOf n db xs → ¬ AreWholeSets xs
 
 -- the rule is of one of the buckets
 abbrev pub IsOfOne : List BucketRow → RuleRow → Type 0
 IsOfOne bs r = list_any (λ b. is_eq (name_cmp b.name r.bucket)) bs ≡ true
 
 -- whether each rule has its bucket
-abbrev pub TellOwners : Edition → Database → Bool → Type 0
-TellOwners n db b = (bs : List BucketRow) → AreBucketRows db bs → (xs : List RuleRow) → AreRowsOf n db xs → Tell b (AllByRecursion (IsOfOne bs) xs)
+abbrev pub DecidesOwners : Edition → Database → Bool → Type 0
+DecidesOwners n db b = (bs : List BucketRow) → AreBucketRows db bs → (xs : List RuleRow) → AreRowsOf n db xs → Decides b (AllByRecursion (IsOfOne bs) xs)

@@ -5,7 +5,7 @@ ghost use Rattle.sqlite.specs.Held.{state};
 ghost use Rattle.vault_core_model.specs.Vault.{Vault};
 ghost use Rattle.vault_audit_model.specs.Spells.{AreSoundAs};
 ghost use Rattle.vault_audit_model.specs.Relations.{IsAfter};
-ghost use Rattle.vault_audit_records.specs.ByName.{TellCallers};
+ghost use Rattle.vault_audit_records.specs.ByName.{DecidesCallers};
 ghost use Rattle.vault_audit_walk.specs.Health.{IsHealthy, IsMemory, IsOfEdition, OnlyLooks};
 
 use crate::row_check::refused;
@@ -70,8 +70,8 @@ pub fn check_callers_by_name<S: Alter>(
     edition: Edition,
 ) -> Result<bool, Error>
     requires { IsOfEdition S.Store conn.old edition }
-    ensures reported { HasCleanDisk (state S.Store conn.new) → IfOk result (TellCallers (state S.Store conn.new).now) }
-    ensures damaged { HasCleanDisk (state S.Store conn.new) → IfOk result (λ told. told ≡ false → (v : Vault) → ¬ AreSoundAs edition (state S.Store conn.new).now v) }
+    ensures reported { HasCleanDisk (state S.Store conn.new) → IfOk result (DecidesCallers (state S.Store conn.new).now) }
+    ensures damaged { HasCleanDisk (state S.Store conn.new) → IfOk result (λ stated. stated ≡ false → (v : Vault) → ¬ AreSoundAs edition (state S.Store conn.new).now v) }
     ensures look { OnlyLooks S.Store conn.old conn.new result }
     ensures err { IsHealthy (state S.Store conn.new) → IfErr result IsMemory }
 {

@@ -1,4 +1,4 @@
-//! Checks of single rows: each tells a record of its table, with values in their limits.
+//! Checks of single rows: each states a record of its table, with values in their limits.
 ghost use Rattle.std.specs.Prelude.{◌≡◌, false, IfErr, IfOk};
 
 use sqlite::{Error, ErrorCode, Row};
@@ -26,9 +26,9 @@ pub struct DepartmentCheck {}
 impl Check for DepartmentCheck {
     ghost use Rattle.vault_audit_model.specs.Rows.{department_row};
     ghost use Rattle.vault_audit_model.specs.Limits.{IsDepartmentRow};
-    ghost use Rattle.vault_audit_walk.specs.Records.{TellsOne};
+    ghost use Rattle.vault_audit_walk.specs.Records.{ReportsOne};
 
-    ghost takes = { λ _. TellsOne department_row IsDepartmentRow };
+    ghost takes = { λ _. ReportsOne department_row IsDepartmentRow };
 
     fn is_passed_by(&self, row: &Row) -> Result<bool, Error> {
         match read_department(row) {
@@ -44,9 +44,9 @@ pub struct CallerCheck {}
 impl Check for CallerCheck {
     ghost use Rattle.vault_audit_model.specs.Rows.{caller_row};
     ghost use Rattle.vault_audit_model.specs.Limits.{IsCaller};
-    ghost use Rattle.vault_audit_walk.specs.Records.{TellsOne};
+    ghost use Rattle.vault_audit_walk.specs.Records.{ReportsOne};
 
-    ghost takes = { λ _. TellsOne caller_row IsCaller };
+    ghost takes = { λ _. ReportsOne caller_row IsCaller };
 
     fn is_passed_by(&self, row: &Row) -> Result<bool, Error> {
         match read_caller(row) {
@@ -62,9 +62,9 @@ pub struct BucketCheck {}
 impl Check for BucketCheck {
     ghost use Rattle.vault_audit_model.specs.Rows.{bucket_row};
     ghost use Rattle.vault_audit_model.specs.Limits.{IsBucketRow};
-    ghost use Rattle.vault_audit_walk.specs.Records.{TellsOne};
+    ghost use Rattle.vault_audit_walk.specs.Records.{ReportsOne};
 
-    ghost takes = { λ _. TellsOne bucket_row IsBucketRow };
+    ghost takes = { λ _. ReportsOne bucket_row IsBucketRow };
 
     fn is_passed_by(&self, row: &Row) -> Result<bool, Error> {
         match read_bucket(row) {
@@ -80,9 +80,9 @@ pub struct RuleCheck {}
 impl Check for RuleCheck {
     ghost use Rattle.vault_audit_model.specs.Rows.{rule_row};
     ghost use Rattle.vault_audit_model.specs.Limits.{IsRuleRow};
-    ghost use Rattle.vault_audit_walk.specs.Records.{TellsOne};
+    ghost use Rattle.vault_audit_walk.specs.Records.{ReportsOne};
 
-    ghost takes = { λ _. TellsOne rule_row IsRuleRow };
+    ghost takes = { λ _. ReportsOne rule_row IsRuleRow };
 
     fn is_passed_by(&self, row: &Row) -> Result<bool, Error> {
         match read_rule(row) {
@@ -98,9 +98,9 @@ pub struct ContentCheck {}
 impl Check for ContentCheck {
     ghost use Rattle.vault_audit_model.specs.Rows.{content_row};
     ghost use Rattle.vault_audit_model.specs.Limits.{IsContentRow};
-    ghost use Rattle.vault_audit_walk.specs.Records.{TellsOne};
+    ghost use Rattle.vault_audit_walk.specs.Records.{ReportsOne};
 
-    ghost takes = { λ _. TellsOne content_row IsContentRow };
+    ghost takes = { λ _. ReportsOne content_row IsContentRow };
 
     fn is_passed_by(&self, row: &Row) -> Result<bool, Error> {
         match read_content(row) {
@@ -116,9 +116,9 @@ pub struct SettingCheck {}
 impl Check for SettingCheck {
     ghost use Rattle.vault_audit_model.specs.Rows.{setting_row};
     ghost use Rattle.vault_audit_model.specs.Limits.{IsSettingRow};
-    ghost use Rattle.vault_audit_walk.specs.Records.{TellsOne};
+    ghost use Rattle.vault_audit_walk.specs.Records.{ReportsOne};
 
-    ghost takes = { λ _. TellsOne setting_row IsSettingRow };
+    ghost takes = { λ _. ReportsOne setting_row IsSettingRow };
 
     fn is_passed_by(&self, row: &Row) -> Result<bool, Error> {
         match read_setting(row) {
@@ -134,9 +134,9 @@ pub struct NoteCheck {}
 impl Check for NoteCheck {
     ghost use Rattle.vault_audit_model.specs.Rows.{note_row};
     ghost use Rattle.vault_audit_model.specs.Limits.{IsNote};
-    ghost use Rattle.vault_audit_walk.specs.Records.{TellsOne};
+    ghost use Rattle.vault_audit_walk.specs.Records.{ReportsOne};
 
-    ghost takes = { λ _. TellsOne note_row IsNote };
+    ghost takes = { λ _. ReportsOne note_row IsNote };
 
     fn is_passed_by(&self, row: &Row) -> Result<bool, Error> {
         match read_note(row) {
@@ -152,9 +152,9 @@ pub struct HeadCheck {}
 impl Check for HeadCheck {
     ghost use Rattle.vault_audit_model.specs.Rows.{head_row};
     ghost use Rattle.vault_audit_model.specs.Limits.{IsHeadRow};
-    ghost use Rattle.vault_audit_walk.specs.Records.{TellsOne};
+    ghost use Rattle.vault_audit_walk.specs.Records.{ReportsOne};
 
-    ghost takes = { λ _. TellsOne head_row IsHeadRow };
+    ghost takes = { λ _. ReportsOne head_row IsHeadRow };
 
     fn is_passed_by(&self, row: &Row) -> Result<bool, Error> {
         match read_head(row) {
@@ -170,9 +170,9 @@ pub struct TenureCheck {}
 impl Check for TenureCheck {
     ghost use Rattle.vault_audit_model.specs.Rows.{tenure_row};
     ghost use Rattle.vault_audit_model.specs.Limits.{IsTenureRow};
-    ghost use Rattle.vault_audit_walk.specs.Records.{TellsOne};
+    ghost use Rattle.vault_audit_walk.specs.Records.{ReportsOne};
 
-    ghost takes = { λ _. TellsOne tenure_row IsTenureRow };
+    ghost takes = { λ _. ReportsOne tenure_row IsTenureRow };
 
     fn is_passed_by(&self, row: &Row) -> Result<bool, Error> {
         match read_tenure(row) {

@@ -1,6 +1,6 @@
-//! Rows of the tables, read as what they tell.
+//! Rows of the tables, read as what they say.
 //!
-//! `Misread::Wrong`: the columns tell no such value in its limits. `Misread::Memory`: there was no memory for it.
+//! `Misread::Wrong`: the columns state no such value in its limits. `Misread::Memory`: there was no memory for it.
 #![tactic(auto)]
 
 pub mod cell;

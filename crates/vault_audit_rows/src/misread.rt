@@ -8,10 +8,10 @@ use thiserror::Error;
 /// Why a row, or a value in one, isn't read.
 #[derive(Clone, Copy, Debug, PartialEq, Eq, Error)]
 pub enum Misread {
-    /// It tells no record of that kind, in its limits.
+    /// It states no record of that kind, in its limits.
     #[error("the row tells no record of its kind")]
     Wrong,
-    /// No memory was left for what it tells.
+    /// No memory was left for what it says.
     #[error("out of memory")]
     Memory,
 }

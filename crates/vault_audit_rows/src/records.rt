@@ -1,4 +1,4 @@
-//! Rows of the tables, each read as the record that it tells.
+//! Rows of the tables, each read as the record that it states.
 ghost use Rattle.std.specs.Prelude.{◌≡◌, ◌≢◌, IfOk, IfErr, MatchOption};
 ghost use Rattle.sqlite_value.specs.Order.{column};
 ghost use Rattle.vault_tally.specs.declared.row.Row.{Row as SumsOf};

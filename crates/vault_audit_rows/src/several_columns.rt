@@ -286,7 +286,7 @@ fn is_sized(marker: bool, size: u32, digest: &Option<Digest>) -> bool
     }
 }
 
-/// What three columns tell of an entry's size.
+/// What three columns say of an entry's size.
 #[tactic(auto, using(crate::proofs::ColumnLemmas::sized_within, crate::proofs::ColumnLemmas::sized_digest))]
 pub fn extent_of(row: &Row, marker_at: usize, size_at: usize, digest_at: usize) -> Option<Extent>
     ensures { MatchOption result

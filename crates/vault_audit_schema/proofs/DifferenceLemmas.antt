@@ -12,7 +12,7 @@ use Rattle.vault_audit_model.specs.declared.schema.Edition.TheVariants.{First, S
 use Rattle.vault_audit_model.specs.Order.{place_of, made_in}
 use Rattle.vault_audit_model.specs.Tables.{schema_of}
 use Rattle.vault_audit_schema.specs.Compare.{IsFirstUnlike}
-use Rattle.vault_audit_schema.specs.Places.{HasTable, IsInPlace, AreInPlace, BeginTo, IsToldOf, IsToldIn}
+use Rattle.vault_audit_schema.specs.Places.{HasTable, IsInPlace, AreInPlace, BeginTo, IsReportedOf, IsReportedIn}
 use Rattle.vault_audit_schema.proofs.CompareLemmas.{unlike_not}
 
 pub place_below : (t : Table) → place_of t < 11
@@ -117,30 +117,30 @@ begin_before n tables at before t less =
     let within : place_of t + 1 ≤ at = omega (arith, less) in
     sym (take-take (place_of t + 1) at tables within) ∙ ap (take (place_of t + 1)) before ∙ take-take (place_of t + 1) at (schema_of n).tables within
 
-module _ (n : Edition) (tables : List Made) (at : ℕ) (told : Table) (unlike : IsFirstUnlike tables (schema_of n).tables at) where
-  abbrev Told : Type 0
-  Told = ((t : Table) → place_of t < place_of told → BeginTo n tables t) × (¬ IsInPlace n tables told ⊎ AreInPlace n tables)
+module _ (n : Edition) (tables : List Made) (at : ℕ) (stated : Table) (unlike : IsFirstUnlike tables (schema_of n).tables at) where
+  abbrev Reported : Type 0
+  Reported = ((t : Table) → place_of t < place_of stated → BeginTo n tables t) × (¬ IsInPlace n tables stated ⊎ AreInPlace n tables)
 
   -- it differs at this table
-  at_table : (u : Table) → place_of u ≡ at → at < count n → told ≡ u → Told
+  at_table : (u : Table) → place_of u ≡ at → at < count n → stated ≡ u → Reported
   at_table u placed_at within is =
-      let told_at : place_of told ≡ at = ap place_of is ∙ placed_at in
-      let has : place_of told < count n = rw told_at within in (
-        λ t less. begin_before n tables at unlike.before t (omega (arith, told_at, less)),
-        inl (λ here. unlike.differs (subst (λ (k : ℕ). slice_get tables k ≡ slice_get (schema_of n).tables k) told_at (here has))),
+      let stated_at : place_of stated ≡ at = ap place_of is ∙ placed_at in
+      let has : place_of stated < count n = rw stated_at within in (
+        λ t less. begin_before n tables at unlike.before t (omega (arith, stated_at, less)),
+        inl (λ here. unlike.differs (subst (λ (k : ℕ). slice_get tables k ≡ slice_get (schema_of n).tables k) stated_at (here has))),
       )
 
   -- or past all of them
-  past_all : count n ≤ at → told ≡ Meta → Told
+  past_all : count n ≤ at → stated ≡ Meta → Reported
   past_all far is =
-      let first : place_of told ≡ 0 = ap place_of is in (
+      let first : place_of stated ≡ 0 = ap place_of is in (
         λ t less. absurd (omega (arith, first, less)),
         inr (λ t has. agree_before tables (schema_of n).tables at (place_of t) unlike.before (omega (arith, has, far))),
       )
 
-  pub told_of : ((t : Table) → HasTable n t → place_of t ≡ at → told ≡ t) → (count n ≤ at → told ≡ Meta) → IsToldOf n tables told
-  told_of named past =
-      let it : Told = elim (cases_order at (count n)) [
+  pub stated_of : ((t : Table) → HasTable n t → place_of t ≡ at → stated ≡ t) → (count n ≤ at → stated ≡ Meta) → IsReportedOf n tables stated
+  stated_of named past =
+      let it : Reported = elim (cases_order at (count n)) [
         | inl e ↦ (let far : count n ≤ at = omega (arith, e) in past_all far (past far))
         | inr (inl less) ↦
             let most = few n in

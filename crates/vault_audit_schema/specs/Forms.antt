@@ -37,7 +37,7 @@ primary_of Number = 0 ∷ []
 primary_of (Places places) = places.now
 primary_of (NumberAnd places) = 0 ∷ []
 
--- the places that an index tells apart
+-- the places that an index distinguishes
 abbrev pub uniques_of : KeyForm → List (List ℕ)
 uniques_of Number = []
 uniques_of (Places places) = places.now ∷ []

@@ -3,7 +3,7 @@ use Rattle.std.specs.Prelude.{ℕ, List, [], Option, false, ◌≡◌}
 use Rattle.sqlite_value.specs.declared.keys.Order.{Order}
 use Rattle.sqlite.specs.Table.{Table}
 
--- what tells the rows of the table apart
+-- what distinguishes the rows of the table
 pub record HasKey (it : Table) (number : Option ℕ) (places : List ℕ) (sets : List (List ℕ)) (ways : List Order) : Type 0 where
   pub key : it.key ≡ number
   pub primary : it.primary ≡ places

@@ -24,15 +24,15 @@ abbrev pub BeginTo : Edition → List Made → Table → Type 0
 BeginTo n tables t = take (place_of t + 1) tables ≡ take (place_of t + 1) (schema_of n).tables
 
 -- the tables differ from the vault's, and this one is reported: all before it stand in their places, and it doesn't, or all do
-pub record IsToldOf (n : Edition) (tables : List Made) (told : Table) : Type 0 where
+pub record IsReportedOf (n : Edition) (tables : List Made) (stated : Table) : Type 0 where
   pub differs : ¬ (tables ≡ (schema_of n).tables)
-  pub begin : (t : Table) → place_of t < place_of told → BeginTo n tables t
-  pub here : ¬ IsInPlace n tables told ⊎ AreInPlace n tables
+  pub begin : (t : Table) → place_of t < place_of stated → BeginTo n tables t
+  pub here : ¬ IsInPlace n tables stated ⊎ AreInPlace n tables
   -- if they differ at one of its tables, then this is the first such
-  pub first : (t : Table) → ((u : Table) → place_of u < place_of t → IsInPlace n tables u) → ¬ IsInPlace n tables t → told ≡ t
+  pub first : (t : Table) → ((u : Table) → place_of u < place_of t → IsInPlace n tables u) → ¬ IsInPlace n tables t → stated ≡ t
 
 -- the schema differs from the vault's, and this table is reported: all before it stand in their places, and it doesn't, or all do
-pub record IsToldIn (n : Edition) (schema : Schema) (told : Table) : Type 0 where
+pub record IsReportedIn (n : Edition) (schema : Schema) (stated : Table) : Type 0 where
   pub differs : ¬ (schema ≡ schema_of n)
-  pub begin : (t : Table) → place_of t < place_of told → BeginTo n schema.tables t
-  pub here : ¬ IsInPlace n schema.tables told ⊎ AreInPlace n schema.tables
+  pub begin : (t : Table) → place_of t < place_of stated → BeginTo n schema.tables t
+  pub here : ¬ IsInPlace n schema.tables stated ⊎ AreInPlace n schema.tables

@@ -5,7 +5,7 @@ ghost use Rattle.sqlite.specs.Held.{state};
 ghost use Rattle.vault_base.specs.declared.refusal.Table.{Table};
 ghost use Rattle.vault_audit_model.specs.Order.{place_of};
 ghost use Rattle.vault_audit_model.specs.Tables.{schema_of};
-ghost use Rattle.vault_audit_schema.specs.Places.{HasTable, IsInPlace, IsToldOf, IsToldIn};
+ghost use Rattle.vault_audit_schema.specs.Places.{HasTable, IsInPlace, IsReportedOf, IsReportedIn};
 
 use crate::compare::first_unlike;
 use crate::index::indexes_of;
@@ -28,7 +28,7 @@ fn table_at(edition: Edition, at: usize) -> Table
 
 /// The first table that is missing or of another form, or `meta` where another table stands beside them.
 fn table_difference(edition: Edition, tables: &[schema::Table]) -> Option<Table>
-    ensures { MatchOption result (tables.now ≡ (schema_of edition).tables) (IsToldOf edition tables.now) }
+    ensures { MatchOption result (tables.now ≡ (schema_of edition).tables) (IsReportedOf edition tables.now) }
 {
     let at = first_unlike(tables, tables_of(edition))?;
     Some(table_at(edition, at))
@@ -69,8 +69,8 @@ fn index_difference(edition: Edition, indexes: &[Index]) -> Option<Table>
 pub fn first_difference(edition: Edition, schema: &Schema) -> Option<Table>
     ensures found { (result ≡ None) ↔ (schema.now ≡ schema_of edition) }
 
-    // All before the table that is told are in their places, and it isn't, or all are.
-    ensures reported { IfSome result (IsToldIn edition schema.now) }
+    // All before the table that is reported are in their places, and it isn't, or all are.
+    ensures reported { IfSome result (IsReportedIn edition schema.now) }
 
     // The tables before this one are in their places, and this one isn't.
     ensures first { (t : Table) → ((u : Table) → place_of u < place_of t → IsInPlace edition schema.now.tables u) → ¬ IsInPlace edition schema.now.tables t → result ≡ Some t }
@@ -88,10 +88,10 @@ pub fn first_difference(edition: Edition, schema: &Schema) -> Option<Table>
     }
 }
 
-/// The first table at which the schema of a connection's file differs from the vault's, as `first_difference` tells it.
+/// The first table at which the schema of a connection's file differs from the vault's, as `first_difference` reports it.
 pub fn check_schema<S: Alter>(conn: &Connection<S>, edition: Edition) -> Option<Table>
     ensures found { (result ≡ None) ↔ ((state S.Store conn.now).now.schema ≡ schema_of edition) }
-    ensures reported { IfSome result (IsToldIn edition (state S.Store conn.now).now.schema) }
+    ensures reported { IfSome result (IsReportedIn edition (state S.Store conn.now).now.schema) }
 {
     first_difference(edition, conn.schema())
 }

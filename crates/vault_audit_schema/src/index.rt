@@ -21,11 +21,11 @@ pub(crate) struct IndexForm {
     pub(crate) tree: u32,
     pub(crate) places: &'static [usize],
     pub(crate) order: Order,
-    /// Whether it tells the rows apart, as one that its table brings does.
+    /// Whether it distinguishes the rows, as one that its table brings does.
     pub(crate) is_unique: bool,
 }
 
-/// The index that a table brings, by whose places its rows are told apart or found. Its tree follows the table's.
+/// The index that a table brings, by whose places its rows are distinguished or found. Its tree follows the table's.
 macro_rules! brought_by {
     ($table:ident, $name:literal, $places:expr) => {
         IndexForm {

@@ -16,7 +16,7 @@ use sqlite_value::keys::Order;
 use vault_audit_model::schema::Edition;
 use vault_base::refusal::Table;
 
-/// What tells the rows of a table apart.
+/// What distinguishes the rows of a table.
 #[derive(Clone, Copy, Debug)]
 pub(crate) enum KeyForm {
     /// Its first column, which is a number.
@@ -366,7 +366,7 @@ fn has_number_and(it: &schema::Table, places: &[usize]) -> bool
         && is_one_plain_order(it.orders.as_slice())
 }
 
-/// Whether this is what tells the rows of the table apart.
+/// Whether this is what distinguishes the rows of the table.
 fn has_key(it: &schema::Table, key: KeyForm) -> bool
     ensures { IsTrue result ↔ HasKey it.now (key_of key) (primary_of key) (uniques_of key) (orders_of key) }
 {

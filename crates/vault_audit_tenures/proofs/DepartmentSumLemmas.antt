@@ -14,7 +14,7 @@ use Rattle.vault_core_laws.proofs.Soundness.{admitted_by}
 use Rattle.vault_audit_model.specs.declared.schema.Edition.{Edition}
 use Rattle.vault_audit_model.specs.declared.rows.DepartmentRow.{DepartmentRow}
 use Rattle.vault_audit_model.specs.Limits.{IsPlainName}
-use Rattle.vault_audit_model.specs.Relations.{department_with, IsPast, IsWithin, AreBuckets, AreEntries, AreTenuresOf, TellSums}
+use Rattle.vault_audit_model.specs.Relations.{department_with, IsPast, IsWithin, AreBuckets, AreEntries, AreTenuresOf, DecidesSums}
 use Rattle.vault_audit_model.specs.Rows.{department_row, department_columns_as}
 use Rattle.vault_audit_model.specs.Spells.{AreSoundAs, entries_in, sums_over}
 use Rattle.vault_audit_model.specs.Tables.{departments_tree}
@@ -78,12 +78,12 @@ module _ (hs : List History) where
     all_total [] named low = tt
     all_total (n ∷ ns) named low = (has_total n named.0 low.0, all_total ns named.1 low.1)
 
-    -- what the rows hold beside the totals is told of the table
-    pub table_told : (n : Edition) (db : Database) (hold : Bool) → AreRecords department_row (HasTotal t) (map (department_columns_as n) (db.trees departments_tree)) hold → TellSums n db hs hold
-    table_told n db true (ds, are, all) =
+    -- what the rows hold beside the totals is said of the table
+    pub table_stated : (n : Edition) (db : Database) (hold : Bool) → AreRecords department_row (HasTotal t) (map (department_columns_as n) (db.trees departments_tree)) hold → DecidesSums n db hs hold
+    table_stated n db true (ds, are, all) =
         let each = each_has ds all in
         (names ds, (subst (λ rows. IsPermutation rows (map (department_columns_as n) (db.trees departments_tree))) (rows_same ds each) are, named ds all, within ds each))
-    table_told n db false none = λ ns are.
+    table_stated n db false none = λ ns are.
         none (map (department_with hs) ns) (subst (λ rows. IsPermutation rows (map (department_columns_as n) (db.trees departments_tree))) (sym (map-map department_row (department_with hs) ns)) are.0) (all_total ns are.1 are.2)
 
 -- ---- sound tables
@@ -98,10 +98,10 @@ each_within v (d ∷ ds) sound = (sound.within d, each_within v ds sound)
 
 -- where a department lacks its sums, whatever the vault is, no vault has these tables
 pub no_sums : (n : Edition) (db : Database)
-    → ((v : Vault) → AreBuckets n db v.buckets → AreEntries db (entries_in v.histories) → AllByRecursion (IsPast v.last) (entries_in v.histories) → AreTenuresOf n db v → TellSums n db v.histories false)
+    → ((v : Vault) → AreBuckets n db v.buckets → AreEntries db (entries_in v.histories) → AllByRecursion (IsPast v.last) (entries_in v.histories) → AreTenuresOf n db v → DecidesSums n db v.histories false)
     → (v : Vault) → ¬ AreSoundAs n db v
-no_sums n db told v it =
+no_sums n db stated v it =
     let kept = it.spells.kept in
-    told v (it.spells.buckets, it.spells.rules, kept.sound.ordered.buckets, kept.limits.buckets) (sound_entries n db v it)
+    stated v (it.spells.buckets, it.spells.rules, kept.sound.ordered.buckets, kept.limits.buckets) (sound_entries n db v it)
     (past_of v.last v.histories (admitted_by 0 v.last v.histories kept.sound.order) kept.sound.in_time) (sound_tenures n db v it)
     v.departments (it.numbers, kept.limits.departments, each_within v v.departments kept.sound)

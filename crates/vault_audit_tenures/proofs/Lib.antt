@@ -9,12 +9,12 @@ pub mod ShareLemmas
 pub mod SoundLemmas
 pub mod SumRowLemmas
 pub mod SumTextLemmas
-pub mod TellLemmas
+pub mod DecisionLemmas
 pub mod TenureJoinLemmas
 pub mod TenureRowLemmas
 pub mod TenureSumLemmas
 pub mod TenureTextLemmas
-pub mod ToldTenureLemmas
+pub mod StatedTenureLemmas
 pub mod TotalLemmas
 pub mod UnmovedLemmas
 pub mod VersionSumLemmas

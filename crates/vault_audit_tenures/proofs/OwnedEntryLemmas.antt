@@ -32,7 +32,7 @@ use Rattle.vault_audit_model.specs.Spells.{bucket_of}
 use Rattle.vault_audit_model.specs.Tables.{schema_of, buckets_tree, entries_tree}
 use Rattle.vault_audit_model.specs.Values.{text_or_null}
 use Rattle.vault_audit_model.proofs.ValueLemmas.{agrees, same_text}
-use Rattle.vault_audit_walk.specs.Records.{TellsOne}
+use Rattle.vault_audit_walk.specs.Records.{ReportsOne}
 use Rattle.vault_audit_walk.proofs.ScanLemmas.{first_cmp}
 use Rattle.vault_audit_records.proofs.EntryNumberLemmas.{rising}
 use Rattle.vault_audit_walk.proofs.JoinLemmas.{joined_of, shown_joined, shown_by_join, joined_with, IsOrderOf}
@@ -95,9 +95,9 @@ module _ (source : List Values) (bs : List Bucket) (are : IsPermutation (map row
   matched : (name : List ℕ) → IsPermutation (map row_of_bucket (filter (is_bucket name) bs)) (map bucket_columns (filter (is_at name) source))
   matched name =
       let test = λ (row : Values). agrees (column row 0) (Text name) in
-      let told : filter test (map row_of_bucket bs) ≡ map row_of_bucket (filter (is_bucket name) bs) =
+      let stated : filter test (map row_of_bucket bs) ≡ map row_of_bucket (filter (is_bucket name) bs) =
       filter-map test row_of_bucket bs ∙ ap (map row_of_bucket) (filter_same (λ (b : Bucket). test (row_of_bucket b)) (is_bucket name) (λ b. same_text b.name name) bs) in
-      subst (λ xs. IsPermutation xs (map bucket_columns (filter (is_at name) source))) told
+      subst (λ xs. IsPermutation xs (map bucket_columns (filter (is_at name) source))) stated
       (subst (IsPermutation (filter test (map row_of_bucket bs))) (filter-map test bucket_columns source) (IsPermutation-filter test _ _ are))
 
   -- what the join finds for a name is the bucket of that name, or a row of NULLs
@@ -135,8 +135,8 @@ each_one f g same [] = refl
 each_one f g same (x ∷ xs) = rw (same x) (ap (λ ys. g x ∷ ys) (each_one f g same xs))
 
 module _ (n : Edition) (db : Database) (bs : List Bucket) (es : List Entry) (buckets : AreBuckets n db bs) (entries : AreEntries db es) where
-  abbrev rows_told : List Values
-  rows_told = map owned_row (map (owned_in bs) es)
+  abbrev rows_stated : List Values
+  rows_stated = map owned_row (map (owned_in bs) es)
 
   shown_entry : (e : Entry) → shown_for (db.trees buckets_tree) (entry_row e) ≡ owned_row (owned_in bs e) ∷ []
   shown_entry e =
@@ -144,10 +144,10 @@ module _ (n : Edition) (db : Database) (bs : List Bucket) (es : List Entry) (buc
       ∙ ap (λ v. (column (entry_row e) 0 ∷ column (entry_row e) 3 ∷ column (entry_row e) 4 ∷ column (entry_row e) 6 ∷ column (entry_row e) 9 ∷ v ∷ []) ∷ []) (dept_shown (bucket_in bs e.bucket))
 
   -- the query shows the entries beside their buckets, in some order
-  pub shown_are : IsPermutation rows_told (source db)
+  pub shown_are : IsPermutation rows_stated (source db)
   shown_are =
       let each = flat_map-map (shown_for (db.trees buckets_tree)) entry_row es ∙ each_one (λ (e : Entry). shown_for (db.trees buckets_tree) (entry_row e)) (λ e. owned_row (owned_in bs e)) shown_entry es ∙ sym (map-map owned_row (owned_in bs) es) in
-      subst (IsPermutation rows_told) (sym (source_is db)) (subst (λ xs. IsPermutation xs (flat_map (shown_for (db.trees buckets_tree)) (map entry_columns (db.trees entries_tree)))) each (IsPermutation-flat_map (shown_for (db.trees buckets_tree)) _ _ entries.0))
+      subst (IsPermutation rows_stated) (sym (source_is db)) (subst (λ xs. IsPermutation xs (flat_map (shown_for (db.trees buckets_tree)) (map entry_columns (db.trees entries_tree)))) each (IsPermutation-flat_map (shown_for (db.trees buckets_tree)) _ _ entries.0))
 
 -- by rising id
 pub owned_rise : (bs : List Bucket) (es : List Entry) → AreNumbered 1 0 es → Rises (λ a b. first_cmp a b ≡ Less) (map owned_row (map (owned_in bs) es))
@@ -191,6 +191,6 @@ is_owned bs e all is = record {
 }
 
 -- each of these rows holds an entry in its limits
-pub each_tells : (next low : ℕ) (bs : List Bucket) (es : List Entry) → AllByRecursion IsBucket bs → AreNumbered next low es → AllByRecursion (TellsOne owned_row IsOwned) (map owned_row (map (owned_in bs) es))
-each_tells next low bs [] all are = tt
-each_tells next low bs (e ∷ es) all are = ((owned_in bs e, refl, is_owned bs e all are.0.0), each_tells (next + 1) e.admitted bs es all are.1)
+pub each_reads_so : (next low : ℕ) (bs : List Bucket) (es : List Entry) → AllByRecursion IsBucket bs → AreNumbered next low es → AllByRecursion (ReportsOne owned_row IsOwned) (map owned_row (map (owned_in bs) es))
+each_reads_so next low bs [] all are = tt
+each_reads_so next low bs (e ∷ es) all are = ((owned_in bs e, refl, is_owned bs e all are.0.0), each_reads_so (next + 1) e.admitted bs es all are.1)

@@ -68,9 +68,9 @@ module _ (source : List Values) (bs : List Bucket) (are : IsPermutation (map row
   matched : (name : List ℕ) → IsPermutation (map row_of_bucket (filter (is_bucket name) bs)) (map bucket_columns (filter (is_at (Text name)) source))
   matched name =
       let test = λ (row : Values). agrees (column row 0) (Text name) in
-      let told : filter test (map row_of_bucket bs) ≡ map row_of_bucket (filter (is_bucket name) bs) =
+      let stated : filter test (map row_of_bucket bs) ≡ map row_of_bucket (filter (is_bucket name) bs) =
       filter-map test row_of_bucket bs ∙ ap (map row_of_bucket) (filter_same (λ (b : Bucket). test (row_of_bucket b)) (is_bucket name) (λ b. same_text b.name name) bs) in
-      subst (λ xs. IsPermutation xs (map bucket_columns (filter (is_at (Text name)) source))) told
+      subst (λ xs. IsPermutation xs (map bucket_columns (filter (is_at (Text name)) source))) stated
       (subst (IsPermutation (filter test (map row_of_bucket bs))) (filter-map test bucket_columns source) (IsPermutation-filter test _ _ are))
 
   -- what the join finds for a name is the bucket of that name, or a row of NULLs
@@ -141,8 +141,8 @@ module _ (n : Edition) (db : Database) (bs : List Bucket) (es : List Entry) (buc
   abbrev stored : List Values
   stored = db.trees tenures_tree
 
-  abbrev told : Values → Values
-  told c = shown_for bs (find (is_id (column c 0)) es) c
+  abbrev stated : Values → Values
+  stated c = shown_for bs (find (is_id (column c 0)) es) c
 
   of_bucket : (o : Option Entry) (t : Values) → with_buckets (db.trees buckets_tree) t (row_beside o) ≡ shown_for bs o t ∷ []
   of_bucket None t = ap (map (with_both t (row_beside None))) (not_found (db.trees buckets_tree) bs buckets.0 buckets.2)
@@ -150,7 +150,7 @@ module _ (n : Edition) (db : Database) (bs : List Bucket) (es : List Entry) (buc
       ap (map (with_both t (row_beside (Some e)))) (found (db.trees buckets_tree) bs buckets.0 buckets.2 e.bucket)
       ∙ ap (λ d. (column t 0 ∷ column t 1 ∷ column t 2 ∷ column t 3 ∷ number e.admitted ∷ removal_at e.removal ∷ d ∷ []) ∷ []) (dept_shown (bucket_in bs e.bucket))
 
-  one_shown : (r : Values) → shown_beside (db.trees entries_tree) (db.trees buckets_tree) r ≡ told (tenure_columns r) ∷ []
+  one_shown : (r : Values) → shown_beside (db.trees entries_tree) (db.trees buckets_tree) r ≡ stated (tenure_columns r) ∷ []
   one_shown r =
       let there = or_nulls (filter (is_of (column r 1)) (db.trees entries_tree)) in
       let with = with_buckets (db.trees buckets_tree) (tenure_columns r) in
@@ -160,24 +160,24 @@ module _ (n : Edition) (db : Database) (bs : List Bucket) (es : List Entry) (buc
       ∙ append-nil _
       ∙ of_bucket (find (is_id (column r 1)) es) (tenure_columns r)
 
-  source_is : shown_in db ≡ map told (map tenure_columns stored)
-  source_is = each_one (shown_beside (db.trees entries_tree) (db.trees buckets_tree)) (λ r. told (tenure_columns r)) one_shown stored ∙ sym (map-map told tenure_columns stored)
+  source_is : shown_in db ≡ map stated (map tenure_columns stored)
+  source_is = each_one (shown_beside (db.trees entries_tree) (db.trees buckets_tree)) (λ r. stated (tenure_columns r)) one_shown stored ∙ sym (map-map stated tenure_columns stored)
 
   -- ---- from the rows shown
 
-  abbrev IsTold : Values → Type 0
-  IsTold row = (c : Values) × (row ≡ told c)
+  abbrev IsStated : Values → Type 0
+  IsStated row = (c : Values) × (row ≡ stated c)
 
-  all_told : (cs : List Values) → AllByRecursion IsTold (map told cs)
-  all_told [] = tt
-  all_told (c ∷ cs) = ((c, refl), all_told cs)
+  all_stated : (cs : List Values) → AllByRecursion IsStated (map stated cs)
+  all_stated [] = tt
+  all_stated (c ∷ cs) = ((c, refl), all_stated cs)
 
-  is_of_one : (t : OwnedTenure) → IsTold (owned_row t) → IsOfOne bs es t
+  is_of_one : (t : OwnedTenure) → IsStated (owned_row t) → IsOfOne bs es t
   is_of_one t (c, e) =
       let id : column c 0 ≡ number t.id = sym (id_shown bs (find (is_id (column c 0)) es) c t e) in
       subst (IsOf bs t) (ap (λ w. find (is_id w) es) id ∙ found_number es t.id) (is_shown bs (find (is_id (column c 0)) es) c t e)
 
-  each_of_one : (ts : List OwnedTenure) → AllByRecursion (λ t. IsTold (owned_row t)) ts → AllByRecursion (IsOfOne bs es) ts
+  each_of_one : (ts : List OwnedTenure) → AllByRecursion (λ t. IsStated (owned_row t)) ts → AllByRecursion (IsOfOne bs es) ts
   each_of_one [] all = tt
   each_of_one (t ∷ ts) all = (is_of_one t all.0, each_of_one ts all.1)
 
@@ -185,37 +185,37 @@ module _ (n : Edition) (db : Database) (bs : List Bucket) (es : List Entry) (buc
     pub all_of_one : AllByRecursion (IsOfOne bs es) ts
     all_of_one =
         let shown = subst (IsPermutation (map owned_row ts)) source_is are in
-        each_of_one ts (all_from_map IsTold owned_row ts (all-permutation IsTold _ _ (IsPermutation-sym _ _ shown) (all_told (map tenure_columns stored))))
+        each_of_one ts (all_from_map IsStated owned_row ts (all-permutation IsStated _ _ (IsPermutation-sym _ _ shown) (all_stated (map tenure_columns stored))))
 
     pub rows_are : AreRowsOf db (map row_of ts)
     rows_are =
         let mine : map own_columns (map owned_row ts) ≡ map tenure_row (map row_of ts) = map-map own_columns owned_row ts ∙ sym (map-map tenure_row row_of ts) in
         let theirs : map own_columns (shown_in db) ≡ map tenure_columns stored =
-        ap (map own_columns) (source_is ∙ map-map told tenure_columns stored) ∙ map-map own_columns (λ r. told (tenure_columns r)) stored ∙ map_alike _ tenure_columns (λ r. own_shown bs (find (is_id (column (tenure_columns r) 0)) es) r) stored in
+        ap (map own_columns) (source_is ∙ map-map stated tenure_columns stored) ∙ map-map own_columns (λ r. stated (tenure_columns r)) stored ∙ map_alike _ tenure_columns (λ r. own_shown bs (find (is_id (column (tenure_columns r) 0)) es) r) stored in
         subst (IsPermutation (map tenure_row (map row_of ts))) theirs (subst (λ xs. IsPermutation xs (map own_columns (shown_in db))) mine (IsPermutation-map own_columns _ _ are))
 
 -- ---- from histories
 
 module _ (n : Edition) (db : Database) (v : Vault) (es : List Entry) (buckets : AreBuckets n db v.buckets) (entries : AreEntries db es) where
-  one_told : (e : Entry) → found_among es e.id ≡ Some e → (t : Tenure) → shown_for v.buckets (find (is_id (number e.id)) es) (tenure_row (row_of (owned_in v.buckets e t))) ≡ owned_row (owned_in v.buckets e t)
-  one_told e found t = ap (λ o. shown_for v.buckets o (tenure_row (row_of (owned_in v.buckets e t)))) (found_number es e.id ∙ found)
+  one_stated : (e : Entry) → found_among es e.id ≡ Some e → (t : Tenure) → shown_for v.buckets (find (is_id (number e.id)) es) (tenure_row (row_of (owned_in v.buckets e t))) ≡ owned_row (owned_in v.buckets e t)
+  one_stated e found t = ap (λ o. shown_for v.buckets o (tenure_row (row_of (owned_in v.buckets e t)))) (found_number es e.id ∙ found)
 
   abbrev IsSame : OwnedTenure → Type 0
   IsSame t = shown_for v.buckets (find (is_id (number t.id)) es) (tenure_row (row_of t)) ≡ owned_row t
 
-  run_told : (e : Entry) → found_among es e.id ≡ Some e → (us : List Tenure) (rest : List OwnedTenure) → AllByRecursion IsSame rest → AllByRecursion IsSame (map (owned_in v.buckets e) us ++ rest)
-  run_told e found [] rest all = all
-  run_told e found (u ∷ us) rest all = (one_told e found u, run_told e found us rest all)
+  run_stated : (e : Entry) → found_among es e.id ≡ Some e → (us : List Tenure) (rest : List OwnedTenure) → AllByRecursion IsSame rest → AllByRecursion IsSame (map (owned_in v.buckets e) us ++ rest)
+  run_stated e found [] rest all = all
+  run_stated e found (u ∷ us) rest all = (one_stated e found u, run_stated e found us rest all)
 
   all_same : (hs : List History) → AllByRecursion (λ e. found_among es e.id ≡ Some e) (entries_in hs) → AllByRecursion IsSame (all_owned v hs)
   all_same [] found = tt
-  all_same (h ∷ hs) found = run_told h.entry found.0 h.tenures (all_owned v hs) (all_same hs found.1)
+  all_same (h ∷ hs) found = run_stated h.entry found.0 h.tenures (all_owned v hs) (all_same hs found.1)
 
   pub shown_are : (hs : List History) → entries_in hs ≡ es → AreRowsOf db (flat_map tenures_in hs) → IsPermutation (map owned_row (all_owned v hs)) (shown_in db)
   shown_are hs same are =
       let ts = all_owned v hs in
-      let tell = λ (c : Values). shown_for v.buckets (find (is_id (column c 0)) es) c in
+      let decides = λ (c : Values). shown_for v.buckets (find (is_id (column c 0)) es) c in
       let each = subst (AllByRecursion (λ e. found_among es e.id ≡ Some e)) (sym same) (each_found 1 0 es entries.1) in
-      let mine : map tell (map tenure_row (flat_map tenures_in hs)) ≡ map owned_row ts =
-      ap (λ (xs : List TenureRow). map tell (map tenure_row xs)) (sym (rows_owned v hs)) ∙ ap (map tell) (map-map tenure_row row_of ts) ∙ map-map tell (λ t. tenure_row (row_of t)) ts ∙ map_alike_on _ owned_row ts (all_same hs each) in
-      subst (λ xs. IsPermutation xs (shown_in db)) mine (subst (IsPermutation (map tell (map tenure_row (flat_map tenures_in hs)))) (sym (source_is n db v.buckets es buckets entries)) (IsPermutation-map tell _ _ are))
+      let mine : map decides (map tenure_row (flat_map tenures_in hs)) ≡ map owned_row ts =
+      ap (λ (xs : List TenureRow). map decides (map tenure_row xs)) (sym (rows_owned v hs)) ∙ ap (map decides) (map-map tenure_row row_of ts) ∙ map-map decides (λ t. tenure_row (row_of t)) ts ∙ map_alike_on _ owned_row ts (all_same hs each) in
+      subst (λ xs. IsPermutation xs (shown_in db)) mine (subst (IsPermutation (map decides (map tenure_row (flat_map tenures_in hs)))) (sym (source_is n db v.buckets es buckets entries)) (IsPermutation-map decides _ _ are))

@@ -1,4 +1,4 @@
--- Whether the versions are the entries with tenures, told by the rows that stand beside each other.
+-- Whether the versions are the entries with tenures, as stated by the rows that stand beside each other.
 use Rattle.std.proofs.Common.{◌≡◌, ◌==◌, ℕ, List, Bool, true, false, refl, sym, ◌∙◌}
 use Rattle.std.specs.List.{AllByRecursion, list_any}
 use Rattle.sqlite_value.specs.Order.{Row, column}
@@ -14,9 +14,9 @@ use Rattle.vault_audit_model.specs.Tables.{schema_of, entries_tree, tenures_tree
 use Rattle.vault_audit_model.specs.Values.{number}
 use Rattle.vault_audit_model.proofs.ValueLemmas.{agrees}
 use Rattle.vault_audit_walk.specs.Records.{Checked}
-use Rattle.vault_audit_walk.specs.Beside.{TellsAbsence}
+use Rattle.vault_audit_walk.specs.Beside.{ReportsAbsence}
 use Rattle.vault_audit_walk.proofs.BesideLemmas.{agree_numbers, beside_row, beside_yes, beside_no, met_yes, met_no, met_as, of_records, of_stored, each}
-use Rattle.vault_audit_tenures.specs.Presence.{AreRowsOf, HasSome, TellPresence}
+use Rattle.vault_audit_tenures.specs.Presence.{AreRowsOf, HasSome, DecidesPresence}
 use Rattle.vault_audit_tenures.proofs.TenureTextLemmas.{tenures_beside, tenures_beside_is}
 
 module _ (db : Database) (es : List Entry) (are : AreEntries db es) (ts : List TenureRow) (rows : AreRowsOf db ts) where
@@ -25,20 +25,20 @@ module _ (db : Database) (es : List Entry) (are : AreEntries db es) (ts : List T
 
   -- what stands beside an entry, by its columns alone
   abbrev Besides : Row → Type 0
-  Besides row = AllByRecursion TellsAbsence (beside_row (col 1 3) 1 0 Tenures row)
+  Besides row = AllByRecursion ReportsAbsence (beside_row (col 1 3) 1 0 Tenures row)
 
   has : (i : ℕ) → list_any (λ s. agrees (column s 1) (number i)) Tenures ≡ list_any (λ t. t.id == i) ts
   has i = met_as tenure_row tenure_columns (number i) (λ t. t.id == i) (λ t. agree_numbers t.id i) ts Tenures rows
 
-  set_yes : AllByRecursion (λ r. AllByRecursion TellsAbsence (beside_row (col 1 4) 1 0 Tenures r)) (db.trees entries_tree) → AllByRecursion (HasSome ts) es
+  set_yes : AllByRecursion (λ r. AllByRecursion ReportsAbsence (beside_row (col 1 4) 1 0 Tenures r)) (db.trees entries_tree) → AllByRecursion (HasSome ts) es
   set_yes all =
-      each (λ e told. sym (has e.id) ∙ met_yes (col 1 3) 1 0 (entry_row e) e.marker (λ s. refl) Tenures told) es (of_records entry_row entry_columns Besides es (db.trees entries_tree) are.0 all)
+      each (λ e stated. sym (has e.id) ∙ met_yes (col 1 3) 1 0 (entry_row e) e.marker (λ s. refl) Tenures stated) es (of_records entry_row entry_columns Besides es (db.trees entries_tree) are.0 all)
 
-  set_no : AllByRecursion (HasSome ts) es → AllByRecursion (λ r. AllByRecursion TellsAbsence (beside_row (col 1 4) 1 0 Tenures r)) (db.trees entries_tree)
+  set_no : AllByRecursion (HasSome ts) es → AllByRecursion (λ r. AllByRecursion ReportsAbsence (beside_row (col 1 4) 1 0 Tenures r)) (db.trees entries_tree)
   set_no all =
-      of_stored entry_row entry_columns Besides es (db.trees entries_tree) are.0 (each (λ e told. met_no (col 1 3) 1 0 (entry_row e) e.marker (λ s. refl) Tenures (has e.id ∙ told)) es all)
+      of_stored entry_row entry_columns Besides es (db.trees entries_tree) are.0 (each (λ e stated. met_no (col 1 3) 1 0 (entry_row e) e.marker (λ s. refl) Tenures (has e.id ∙ stated)) es all)
 
 module _ (old new : State) (has : old.now.schema ≡ schema_of Third) (same : IsUnchanged old new) where
-  pub presence : (b : Bool) → Checked TellsAbsence tenures_beside old new b → TellPresence new.now b
-  presence true h es are ts rows = set_yes new.now es are ts rows (beside_yes tenures_beside_is (λ trees. (refl, refl)) TellsAbsence old new has same h)
-  presence false h es are ts rows = λ all. beside_no tenures_beside_is (λ trees. (refl, refl)) TellsAbsence old new has same h (set_no new.now es are ts rows all)
+  pub presence : (b : Bool) → Checked ReportsAbsence tenures_beside old new b → DecidesPresence new.now b
+  presence true h es are ts rows = set_yes new.now es are ts rows (beside_yes tenures_beside_is (λ trees. (refl, refl)) ReportsAbsence old new has same h)
+  presence false h es are ts rows = λ all. beside_no tenures_beside_is (λ trees. (refl, refl)) ReportsAbsence old new has same h (set_no new.now es are ts rows all)

@@ -16,15 +16,15 @@ use Rattle.vault_core_laws.proofs.Bounds.{day-le, both_true, le_true}
 use Rattle.vault_audit_model.specs.Limits.{IsRemoval, IsTenure}
 use Rattle.vault_audit_model.specs.Relations.{AreNumbered, AreTenuresInLimits, IsTenured, IsTenuredAs}
 use Rattle.vault_audit_model.specs.Spells.{entries_in}
-use Rattle.vault_audit_tenures.specs.declared.sums.tenures.ToldTenure.{ToldTenure}
-use Rattle.vault_audit_tenures.specs.TenureSums.{share_where, last_share, shares_told}
+use Rattle.vault_audit_tenures.specs.declared.sums.tenures.StatedTenure.{StatedTenure}
+use Rattle.vault_audit_tenures.specs.TenureSums.{share_where, last_share, shares_stated}
 
 -- a tenure beside its version
-abbrev pub told : Entry → Tenure → ToldTenure
-told e t = record { id = e.id; tenure = t; size = e.size; removed = option_map (λ r. r.at) e.removal }
+abbrev pub stated : Entry → Tenure → StatedTenure
+stated e t = record { id = e.id; tenure = t; size = e.size; removed = option_map (λ r. r.at) e.removal }
 
-abbrev pub told_in : History → List ToldTenure
-told_in h = map (told h.entry) h.tenures
+abbrev pub stated_in : History → List StatedTenure
+stated_in h = map (stated h.entry) h.tenures
 
 -- ---- one version
 
@@ -39,19 +39,19 @@ removal_days None = refl
 removal_days (Some r) = refl
 
 -- the last of a version, as its history has it
-last_is : (e : Entry) (t : Tenure) (first : Bool) → last_share first (told e t) ≡ share e.size first t (removal_day e.removal) true
+last_is : (e : Entry) (t : Tenure) (first : Bool) → last_share first (stated e t) ≡ share e.size first t (removal_day e.removal) true
 last_is e t first = ap (λ o. share e.size first t o true) (removal_days e.removal)
 
-abbrev IsBefore : ℕ → ToldTenure → Type 0
+abbrev IsBefore : ℕ → StatedTenure → Type 0
 IsBefore id t = id < t.id
 
-one_version : (e : Entry) (first : Bool) (t : Tenure) (ts : List Tenure) (rest : List ToldTenure) → AllByRecursion (IsBefore e.id) rest
-    → shares_told first (told e t ∷ (map (told e) ts ++ rest)) ≡ shares_from e.size e.removal first (t ∷ ts) ++ shares_told true rest
+one_version : (e : Entry) (first : Bool) (t : Tenure) (ts : List Tenure) (rest : List StatedTenure) → AllByRecursion (IsBefore e.id) rest
+    → shares_stated first (stated e t ∷ (map (stated e) ts ++ rest)) ≡ shares_from e.size e.removal first (t ∷ ts) ++ shares_stated true rest
 one_version e first t [] [] later = ap (λ (s : Share). s ∷ []) (last_is e t first)
 one_version e first t [] (k ∷ ks) later =
-    ap (λ b. share_where b first (told e t) k ∷ shares_told (not b) (k ∷ ks)) (other_id e.id k.id later.0) ∙ ap (λ (s : Share). s ∷ shares_told true (k ∷ ks)) (last_is e t first)
+    ap (λ b. share_where b first (stated e t) k ∷ shares_stated (not b) (k ∷ ks)) (other_id e.id k.id later.0) ∙ ap (λ (s : Share). s ∷ shares_stated true (k ∷ ks)) (last_is e t first)
 one_version e first t (u ∷ us) rest later =
-    ap (λ b. share_where b first (told e t) (told e u) ∷ shares_told (not b) (told e u ∷ (map (told e) us ++ rest))) (same_id e.id)
+    ap (λ b. share_where b first (stated e t) (stated e u) ∷ shares_stated (not b) (stated e u ∷ (map (stated e) us ++ rest))) (same_id e.id)
     ∙ ap (λ ss. share e.size first t (Some (day u.from)) false ∷ ss) (one_version e false u us rest later)
 
 -- ---- the versions after it
@@ -60,29 +60,29 @@ both_all : {X : Type 0} (P : X → Type 0) (xs ys : List X) → AllByRecursion P
 both_all P [] ys a b = b
 both_all P (x ∷ xs) ys a b = (a.0, both_all P xs ys a.1 b)
 
-told_later : (id : ℕ) (e : Entry) (ts : List Tenure) → id < e.id → AllByRecursion (IsBefore id) (map (told e) ts)
-told_later id e [] low = tt
-told_later id e (t ∷ ts) low = (low, told_later id e ts low)
+stated_later : (id : ℕ) (e : Entry) (ts : List Tenure) → id < e.id → AllByRecursion (IsBefore id) (map (stated e) ts)
+stated_later id e [] low = tt
+stated_later id e (t ∷ ts) low = (low, stated_later id e ts low)
 
-pub all_later : (id next low : ℕ) (hs : List History) → id < next → AreNumbered next low (entries_in hs) → AllByRecursion (IsBefore id) (flat_map told_in hs)
+pub all_later : (id next low : ℕ) (hs : List History) → id < next → AreNumbered next low (entries_in hs) → AllByRecursion (IsBefore id) (flat_map stated_in hs)
 all_later id next low [] below are = tt
 all_later id next low (h ∷ hs) below are =
     let here = are.0.1.0 in
-    both_all (IsBefore id) (told_in h) (flat_map told_in hs) (told_later id h.entry h.tenures (omega (arith, below, here)))
+    both_all (IsBefore id) (stated_in h) (flat_map stated_in hs) (stated_later id h.entry h.tenures (omega (arith, below, here)))
     (all_later id (next + 1) h.entry.admitted hs (omega (arith, below)) are.1)
 
 -- ---- all of them
 
-by_tenures : (e : Entry) (ts : List Tenure) (rest : List ToldTenure) → AllByRecursion (IsBefore e.id) rest
-    → shares_told true (map (told e) ts ++ rest) ≡ shares_from e.size e.removal true ts ++ shares_told true rest
+by_tenures : (e : Entry) (ts : List Tenure) (rest : List StatedTenure) → AllByRecursion (IsBefore e.id) rest
+    → shares_stated true (map (stated e) ts ++ rest) ≡ shares_from e.size e.removal true ts ++ shares_stated true rest
 by_tenures e [] rest later = refl
 by_tenures e (t ∷ ts) rest later = one_version e true t ts rest later
 
-pub shares_are : (next low : ℕ) (hs : List History) → AreNumbered next low (entries_in hs) → shares_told true (flat_map told_in hs) ≡ flat_map shares_of hs
+pub shares_are : (next low : ℕ) (hs : List History) → AreNumbered next low (entries_in hs) → shares_stated true (flat_map stated_in hs) ≡ flat_map shares_of hs
 shares_are next low [] are = refl
 shares_are next low (h ∷ hs) are =
     let here = are.0.1.0 in
-    by_tenures h.entry h.tenures (flat_map told_in hs) (all_later h.entry.id (next + 1) h.entry.admitted hs (omega (arith, here)) are.1)
+    by_tenures h.entry h.tenures (flat_map stated_in hs) (all_later h.entry.id (next + 1) h.entry.admitted hs (omega (arith, here)) are.1)
     ∙ ap (λ ss. shares_of h ++ ss) (shares_are (next + 1) h.entry.admitted hs are.1)
 
 -- ---- those of a department

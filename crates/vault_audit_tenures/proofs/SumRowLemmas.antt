@@ -7,9 +7,9 @@ use Rattle.vault_audit_model.specs.Rows.{department_row}
 use Rattle.vault_audit_model.proofs.SameRows.{cell, number_same, number_or_null_same, flag_same, text_same, text_or_null_same}
 use Rattle.vault_audit_rows.proofs.RowLemmas as rows
 use Rattle.vault_audit_tenures.specs.declared.sums.owned_entries.OwnedEntry.{OwnedEntry}
-use Rattle.vault_audit_tenures.specs.declared.sums.tenures.ToldTenure.{ToldTenure}
+use Rattle.vault_audit_tenures.specs.declared.sums.tenures.StatedTenure.{StatedTenure}
 use Rattle.vault_audit_tenures.specs.OwnedEntries.{owned_row}
-use Rattle.vault_audit_tenures.specs.TenureSums.{told_row}
+use Rattle.vault_audit_tenures.specs.TenureSums.{stated_row}
 
 pub row_of_6 : (r : Row) (v0 v1 v2 v3 v4 v5 : Value) → length r ≡ 6 → column r 0 ≡ v0 → column r 1 ≡ v1 → column r 2 ≡ v2 → column r 3 ≡ v3 → column r 4 ≡ v4 → column r 5 ≡ v5 → r ≡ v0 ∷ v1 ∷ v2 ∷ v3 ∷ v4 ∷ v5 ∷ []
 row_of_6 = rows.row_of_6
@@ -28,16 +28,16 @@ same_owned x y e =
 
 -- ---- a row of a tenure beside its version
 
-abbrev told_as : ℕ → List ℕ → ℕ → ℕ → ℕ → Option ℕ → ToldTenure
-told_as id dept from number size removed = record { id = id; tenure = record { dept = dept; from = from; number = number }; size = size; removed = removed }
+abbrev stated_as : ℕ → List ℕ → ℕ → ℕ → ℕ → Option ℕ → StatedTenure
+stated_as id dept from number size removed = record { id = id; tenure = record { dept = dept; from = from; number = number }; size = size; removed = removed }
 
-told_alike : (i1 i2 : ℕ) (d1 d2 : List ℕ) (f1 f2 n1 n2 s1 s2 : ℕ) (r1 r2 : Option ℕ) → i1 ≡ i2 → d1 ≡ d2 → f1 ≡ f2 → n1 ≡ n2 → s1 ≡ s2 → r1 ≡ r2 → told_as i1 d1 f1 n1 s1 r1 ≡ told_as i2 d2 f2 n2 s2 r2
-told_alike i1 i2 d1 d2 f1 f2 n1 n2 s1 s2 r1 r2 o p q r s t = rw (o, p, q, r, s, t) refl
+stated_alike : (i1 i2 : ℕ) (d1 d2 : List ℕ) (f1 f2 n1 n2 s1 s2 : ℕ) (r1 r2 : Option ℕ) → i1 ≡ i2 → d1 ≡ d2 → f1 ≡ f2 → n1 ≡ n2 → s1 ≡ s2 → r1 ≡ r2 → stated_as i1 d1 f1 n1 s1 r1 ≡ stated_as i2 d2 f2 n2 s2 r2
+stated_alike i1 i2 d1 d2 f1 f2 n1 n2 s1 s2 r1 r2 o p q r s t = rw (o, p, q, r, s, t) refl
 
-pub same_told : (x y : ToldTenure) → told_row x ≡ told_row y → x ≡ y
-same_told x y e =
-    let one = λ (at : ℕ). cell (told_row x) (told_row y) at e in
-    told_alike x.id y.id x.tenure.dept y.tenure.dept x.tenure.from y.tenure.from x.tenure.number y.tenure.number x.size y.size x.removed y.removed
+pub same_stated : (x y : StatedTenure) → stated_row x ≡ stated_row y → x ≡ y
+same_stated x y e =
+    let one = λ (at : ℕ). cell (stated_row x) (stated_row y) at e in
+    stated_alike x.id y.id x.tenure.dept y.tenure.dept x.tenure.from y.tenure.from x.tenure.number y.tenure.number x.size y.size x.removed y.removed
     (number_same _ _ (one 0)) (text_same _ _ (one 2)) (number_same _ _ (one 3)) (number_same _ _ (one 1)) (number_same _ _ (one 4)) (number_or_null_same _ _ (one 5))
 
 -- ---- a row of a department

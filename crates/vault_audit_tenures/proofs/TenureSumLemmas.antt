@@ -16,24 +16,24 @@ use Rattle.vault_audit_model.specs.declared.schema.Edition.TheVariants.{Third}
 use Rattle.vault_audit_model.specs.Relations.{AreEntries, AreTenuresOf}
 use Rattle.vault_audit_model.specs.Spells.{entries_in}
 use Rattle.vault_audit_model.specs.Tables.{schema_of}
-use Rattle.vault_audit_walk.specs.Records.{TellsOne}
+use Rattle.vault_audit_walk.specs.Records.{ReportsOne}
 use Rattle.vault_audit_walk.specs.Walk.{Goes, Walked}
 use Rattle.vault_audit_walk.proofs.RecordLemmas.{between, front as front_of}
 use Rattle.vault_audit_walk.proofs.ScanLemmas.{goes_on_to}
 use Rattle.vault_audit_tenures.specs.declared.sums.tenures.Pending.{Pending}
 use Rattle.vault_audit_tenures.specs.declared.sums.tenures.TenurePass.{TenurePass}
-use Rattle.vault_audit_tenures.specs.declared.sums.tenures.ToldTenure.{ToldTenure}
+use Rattle.vault_audit_tenures.specs.declared.sums.tenures.StatedTenure.{StatedTenure}
 use Rattle.vault_audit_tenures.specs.declared.sums.totals.Totals.{Totals}
-use Rattle.vault_audit_tenures.specs.TenureSums.{told_row, IsTold, begins, begins_after, last_share, share_before, shares_told, CountsShare, CountsPending, CountsLast, GoesIn, TellsNone}
+use Rattle.vault_audit_tenures.specs.TenureSums.{stated_row, IsStated, begins, begins_after, last_share, share_before, shares_stated, CountsShare, CountsPending, CountsLast, GoesIn, ReportsNone}
 use Rattle.vault_audit_tenures.specs.Totals.{total_of, empty_sums, IsTotal, IsCounted, AreTotals}
-use Rattle.vault_audit_tenures.proofs.SumRowLemmas.{same_told}
-use Rattle.vault_audit_tenures.proofs.ShareLemmas.{told_in, shares_are, items_after, items_are, IsDated, shares_dated}
+use Rattle.vault_audit_tenures.proofs.SumRowLemmas.{same_stated}
+use Rattle.vault_audit_tenures.proofs.ShareLemmas.{stated_in, shares_are, items_after, items_are, IsDated, shares_dated}
 use Rattle.vault_audit_tenures.proofs.SumTextLemmas.{tenures_text, tenures_is}
-use Rattle.vault_audit_tenures.proofs.ToldTenureLemmas.{source, shown_are, row_order, row_order_total, told_rise, answers, each_tells}
+use Rattle.vault_audit_tenures.proofs.StatedTenureLemmas.{source, shown_are, row_order, row_order_total, stated_rise, answers, each_reads_so}
 use Rattle.vault_audit_tenures.proofs.TotalLemmas.{no_item}
 
-abbrev as_pending : ToldTenure → Bool → Pending
-as_pending t first = record { told = t; first = first }
+abbrev as_pending : StatedTenure → Bool → Pending
+as_pending t first = record { stated = t; first = first }
 
 -- ---- the tenures that were met are counted
 
@@ -52,28 +52,28 @@ module _ (name : List ℕ) where
   one_after x xs items = append_assoc items (items_by name (x ∷ [])) (items_by name xs) ∙ ap (λ (is : List Item). items ++ is) (sym (items_after name (x ∷ []) xs))
 
   -- with a tenure pending
-  went : (p q : TenurePass) (r : Totals) (rows : List Values) (first : Bool) (t : ToldTenure) (us : List ToldTenure) (items : List Item) → p.pending ≡ Some (as_pending t first) → rows ≡ map told_row us
-      → AllByRecursion IsDated (shares_told first (t ∷ us)) → Goes GoesIn p rows q → CountsLast q.totals q.pending r → IsTotal (total p.totals) items
-      → IsTotal (total r) (items ++ items_by name (shares_told first (t ∷ us)))
+  went : (p q : TenurePass) (r : Totals) (rows : List Values) (first : Bool) (t : StatedTenure) (us : List StatedTenure) (items : List Item) → p.pending ≡ Some (as_pending t first) → rows ≡ map stated_row us
+      → AllByRecursion IsDated (shares_stated first (t ∷ us)) → Goes GoesIn p rows q → CountsLast q.totals q.pending r → IsTotal (total p.totals) items
+      → IsTotal (total r) (items ++ items_by name (shares_stated first (t ∷ us)))
   went p q r [] first t [] items alone e dates goes left are =
       let here : CountsLast p.totals p.pending r = subst (λ (s : TenurePass). CountsLast s.totals s.pending r) (sym goes) left in
       one_share p.totals r (last_share first t) items (subst (λ o. CountsLast p.totals o r) alone here) dates.0 are
   went p q r [] first t (u ∷ us) items alone e dates goes left are = absurd cc
   went p q r (row ∷ rows) first t [] items alone e dates goes left are = absurd cc
   went p q r (row ∷ rows) first t (u ∷ us) items alone e dates (m, one, more) left are =
-      let front : row ≡ told_row u = cc in
-      let rest : rows ≡ map told_row us = cc in
-      let same : one.0 ≡ u = same_told one.0 u (sym one.1 ∙ front) in
+      let front : row ≡ stated_row u = cc in
+      let rest : rows ≡ map stated_row us = cc in
+      let same : one.0 ≡ u = same_stated one.0 u (sym one.1 ∙ front) in
       let counts : CountsPending p.totals p.pending u m.totals = subst (λ x. CountsPending p.totals p.pending x m.totals) same one.2 in
       let now = one_share p.totals m.totals (share_before first t u) items (subst (λ o. CountsPending p.totals o u m.totals) alone counts) dates.0 are in
       let pending : m.pending ≡ Some (as_pending u (begins_after t u)) =
       one.3 ∙ ap (λ x. Some (as_pending x (begins p.pending x))) same ∙ ap (λ o. Some (as_pending u (begins o u))) alone in
-      subst (IsTotal (total r)) (one_after (share_before first t u) (shares_told (begins_after t u) (u ∷ us)) items)
+      subst (IsTotal (total r)) (one_after (share_before first t u) (shares_stated (begins_after t u) (u ∷ us)) items)
       (went m q r rows (begins_after t u) u us (items ++ items_by name (share_before first t u ∷ [])) pending rest dates.1 more left now)
 
   -- with none
-  begun : (p q : TenurePass) (r : Totals) (rows : List Values) (ts : List ToldTenure) → p.pending ≡ None → rows ≡ map told_row ts → AllByRecursion IsDated (shares_told true ts)
-      → Goes GoesIn p rows q → CountsLast q.totals q.pending r → IsTotal (total p.totals) [] → IsTotal (total r) (items_by name (shares_told true ts))
+  begun : (p q : TenurePass) (r : Totals) (rows : List Values) (ts : List StatedTenure) → p.pending ≡ None → rows ≡ map stated_row ts → AllByRecursion IsDated (shares_stated true ts)
+      → Goes GoesIn p rows q → CountsLast q.totals q.pending r → IsTotal (total p.totals) [] → IsTotal (total r) (items_by name (shares_stated true ts))
   begun p q r [] [] none e dates goes left are =
       let here : CountsLast p.totals p.pending r = subst (λ (s : TenurePass). CountsLast s.totals s.pending r) (sym goes) left in
       let same : r ≡ p.totals = subst (λ o. CountsLast p.totals o r) none here in
@@ -81,9 +81,9 @@ module _ (name : List ℕ) where
   begun p q r [] (t ∷ ts) none e dates goes left are = absurd cc
   begun p q r (row ∷ rows) [] none e dates goes left are = absurd cc
   begun p q r (row ∷ rows) (t ∷ ts) none e dates (m, one, more) left are =
-      let front : row ≡ told_row t = cc in
-      let rest : rows ≡ map told_row ts = cc in
-      let same : one.0 ≡ t = same_told one.0 t (sym one.1 ∙ front) in
+      let front : row ≡ stated_row t = cc in
+      let rest : rows ≡ map stated_row ts = cc in
+      let same : one.0 ≡ t = same_stated one.0 t (sym one.1 ∙ front) in
       let still : m.totals ≡ p.totals = subst (λ o. CountsPending p.totals o one.0 m.totals) none one.2 in
       let pending : m.pending ≡ Some (as_pending t true) = one.3 ∙ ap (λ x. Some (as_pending x (begins p.pending x))) same ∙ ap (λ o. Some (as_pending t (begins o t))) none in
       went m q r rows true t ts [] pending rest dates more left (subst (λ s. IsTotal (total s) []) (sym still) are)
@@ -91,26 +91,26 @@ module _ (name : List ℕ) where
 -- ---- the walk
 
 module _ (old new : State) (has : old.now.schema ≡ schema_of Third) (same : IsUnchanged old new) (p q : TenurePass) (v : Vault) (entries : AreEntries new.now (entries_in v.histories)) (are : AreTenuresOf Third new.now v) where
-  abbrev met : List ToldTenure
-  met = flat_map told_in v.histories
+  abbrev met : List StatedTenure
+  met = flat_map stated_in v.histories
 
   known : new.now.schema ≡ schema_of Third
   known = ap (λ (d : Database). d.schema) same.0.now_is ∙ has
 
-  pub tenures_yes : ((name : List ℕ) → total_of p.totals name ≡ Some empty_sums) → p.pending ≡ None → Walked GoesIn TellsNone tenures_text old new p q true → (r : Totals) → CountsLast q.totals q.pending r → AreTotals v.histories r
+  pub tenures_yes : ((name : List ℕ) → total_of p.totals name ≡ Some empty_sums) → p.pending ≡ None → Walked GoesIn ReportsNone tenures_text old new p q true → (r : Totals) → CountsLast q.totals q.pending r → AreTotals v.histories r
   tenures_yes empty none (rows, shown, goes) r left name =
       let whole = answers old new has rows shown in
-      let shuffled = subst (λ (d : Database). IsPermutation (map told_row met) (source d)) same.0.now_is (shown_are new.now v.histories entries are.rows) in
-      let order = sorted_unique row_order row_order_total (map told_row met) rows (told_rise v 1 0 v.histories entries.1 are.tenured) (IsPermutation-trans _ _ _ shuffled whole.0) whole.1 in
+      let shuffled = subst (λ (d : Database). IsPermutation (map stated_row met) (source d)) same.0.now_is (shown_are new.now v.histories entries are.rows) in
+      let order = sorted_unique row_order row_order_total (map stated_row met) rows (stated_rise v 1 0 v.histories entries.1 are.tenured) (IsPermutation-trans _ _ _ shuffled whole.0) whole.1 in
       let shares = shares_are 1 0 v.histories entries.1 in
       let dates = subst (AllByRecursion IsDated) (sym shares) (shares_dated v 1 0 v.histories entries.1 are.tenured are.limits) in
       let counted = begun name p q r rows met none order dates goes left (subst (λ o. IsTotal o []) (sym (empty name)) no_item) in
       subst (IsTotal (total_of r name)) (ap (items_by name) shares ∙ items_are name v.histories) counted
 
-  pub tenures_no : ¬ Walked GoesIn TellsNone tenures_text old new p q false
+  pub tenures_no : ¬ Walked GoesIn ReportsNone tenures_text old new p q false
   tenures_no (rows, row, m, begins, goes, never) =
       let on = goes_on_to tenures_text new (schema_of Third) known _ _ tenures_is.0 same.0.is_open (rows ++ row ∷ []) begins in
       let whole = answers new new known ((rows ++ row ∷ []) ++ on.0) on.1 in
-      let every = all-permutation (TellsOne told_row IsTold) _ _ (IsPermutation-trans _ _ _ (shown_are new.now v.histories entries are.rows) whole.0) (each_tells 1 0 v.histories entries.1 are.limits) in
-      let it = between (TellsOne told_row IsTold) rows row [] (front_of (TellsOne told_row IsTold) (rows ++ row ∷ []) on.0 every) in
+      let every = all-permutation (ReportsOne stated_row IsStated) _ _ (IsPermutation-trans _ _ _ (shown_are new.now v.histories entries are.rows) whole.0) (each_reads_so 1 0 v.histories entries.1 are.limits) in
+      let it = between (ReportsOne stated_row IsStated) rows row [] (front_of (ReportsOne stated_row IsStated) (rows ++ row ∷ []) on.0 every) in
       never it.0 it.2 it.1

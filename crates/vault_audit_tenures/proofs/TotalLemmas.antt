@@ -46,7 +46,7 @@ above_before items x above within = let more = sum_by_push size_of items x in ab
 pub above_now : (sums : Row) (items : List Item) (x : Item) → IsRowOf sums items → (¬ (sums.admitted + sums.received + x.size ≤ quota)) → ¬ (sum_by size_of (items ++ x ∷ []) ≤ quota)
 above_now sums items x is above within = let more = sum_by_push size_of items x in above (omega (arith, more, sizes_are sums items is, within))
 
--- what is told of one tenure is told of the same in other words
+-- what is said of one tenure is said of the same in other words
 pub counted_in : (sums : Row) (items : List Item) (x y : Item) → x ≡ y → (AreBounded (items ++ x ∷ []) → IsRowOf sums (items ++ x ∷ [])) → AreBounded (items ++ y ∷ []) → IsRowOf sums (items ++ y ∷ [])
 counted_in sums items x y same counts = subst (λ i. AreBounded (items ++ i ∷ []) → IsRowOf sums (items ++ i ∷ [])) same counts
 

@@ -1,4 +1,4 @@
--- Where no bucket was moved, buckets and entries tell the tenures.
+-- Where no bucket was moved, buckets and entries state the tenures.
 use Rattle.std.proofs.Common.{◌≡◌, ◌≤◌, ◌+◌, ℕ, Bool, true, false, List, [], ◌∷◌, map, Option, Some, None, option_map, IfSome, IsSome, refl, sym, ap, arith}
 use Rattle.std.specs.List.{AllByRecursion}
 use Rattle.std.specs.Str.{bytes_eq}
@@ -17,7 +17,7 @@ use Rattle.vault_core_model.specs.Vault.{Vault, bucket_in, config_in, config_of}
 use Rattle.vault_audit_model.specs.declared.rows.MetaRow.{MetaRow}
 use Rattle.vault_audit_model.specs.declared.schema.Edition.TheVariants.{First, Second}
 use Rattle.vault_audit_model.specs.Limits.{IsBucket, IsPlainName, IsTenure}
-use Rattle.vault_audit_model.specs.Relations.{AreNumbered, AreTenuresInLimits, IsPast, IsTenured, IsTenuredAs, TellTenures}
+use Rattle.vault_audit_model.specs.Relations.{AreNumbered, AreTenuresInLimits, IsPast, IsTenured, IsTenuredAs, DecidesTenures}
 use Rattle.vault_audit_model.specs.Rows.{meta_row, meta_columns_as}
 use Rattle.vault_audit_model.specs.Spells.{entries_in}
 use Rattle.vault_audit_model.specs.Tables.{meta_tree}
@@ -92,8 +92,8 @@ module _ (v : Vault) where
     unmoved : IsUnmoved (record v { histories = made })
     unmoved = record { moves = moves; tenures = all_first v.buckets v.histories }
 
-    pub told_of_first : TellTenures First db v true
-    told_of_first = (
+    pub stated_of_first : DecidesTenures First db v true
+    stated_of_first = (
       made,
       (
         map-map (λ (h : History). h.entry) (tenured_in v.buckets) v.histories,
@@ -106,8 +106,8 @@ module _ (v : Vault) where
       ),
     )
 
-    pub told_of_second : TellTenures Second db v true
-    told_of_second = (
+    pub stated_of_second : DecidesTenures Second db v true
+    stated_of_second = (
       made,
       (
         map-map (λ (h : History). h.entry) (tenured_in v.buckets) v.histories,

@@ -87,8 +87,8 @@ abbrev pub shown_in : Database → List Row
 shown_in db = flat_map (shown_beside (db.trees entries_tree) (db.trees buckets_tree)) (db.trees tenures_tree)
 
 -- whether the tenures of each version that has any follow one another, from its admission to its end
-abbrev pub TellChains : ℕ → ℕ → Database → Bool → Type 0
-TellChains moves last db true =
+abbrev pub DecidesChains : ℕ → ℕ → Database → Bool → Type 0
+DecidesChains moves last db true =
     (ts : List OwnedTenure) × IsPermutation (map owned_row ts) (shown_in db) × Fit (no_tenure moves last) ts × AreEnded (no_tenure moves last) ts
-TellChains moves last db false =
+DecidesChains moves last db false =
     (ts : List OwnedTenure) → IsPermutation (map owned_row ts) (shown_in db) → Fit (no_tenure moves last) ts → ¬ AreEnded (no_tenure moves last) ts

@@ -7,7 +7,7 @@ use Rattle.vault_audit_model.specs.declared.rows.TenureRow.{TenureRow}
 use Rattle.vault_audit_model.specs.Relations.{AreEntries}
 use Rattle.vault_audit_model.specs.Rows.{tenure_row, tenure_columns}
 use Rattle.vault_audit_model.specs.Tables.{tenures_tree}
-use Rattle.vault_audit_walk.specs.Beside.{Tell}
+use Rattle.vault_audit_walk.specs.Beside.{Decides}
 
 -- the rows of tenures are these, in any order
 abbrev pub AreRowsOf : Database → List TenureRow → Type 0
@@ -18,5 +18,5 @@ abbrev pub HasSome : List TenureRow → Entry → Type 0
 HasSome ts e = list_any (λ t. t.id == e.id) ts ≡ not e.marker
 
 -- whether each version has a tenure and no marker has one
-abbrev pub TellPresence : Database → Bool → Type 0
-TellPresence db b = (es : List Entry) → AreEntries db es → (ts : List TenureRow) → AreRowsOf db ts → Tell b (AllByRecursion (HasSome ts) es)
+abbrev pub DecidesPresence : Database → Bool → Type 0
+DecidesPresence db b = (es : List Entry) → AreEntries db es → (ts : List TenureRow) → AreRowsOf db ts → Decides b (AllByRecursion (HasSome ts) es)

@@ -1,6 +1,6 @@
 //! Tenures beside their versions and the departments of their buckets.
 ghost use Rattle.std.specs.Prelude.{◌≡◌, ◌≢◌, Option, IfOk, IfErr};
-ghost use Rattle.vault_audit_tenures.specs.declared.owned_tenures.OwnedTenure.{OwnedTenure as Told};
+ghost use Rattle.vault_audit_tenures.specs.declared.owned_tenures.OwnedTenure.{OwnedTenure as Reported};
 ghost use Rattle.vault_audit_tenures.specs.OwnedTenures.{owned_row, IsOwned};
 
 use sqlite::Row;
@@ -30,7 +30,7 @@ pub struct OwnedTenure {
 #[tactic(auto, using(crate::proofs::TenureRowLemmas::row_of_7))]
 pub fn read_owned(row: &Row) -> Result<OwnedTenure, Misread>
     ensures ok { IfOk result (λ t. (row.now ≡ owned_row t) × IsOwned t) }
-    ensures wrong { IfErr result (λ e. e ≡ Misread.Wrong → (x : Told) → IsOwned x → row.now ≢ owned_row x) }
+    ensures wrong { IfErr result (λ e. e ≡ Misread.Wrong → (x : Reported) → IsOwned x → row.now ≢ owned_row x) }
 {
     if row.column_count() != 7 {
         return Err(Misread::Wrong);

@@ -3,7 +3,7 @@ ghost use Rattle.std.specs.Prelude.{IfOk, IfErr};
 ghost use Rattle.sqlite.specs.State.{HasCleanDisk};
 ghost use Rattle.sqlite.specs.Held.{state};
 ghost use Rattle.vault_audit_model.specs.declared.schema.Edition.TheVariants.{Third};
-ghost use Rattle.vault_audit_tenures.specs.Presence.{TellPresence};
+ghost use Rattle.vault_audit_tenures.specs.Presence.{DecidesPresence};
 ghost use Rattle.vault_audit_walk.specs.Health.{IsHealthy, IsMemory, IsOfEdition, OnlyLooks};
 
 use sqlite::{Alter, Connection, Error};
@@ -13,7 +13,7 @@ use vault_audit_walk::check::check_rows;
 /// Whether each version has a tenure, and no marker has one.
 pub(crate) fn have_tenures<S: Alter>(conn: &mut Connection<S>) -> Result<bool, Error>
     requires { IsOfEdition S.Store conn.old Third }
-    ensures reported { HasCleanDisk (state S.Store conn.new) → IfOk result (TellPresence (state S.Store conn.new).now) }
+    ensures reported { HasCleanDisk (state S.Store conn.new) → IfOk result (DecidesPresence (state S.Store conn.new).now) }
     ensures look { OnlyLooks S.Store conn.old conn.new result }
     ensures err { IsHealthy (state S.Store conn.new) → IfErr result IsMemory }
 {

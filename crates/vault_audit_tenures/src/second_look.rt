@@ -7,7 +7,7 @@ ghost use Rattle.vault_core_model.specs.Sound.{IsPlaced};
 ghost use Rattle.vault_core_model.specs.Vault.{Vault};
 ghost use Rattle.vault_audit_model.specs.Spells.{AreSoundAs, entries_in};
 ghost use Rattle.vault_audit_model.specs.declared.schema.Edition.TheVariants.{Third};
-ghost use Rattle.vault_audit_model.specs.Relations.{AreBuckets, AreEntries, IsPast, TellTenures};
+ghost use Rattle.vault_audit_model.specs.Relations.{AreBuckets, AreEntries, IsPast, DecidesTenures};
 ghost use Rattle.vault_audit_records.specs.Meta.{IsMetaOf};
 ghost use Rattle.vault_audit_walk.specs.Health.{IsHealthy, IsMemory, IsOfEdition, OnlyLooks};
 
@@ -28,7 +28,7 @@ fn check_rows_of_tenures<S: Alter>(
 ) -> Result<bool, Error>
     requires { IsOfEdition S.Store conn.old Third }
     ensures reported { HasCleanDisk (state S.Store conn.new) → IfOk result (λ found. (v : Vault) → v.last ≡ last → v.moves ≡ moves →
-        AreBuckets Third (state S.Store conn.new).now v.buckets → AreEntries (state S.Store conn.new).now (entries_in v.histories) → TellTenures Third (state S.Store conn.new).now v found) }
+        AreBuckets Third (state S.Store conn.new).now v.buckets → AreEntries (state S.Store conn.new).now (entries_in v.histories) → DecidesTenures Third (state S.Store conn.new).now v found) }
     ensures look { OnlyLooks S.Store conn.old conn.new result }
     ensures err { IsHealthy (state S.Store conn.new) → IfErr result IsMemory }
 {
@@ -51,7 +51,7 @@ pub fn check_tenures<S: Alter>(
     ensures reported { HasCleanDisk (state S.Store conn.new) → IfOk result (λ found. IsMetaOf edition (state S.Store conn.new).now (Some meta) →
         (v : Vault) → v.last ≡ meta.last → v.moves ≡ meta.moves →
         AreBuckets edition (state S.Store conn.new).now v.buckets → AreEntries (state S.Store conn.new).now (entries_in v.histories) →
-        AllByRecursion (IsPast v.last) (entries_in v.histories) → AllByRecursion (IsPlaced v) v.histories → TellTenures edition (state S.Store conn.new).now v found) }
+        AllByRecursion (IsPast v.last) (entries_in v.histories) → AllByRecursion (IsPlaced v) v.histories → DecidesTenures edition (state S.Store conn.new).now v found) }
     ensures damaged { HasCleanDisk (state S.Store conn.new) → IfOk result (λ found. found ≡ false → IsMetaOf edition (state S.Store conn.new).now (Some meta) → (v : Vault) → ¬ AreSoundAs edition (state S.Store conn.new).now v) }
     ensures look { OnlyLooks S.Store conn.old conn.new result }
     ensures err { IsHealthy (state S.Store conn.new) → IfErr result IsMemory }

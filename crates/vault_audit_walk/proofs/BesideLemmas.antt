@@ -32,7 +32,7 @@ use Rattle.vault_audit_model.proofs.ValueLemmas.{agrees, truth_back}
 use Rattle.vault_audit_walk.specs.Records.{Checked}
 use Rattle.vault_audit_walk.proofs.ScanLemmas.{goes_on_to}
 use Rattle.vault_audit_walk.proofs.RecordLemmas.{between, front}
-use Rattle.vault_audit_walk.specs.Beside.{IsAbsentAs, TellsAbsence}
+use Rattle.vault_audit_walk.specs.Beside.{IsAbsentAs, ReportsAbsence}
 
 -- ---- lists
 
@@ -165,7 +165,7 @@ empty_filter : {A : Type 0} (p : A → Bool) (xs : List A) → is_empty (filter 
 empty_filter p [] = refl
 empty_filter p (x ∷ xs) = elim (p x) as (λ b. is_empty (cond b (x ∷ filter p xs) (filter p xs)) ≡ not (b || list_any p xs)) [ true ↦ refl | false ↦ empty_filter p xs ]
 
-module _ (shown : Term) (c d : ℕ) (r : Row) (b : Bool) (tells : (s : Row) → eval shown ([] ∷ r ∷ s ∷ []) ≡ flag b) where
+module _ (shown : Term) (c d : ℕ) (r : Row) (b : Bool) (reads_so : (s : Row) → eval shown ([] ∷ r ∷ s ∷ []) ≡ flag b) where
   abbrev is_beside : Row → Bool
   is_beside s = agrees (column s c) (column r d) && true
 
@@ -182,9 +182,9 @@ module _ (shown : Term) (c d : ℕ) (r : Row) (b : Bool) (tells : (s : Row) → 
   abbrev Shown_by : Row → Row
   Shown_by = pair_shown shown c r
 
-  one_yes : (s : Row) (e : Bool) → IsAbsentAs e (column s c) → TellsAbsence (Shown_by s) → e ≡ b
-  one_yes s e is (k, told, absent) =
-      let same : k ≡ b = flag_same k b (sym told ∙ tells s) in
+  one_yes : (s : Row) (e : Bool) → IsAbsentAs e (column s c) → ReportsAbsence (Shown_by s) → e ≡ b
+  one_yes s e is (k, stated, absent) =
+      let same : k ≡ b = flag_same k b (sym stated ∙ reads_so s) in
       alike e k is absent ∙ same
     where
       alike : (e k : Bool) → IsAbsentAs e (column s c) → IsAbsentAs k (column s c) → e ≡ k
@@ -193,32 +193,32 @@ module _ (shown : Term) (c d : ℕ) (r : Row) (b : Bool) (tells : (s : Row) → 
       alike true false p q = absurd (q p)
       alike false true p q = absurd (p q)
 
-  one_no : (s : Row) (e : Bool) → IsAbsentAs e (column s c) → e ≡ b → TellsAbsence (Shown_by s)
-  one_no s e is same = (e, tells s ∙ ap flag (sym same), is)
+  one_no : (s : Row) (e : Bool) → IsAbsentAs e (column s c) → e ≡ b → ReportsAbsence (Shown_by s)
+  one_no s e is same = (e, reads_so s ∙ ap flag (sym same), is)
 
   there : (s : Row) → is_beside s ≡ true → IsAbsentAs false (column s c)
   there s h = null_apart (column s c) (column r d) (sym (and_true _) ∙ h)
 
-  rows_yes : (xs : List Row) → AllByRecursion (λ s. is_beside s ≡ true) xs → AllByRecursion TellsAbsence (map Shown_by (or_nulls xs)) → is_empty xs ≡ b
-  rows_yes [] all told = one_yes [] true refl told.0
-  rows_yes (s ∷ xs) all told = one_yes s false (there s all.0) told.0
+  rows_yes : (xs : List Row) → AllByRecursion (λ s. is_beside s ≡ true) xs → AllByRecursion ReportsAbsence (map Shown_by (or_nulls xs)) → is_empty xs ≡ b
+  rows_yes [] all stated = one_yes [] true refl stated.0
+  rows_yes (s ∷ xs) all stated = one_yes s false (there s all.0) stated.0
 
-  rows_no : (xs : List Row) → AllByRecursion (λ s. is_beside s ≡ true) xs → false ≡ b → AllByRecursion TellsAbsence (map Shown_by xs)
+  rows_no : (xs : List Row) → AllByRecursion (λ s. is_beside s ≡ true) xs → false ≡ b → AllByRecursion ReportsAbsence (map Shown_by xs)
   rows_no [] all same = tt
   rows_no (s ∷ xs) all same = (one_no s false (there s all.0) same, rows_no xs all.1 same)
 
-  or_none : (xs : List Row) → AllByRecursion (λ s. is_beside s ≡ true) xs → is_empty xs ≡ b → AllByRecursion TellsAbsence (map Shown_by (or_nulls xs))
+  or_none : (xs : List Row) → AllByRecursion (λ s. is_beside s ≡ true) xs → is_empty xs ≡ b → AllByRecursion ReportsAbsence (map Shown_by (or_nulls xs))
   or_none [] all same = (one_no [] true refl same, tt)
   or_none (s ∷ xs) all same = rows_no (s ∷ xs) all same
 
   agreeing : (others : List Row) → AllByRecursion (λ s. is_beside s ≡ true) (filter is_beside others)
   agreeing others = recursion_from_All (λ s. is_beside s ≡ true) _ (filter_passes is_beside others)
 
-  -- what the rows beside it tell is whether some row agrees
-  pub met_yes : (others : List Row) → AllByRecursion TellsAbsence (beside_row shown c d others r) → is_met others ≡ not b
-  met_yes others told = turned b (is_met others) (sym (rows_yes (filter is_beside others) (agreeing others) told) ∙ none_there others)
+  -- what the rows beside it state is whether some row agrees
+  pub met_yes : (others : List Row) → AllByRecursion ReportsAbsence (beside_row shown c d others r) → is_met others ≡ not b
+  met_yes others stated = turned b (is_met others) (sym (rows_yes (filter is_beside others) (agreeing others) stated) ∙ none_there others)
 
-  pub met_no : (others : List Row) → is_met others ≡ not b → AllByRecursion TellsAbsence (beside_row shown c d others r)
+  pub met_no : (others : List Row) → is_met others ≡ not b → AllByRecursion ReportsAbsence (beside_row shown c d others r)
   met_no others same = or_none (filter is_beside others) (agreeing others) (none_there others ∙ sym (turned (is_met others) b same))
 
 -- ---- records

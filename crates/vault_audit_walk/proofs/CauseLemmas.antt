@@ -23,12 +23,12 @@ failed : (old new : State) → IsHealthy new → HasCause old new ⊥ Io → ⊥
 failed old new well more = omega (arith, more, well.unfailed)
 
 by_store : (old new : State) → IsHealthy new → (e : Error) → Fails old new ⊥ e → IsMemory e
-by_store old new well e (OutOfMemory, is, cause, undone, told) = is
-by_store old new well e (Io, is, cause, undone, told) = absurd (failed old new well cause)
-by_store old new well e (Corrupt, is, cause, undone, told) = absurd (failed old new well cause)
-by_store old new well e (Full, is, cause, undone, told) = absurd (failed old new well cause)
-by_store old new well e (Broken, is, cause, undone, told) = absurd (let is_open : IsTrue old.is_open = undone.was_open well.is_open in cc (cause, is_open))
-by_store old new well e (Unstorable, is, cause, undone, told) = absurd cause
+by_store old new well e (OutOfMemory, is, cause, undone, stated) = is
+by_store old new well e (Io, is, cause, undone, stated) = absurd (failed old new well cause)
+by_store old new well e (Corrupt, is, cause, undone, stated) = absurd (failed old new well cause)
+by_store old new well e (Full, is, cause, undone, stated) = absurd (failed old new well cause)
+by_store old new well e (Broken, is, cause, undone, stated) = absurd (let is_open : IsTrue old.is_open = undone.was_open well.is_open in cc (cause, is_open))
+by_store old new well e (Unstorable, is, cause, undone, stated) = absurd cause
 
 never_sums : (db : Trees) (q : Query) → q.group ≡ None → has_no_fold q.from ≡ true → ¬ QueryOverflows q db []
 never_sums db q none plain (inl over) = rw none at over

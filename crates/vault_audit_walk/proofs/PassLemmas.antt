@@ -16,7 +16,7 @@ use Rattle.vault_audit_walk.specs.Pass.{Takes, Refuses, AllFit, after}
 use Rattle.vault_audit_walk.specs.Walk.{Goes, Walked}
 use Rattle.vault_audit_walk.proofs.ScanLemmas.{first_cmp, first_cmp_total, goes_on_to}
 
--- where items of one row lead on alike, also where the row doesn't tell all of an item
+-- where items of one row lead on alike, also where the row doesn't state all of an item
 module _ {P X : Type 0} (row_of : X → Row) (Fits : P → X → Type 0) (next : P → X → P) (same_next : (p : P) (x y : X) → row_of x ≡ row_of y → next p x ≡ next p y) where
   abbrev step : P → Row → P → Type 0
   step = Takes row_of Fits next

@@ -17,7 +17,7 @@ use Rattle.sqlite.specs.declared.error.Error.{Error}
 use Rattle.sqlite.specs.Listing.{understood, reads_listing}
 use Rattle.sqlite.specs.State.{State, Shown, IsUnchanged}
 use Rattle.sqlite.proofs.Callers.{IsPlain, command_of, reads_as}
-use Rattle.vault_audit_walk.specs.Records.{TellsOne, Checked, AreRecords}
+use Rattle.vault_audit_walk.specs.Records.{ReportsOne, Checked, AreRecords}
 use Rattle.vault_audit_walk.proofs.ScanLemmas.{shows, matched_in, goes_on_to}
 
 -- ---- lists
@@ -74,43 +74,43 @@ scanned schema sql t columns names it old new has same rows h =
 
 module _ {X : Type 0} (row_of : X → Row) (Is : X → Type 0) where
   -- rows that hold a record each are those of a list of records
-  told : (rows : List Row) → AllByRecursion (TellsOne row_of Is) rows → (xs : List X) × (rows ≡ map row_of xs) × AllByRecursion Is xs
-  told [] all = ([], refl, tt)
-  told (r ∷ rows) (one, all) =
-      let it = told rows all in
+  stated : (rows : List Row) → AllByRecursion (ReportsOne row_of Is) rows → (xs : List X) × (rows ≡ map row_of xs) × AllByRecursion Is xs
+  stated [] all = ([], refl, tt)
+  stated (r ∷ rows) (one, all) =
+      let it = stated rows all in
       (one.0 ∷ it.0, cc (one.1, it.1), (one.2, it.2))
 
-  -- each row of such a list tells one
-  telling : (xs : List X) → AllByRecursion Is xs → AllByRecursion (TellsOne row_of Is) (map row_of xs)
-  telling [] all = tt
-  telling (x ∷ xs) all = ((x, refl, all.0), telling xs all.1)
+  -- each row of such a list states one
+  stating : (xs : List X) → AllByRecursion Is xs → AllByRecursion (ReportsOne row_of Is) (map row_of xs)
+  stating [] all = tt
+  stating (x ∷ xs) all = ((x, refl, all.0), stating xs all.1)
 
   module _ (schema : Schema) (sql : List ℕ) (t : ℕ) (columns : List Term) (names : List (List ℕ)) (it : Scans schema sql t columns names) (old new : State) (has : old.now.schema ≡ schema)
       (bare : (trees : Trees) → overlay trees [] t ≡ trees t) (same : IsUnchanged old new) where
-    yes_all : Checked (TellsOne row_of Is) sql old new true → AreRecords row_of Is (map (shows columns []) (new.now.trees t)) true
+    yes_all : Checked (ReportsOne row_of Is) sql old new true → AreRecords row_of Is (map (shows columns []) (new.now.trees t)) true
     yes_all (rows, shown, all) =
-        let are = told rows all in
+        let are = stated rows all in
         let whole = scanned schema sql t columns names it old new has (bare old.now.trees) rows shown in
         let db : new.now ≡ old.now = same.0.now_is in
         (are.0, subst (λ (d : Database). IsPermutation (map row_of are.0) (map (shows columns []) (d.trees t))) (sym db) (subst (λ xs. IsPermutation xs (map (shows columns []) (old.now.trees t))) are.1 (IsPermutation-sym _ _ whole)), are.2)
 
-    no_all : Checked (TellsOne row_of Is) sql old new false → AreRecords row_of Is (map (shows columns []) (new.now.trees t)) false
+    no_all : Checked (ReportsOne row_of Is) sql old new false → AreRecords row_of Is (map (shows columns []) (new.now.trees t)) false
     no_all (rows, row, begins, none) xs are all =
         let known : new.now.schema ≡ schema = ap (λ (d : Database). d.schema) same.0.now_is ∙ has in
         let on = goes_on_to sql new schema known _ names it.command same.0.is_open (rows ++ row ∷ []) begins in
         let whole = scanned schema sql t columns names it new new known (bare new.now.trees) ((rows ++ row ∷ []) ++ on.0) on.1 in
         let shuffled = IsPermutation-trans _ _ _ are whole in
-        let every = recursion_from_All (TellsOne row_of Is) _ (All-permutation (TellsOne row_of Is) (map row_of xs) ((rows ++ row ∷ []) ++ on.0) shuffled (All-from_recursion (TellsOne row_of Is) (map row_of xs) (telling xs all))) in
-        let one = between (TellsOne row_of Is) rows row [] (front (TellsOne row_of Is) (rows ++ row ∷ []) on.0 every) in
+        let every = recursion_from_All (ReportsOne row_of Is) _ (All-permutation (ReportsOne row_of Is) (map row_of xs) ((rows ++ row ∷ []) ++ on.0) shuffled (All-from_recursion (ReportsOne row_of Is) (map row_of xs) (stating xs all))) in
+        let one = between (ReportsOne row_of Is) rows row [] (front (ReportsOne row_of Is) (rows ++ row ∷ []) on.0 every) in
         none one
 
-    -- what a walk tells of all rows of the table
-    pub records_of : (told : Bool) → Checked (TellsOne row_of Is) sql old new told → AreRecords row_of Is (map (shows columns []) (new.now.trees t)) told
+    -- what a walk says of all rows of the table
+    pub records_of : (stated : Bool) → Checked (ReportsOne row_of Is) sql old new stated → AreRecords row_of Is (map (shows columns []) (new.now.trees t)) stated
     records_of true = yes_all
     records_of false = no_all
 
 -- the same of the answer of such a walk
 pub records_if_ok : {X : Type 0} (row_of : X → Row) (Is : X → Type 0) {schema : Schema} {sql : List ℕ} {t : ℕ} {columns : List Term} {names : List (List ℕ)} → Scans schema sql t columns names → (old new : State) → old.now.schema ≡ schema
-    → ((trees : Trees) → overlay trees [] t ≡ trees t) → (answer : Result Bool Error) → OnOk answer (IsUnchanged old new) → IfOk answer (Checked (TellsOne row_of Is) sql old new) → IfOk answer (AreRecords row_of Is (map (shows columns []) (new.now.trees t)))
+    → ((trees : Trees) → overlay trees [] t ≡ trees t) → (answer : Result Bool Error) → OnOk answer (IsUnchanged old new) → IfOk answer (Checked (ReportsOne row_of Is) sql old new) → IfOk answer (AreRecords row_of Is (map (shows columns []) (new.now.trees t)))
 records_if_ok row_of Is it old new has bare (Ok b) same walked = records_of row_of Is _ _ _ _ _ it old new has bare same b walked
 records_if_ok row_of Is it old new has bare (Err e) same walked = tt

@@ -1,4 +1,4 @@
--- Rows that tell whether a row of another table stands beside one.
+-- Rows that say whether a row of another table stands beside one.
 use Rattle.std.specs.Prelude.{◌≡◌, ◌≢◌, Bool, true, false, MatchBool}
 use Rattle.sqlite_value.specs.declared.value.Value.{Value}
 use Rattle.sqlite_value.specs.declared.value.Value.TheVariants.{Null}
@@ -11,9 +11,9 @@ IsAbsentAs true v = v ≡ Null
 IsAbsentAs false v = v ≢ Null
 
 -- the first value says whether the second is absent
-abbrev pub TellsAbsence : Row → Type 0
-TellsAbsence row = (b : Bool) × (column row 0 ≡ flag b) × IsAbsentAs b (column row 1)
+abbrev pub ReportsAbsence : Row → Type 0
+ReportsAbsence row = (b : Bool) × (column row 0 ≡ flag b) × IsAbsentAs b (column row 1)
 
 -- an answer to whether that holds
-abbrev pub Tell : Bool → Type 0 → Type 0
-Tell b P = MatchBool b P (¬ P)
+abbrev pub Decides : Bool → Type 0 → Type 0
+Decides b P = MatchBool b P (¬ P)

@@ -1,4 +1,4 @@
--- What a check of all rows of a table tells, and rows that are to tell records of one kind.
+-- What a check of all rows of a table says, and rows that are to state records of one kind.
 use Rattle.std.specs.Prelude.{◌≡◌, ℕ, Bool, true, false, List, [], ◌∷◌, ◌++◌, map, IsPermutation}
 use Rattle.std.specs.List.{AllByRecursion}
 use Rattle.sqlite_value.specs.Order.{Row}
@@ -11,8 +11,8 @@ Checked Takes sql old new false = (rows : List Row) × (row : Row) × Begins sql
 
 module _ {X : Type 0} (row_of : X → Row) (Is : X → Type 0) where
   -- the row holds such a record
-  abbrev pub TellsOne : Row → Type 0
-  TellsOne row = (x : X) × (row ≡ row_of x) × Is x
+  abbrev pub ReportsOne : Row → Type 0
+  ReportsOne row = (x : X) × (row ≡ row_of x) × Is x
 
   -- these rows, in any order, are those of such records, or are not
   abbrev pub AreRecords : List Row → Bool → Type 0

@@ -1,4 +1,4 @@
-//! A check of rows that are to tell whether a row of another table stands beside one.
+//! A check of rows that are to say whether a row of another table stands beside one.
 
 use crate::check::Check;
 use sqlite::{Error, Row};
@@ -8,9 +8,9 @@ use vault_audit_rows::cell::{flag, is_null};
 pub struct AbsenceCheck {}
 
 impl Check for AbsenceCheck {
-    ghost use Rattle.vault_audit_walk.specs.Beside.{TellsAbsence};
+    ghost use Rattle.vault_audit_walk.specs.Beside.{ReportsAbsence};
 
-    ghost takes = { λ _. TellsAbsence };
+    ghost takes = { λ _. ReportsAbsence };
 
     fn is_passed_by(&self, row: &Row) -> Result<bool, Error> {
         match flag(row, 0) {

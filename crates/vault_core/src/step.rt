@@ -35,7 +35,7 @@ use vault_core_runs::run::run_rules;
 ///
 /// The checks are made in their order, and the first that fails is the answer. `Memory` and `Device` may
 /// come in the place of any answer. Every refusal leaves the vault as it was; a lifecycle run that stops
-/// has made the changes that it tells, the first ones of its plan.
+/// has made the changes that it reports, the first ones of its plan.
 pub fn step<K: Keeper>(
     alloc: Global,
     keeper: &mut K,

@@ -151,7 +151,7 @@ fn taken_before(put: &Put, note: &Note) -> Result<TakenIn, Refusal>
     }
 }
 
-/// Whether a note tells of the same key, bytes, retention and hold.
+/// Whether a note has the same key, bytes, retention and hold.
 fn agrees(note: &Note, put: &Put) -> bool
     ensures { result ≡ outcome.agrees note.now put.now }
 {

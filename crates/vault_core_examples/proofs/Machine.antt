@@ -24,7 +24,7 @@ use Rattle.vault_core_model.specs.ListingOutcome.{list_versions, certificate}
 use Rattle.vault_core_model.specs.IntakeOutcome.{intake}
 use Rattle.vault_core_model.specs.RunOutcome.{planned_run, AnswersRun}
 use Rattle.vault_core_model.specs.Step.{IsStep, IsRun, Answers}
-use Rattle.vault_core_examples.specs.Outcome.{Outcome, CanBeGiven, IsOutcome, tells_fault, settled, run_made, run_settled, outcome, vault_after, replies_to}
+use Rattle.vault_core_examples.specs.Outcome.{Outcome, CanBeGiven, IsOutcome, reports_fault, settled, run_made, run_settled, outcome, vault_after, replies_to}
 
 Answers-settled : (v : Vault) (judged : Result (Answer × Vault) Refusal) → Answers judged v (settled v judged).reply (settled v judged).vault
 Answers-settled v (Ok done) = refl
@@ -95,7 +95,7 @@ IsRun-outcome v (c ∷ cs) given = ((outcome v c.at c.who c.command).vault, IsSt
 
 -- ---- a reply that reports no fault is the function's
 
-Answers-is_outcome : (judged : Result (Answer × Vault) Refusal) (v : Vault) (r : Reply) (v' : Vault) → tells_fault r ≡ false → Answers judged v r v' → IsOutcome (settled v judged) r v'
+Answers-is_outcome : (judged : Result (Answer × Vault) Refusal) (v : Vault) (r : Reply) (v' : Vault) → reports_fault r ≡ false → Answers judged v r v' → IsOutcome (settled v judged) r v'
 Answers-is_outcome judged v (Done a) v' clear h = (ap (λ j. (settled v j).reply) (sym h), ap (λ j. (settled v j).vault) (sym h))
 Answers-is_outcome judged v (Refused r) v' clear h =
     elim (h.1) [ inl f ↦ absurd (true≢false (sym f ∙ clear)) | inr e ↦ (ap (λ j. (settled v j).reply) (sym e), h.0 ∙ ap (λ j. (settled v j).vault) (sym e)) ]
@@ -110,7 +110,7 @@ run_settled-full : (v : Vault) (bucket : List ℕ) (t : ℕ) (plan : List Planne
 run_settled-full v bucket t plan less =
     ap (λ b. if b then full_stop v bucket t (with_ids (length v.histories) plan) else all_done v bucket t plan) (lt-ltb (length (with_ids (length v.histories) plan)) (length plan) less)
 
-AnswersRun-is_outcome : (judged : Result (List Planned) Refusal) (v : Vault) (bucket : List ℕ) (t : ℕ) (r : Reply) (v' : Vault) → tells_fault r ≡ false → AnswersRun judged v bucket t r v' → IsOutcome (run_settled v bucket t judged) r v'
+AnswersRun-is_outcome : (judged : Result (List Planned) Refusal) (v : Vault) (bucket : List ℕ) (t : ℕ) (r : Reply) (v' : Vault) → reports_fault r ≡ false → AnswersRun judged v bucket t r v' → IsOutcome (run_settled v bucket t judged) r v'
 AnswersRun-is_outcome judged v bucket t (Done a) v' clear (plan, e, ran, w, m) =
     let is = ap (λ j. run_settled v bucket t j) e ∙ run_settled-whole v bucket t plan w in
     (ap (λ a. Done a) ran ∙ sym (ap (λ o. o.reply) is), m ∙ sym (ap (λ o. o.vault) is))
@@ -125,7 +125,7 @@ AnswersRun-is_outcome judged v bucket t (Stopped n VaultFull) v' clear (plan, e,
     )
 
 -- a step that reports no fault is the outcome
-pub IsStep-is_outcome : (v : Vault) (t : ℕ) (who : List ℕ) (c : Command) (r : Reply) (v' : Vault) → tells_fault r ≡ false → IsStep v t who c r v' → IsOutcome (outcome v t who c) r v'
+pub IsStep-is_outcome : (v : Vault) (t : ℕ) (who : List ℕ) (c : Command) (r : Reply) (v' : Vault) → reports_fault r ≡ false → IsStep v t who c r v' → IsOutcome (outcome v t who c) r v'
 IsStep-is_outcome v t who (command.AddDept c) r v' clear h = Answers-is_outcome (records.add_dept v t who c) v r v' clear h
 IsStep-is_outcome v t who (command.AddCaller c) r v' clear h = Answers-is_outcome (records.add_caller v t who c) v r v' clear h
 IsStep-is_outcome v t who (command.CloseCaller c) r v' clear h = Answers-is_outcome (records.close_caller v t who c) v r v' clear h

@@ -85,12 +85,12 @@ CanBeGiven (command.SetRules c) = IsTrue (is_rule_set c.rules)
 CanBeGiven _ = Unit {0}
 
 -- the reply reports want of memory or of a failing device
-abbrev pub tells_fault : Reply → Bool
-tells_fault (Done a) = false
-tells_fault (Refused r) = is_fault r
-tells_fault (Stopped n Memory) = true
-tells_fault (Stopped n Device) = true
-tells_fault (Stopped n VaultFull) = false
+abbrev pub reports_fault : Reply → Bool
+reports_fault (Done a) = false
+reports_fault (Refused r) = is_fault r
+reports_fault (Stopped n Memory) = true
+reports_fault (Stopped n Device) = true
+reports_fault (Stopped n VaultFull) = false
 
 -- the reply and the vault are those of the outcome
 abbrev pub IsOutcome : Outcome → Reply → Vault → Type 0

@@ -9,7 +9,7 @@ ghost use Rattle.vault_core_model.specs.declared.command.Timed.{Timed};
 ghost use Rattle.vault_core_model.specs.declared.reply.Reply.{Reply};
 ghost use Rattle.vault_core_model.specs.Step.{IsRun, IsStep};
 ghost use Rattle.vault_core_model.specs.Vault.{Vault};
-ghost use Rattle.vault_core_examples.specs.Outcome.{CanBeGiven, IsOutcome, outcome, replies_to, tells_fault, vault_after};
+ghost use Rattle.vault_core_examples.specs.Outcome.{CanBeGiven, IsOutcome, outcome, replies_to, reports_fault, vault_after};
 
 /// Every command has its reply, and every list of commands its replies.
 pub fn every_command_is_answered()
@@ -19,5 +19,5 @@ pub fn every_command_is_answered()
 
 /// A command has one reply and leaves one vault, but for want of memory and a failing device.
 pub fn answers_are_one()
-    ensures { (v : Vault) (t : ℕ) (who : List ℕ) (c : Command) (r : Reply) (v' : Vault) → tells_fault r ≡ false → IsStep v t who c r v' → IsOutcome (outcome v t who c) r v' }
+    ensures { (v : Vault) (t : ℕ) (who : List ℕ) (c : Command) (r : Reply) (v' : Vault) → reports_fault r ≡ false → IsStep v t who c r v' → IsOutcome (outcome v t who c) r v' }
 {}

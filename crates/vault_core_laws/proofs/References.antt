@@ -1,4 +1,4 @@
--- What callers, buckets and notes tell stays in its range: their departments are there, and so are the periods and the lines.
+-- What callers, buckets and notes state stays in its range: their departments are there, and so are the periods and the lines.
 use Rattle.std.proofs.Common.{ℕ, List, [], ◌∷◌, Bool, true, false, Option, Some, None, refl}
 use Rattle.std.specs.Prelude.{IsTrue, if◌then◌else◌, ◌||◌}
 use Rattle.std.specs.List.{AllByRecursion, list_any}

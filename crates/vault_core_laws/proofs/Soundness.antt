@@ -124,28 +124,28 @@ IsNoted-push n id [] x noted = absurd noted
 IsNoted-push n id (h ∷ hs) x noted =
     noted-found n h (h.entry.id == id) (find (λ g. g.entry.id == id) hs) (find (λ g. g.entry.id == id) (hs ++ x ∷ [])) (IsNoted-push n id hs x) noted
 
--- the same, where each entry is altered but keeps its id and what a note tells
+-- the same, where each entry is altered but keeps its id and what a note says
 noted-mapped : (n : Note) (h g : History) (b : Bool) (rest more : Option History) → g.entry.bucket ≡ h.entry.bucket → g.entry.key ≡ h.entry.key → g.entry.size ≡ h.entry.size → g.entry.digest ≡ h.entry.digest → (IsNoted n (option_map (λ x. x.entry) rest) → IsNoted n (option_map (λ x. x.entry) more)) → IsNoted n (option_map (λ x. x.entry) (if b then Some h else rest)) → IsNoted n (option_map (λ x. x.entry) (if b then Some g else more))
 noted-mapped n h g true rest more bucket key size digest later noted =
     (bucket ∙ noted.0, key ∙ noted.1, size ∙ noted.2, digest ∙ noted.3)
 noted-mapped n h g false rest more bucket key size digest later noted = later noted
 
--- an alteration of a history that a note doesn't tell of
-record IsUntold (f : History → History) : Type 0 where
+-- an alteration of a history that no note is about
+record KeepsNotes (f : History → History) : Type 0 where
   id : (h : History) → (f h).entry.id ≡ h.entry.id
   bucket : (h : History) → (f h).entry.bucket ≡ h.entry.bucket
   key : (h : History) → (f h).entry.key ≡ h.entry.key
   size : (h : History) → (f h).entry.size ≡ h.entry.size
   digest : (h : History) → (f h).entry.digest ≡ h.entry.digest
 
-IsNoted-map : (f : History → History) → IsUntold f → (n : Note) (id : ℕ) (hs : List History) → IsNoted n (option_map (λ g. g.entry) (find (λ g. g.entry.id == id) hs)) → IsNoted n (option_map (λ g. g.entry) (find (λ g. g.entry.id == id) (map f hs)))
+IsNoted-map : (f : History → History) → KeepsNotes f → (n : Note) (id : ℕ) (hs : List History) → IsNoted n (option_map (λ g. g.entry) (find (λ g. g.entry.id == id) hs)) → IsNoted n (option_map (λ g. g.entry) (find (λ g. g.entry.id == id) (map f hs)))
 IsNoted-map f same n id [] noted = noted
 IsNoted-map f same n id (h ∷ hs) noted =
     let P : ℕ → Type 0 = λ i. IsNoted n (option_map (λ g. g.entry) (if eqb i id then Some (f h) else find (λ g. g.entry.id == id) (map f hs))) in
     subst P (sym (same.id h)) (noted-mapped n h (f h) (eqb h.entry.id id) (find (λ g. g.entry.id == id) hs) (find (λ g. g.entry.id == id) (map f hs)) (same.bucket h) (same.key h) (same.size h) (same.digest h) (IsNoted-map f same n id hs) noted)
 
-untold-removed : (id : ℕ) (r : Removal) → IsUntold (removed_if id r)
-untold-removed id r = record {
+keeps_notes-removed : (id : ℕ) (r : Removal) → KeepsNotes (removed_if id r)
+keeps_notes-removed id r = record {
   id = λ h. elim (eqb h.entry.id id) as (λ b. (if b then removed_by r h else h).entry.id ≡ h.entry.id) [ true ↦ refl | false ↦ refl ];
   bucket = λ h. elim (eqb h.entry.id id) as (λ b. (if b then removed_by r h else h).entry.bucket ≡ h.entry.bucket) [ true ↦ refl | false ↦ refl ];
   key = λ h. elim (eqb h.entry.id id) as (λ b. (if b then removed_by r h else h).entry.key ≡ h.entry.key) [ true ↦ refl | false ↦ refl ];
@@ -157,8 +157,8 @@ untold-removed id r = record {
 abbrev KeepsEntries : (History → History) → Type 0
 KeepsEntries f = (h : History) → (f h).entry ≡ h.entry
 
-untold-kept : (f : History → History) → KeepsEntries f → IsUntold f
-untold-kept f same = record {
+keeps_notes-kept : (f : History → History) → KeepsEntries f → KeepsNotes f
+keeps_notes-kept f same = record {
   id = λ h. ap (λ (e : Entry). e.id) (same h);
   bucket = λ h. ap (λ (e : Entry). e.bucket) (same h);
   key = λ h. ap (λ (e : Entry). e.key) (same h);
@@ -167,7 +167,7 @@ untold-kept f same = record {
 }
 
 -- the notes of a vault whose histories are so altered
-notes_mapped : (f : History → History) → IsUntold f → (hs : List History) (ns : List Note) → AllByRecursion (λ n. IsNoted n (option_map (λ g. g.entry) (find (λ g. g.entry.id == n.id) hs))) ns → AllByRecursion (λ n. IsNoted n (option_map (λ g. g.entry) (find (λ g. g.entry.id == n.id) (map f hs)))) ns
+notes_mapped : (f : History → History) → KeepsNotes f → (hs : List History) (ns : List Note) → AllByRecursion (λ n. IsNoted n (option_map (λ g. g.entry) (find (λ g. g.entry.id == n.id) hs))) ns → AllByRecursion (λ n. IsNoted n (option_map (λ g. g.entry) (find (λ g. g.entry.id == n.id) (map f hs)))) ns
 notes_mapped f same hs ns all =
     All-weaker (λ n. IsNoted n (option_map (λ g. g.entry) (find (λ g. g.entry.id == n.id) hs))) (λ n. IsNoted n (option_map (λ g. g.entry) (find (λ g. g.entry.id == n.id) (map f hs)))) (λ n noted. IsNoted-map f same n n.id hs noted) ns all
 
@@ -383,7 +383,7 @@ Sound-changed v t (AddSetting id s) sound le allowed =
       periods = recorded.periods;
       rule_sets = sound.rule_sets;
       lines = recorded.lines;
-      notes = notes_mapped (with_setting id s) (untold-kept (with_setting id s) (entry-setting id s)) v.histories v.notes sound.notes;
+      notes = notes_mapped (with_setting id s) (keeps_notes-kept (with_setting id s) (entry-setting id s)) v.histories v.notes sound.notes;
     }
 Sound-changed v t (AddBucket name dept) sound le allowed =
     let recorded = recorded-changed v t (AddBucket name dept) sound allowed in
@@ -426,7 +426,7 @@ Sound-changed v t (MoveBucket name dept) sound le allowed =
       periods = recorded.periods;
       rule_sets = All-map HasRuleSet HasRuleSet HasRuleSet (with_department name dept) (λ b has again. HasRuleSet-department name dept b has) v.buckets sound.rule_sets sound.rule_sets;
       lines = recorded.lines;
-      notes = notes_mapped more (untold-kept more same) v.histories v.notes sound.notes;
+      notes = notes_mapped more (keeps_notes-kept more same) v.histories v.notes sound.notes;
     }
 Sound-changed v t (Admit a) sound le allowed =
     let recorded = recorded-changed v t (Admit a) sound allowed in record {
@@ -464,7 +464,7 @@ Sound-changed v t (Remove id r) sound le allowed =
       periods = recorded.periods;
       rule_sets = sound.rule_sets;
       lines = recorded.lines;
-      notes = notes_mapped (removed_if id r) (untold-removed id r) v.histories v.notes sound.notes;
+      notes = notes_mapped (removed_if id r) (keeps_notes-removed id r) v.histories v.notes sound.notes;
     }
 
 -- the same, where the vault and the change are known by equations

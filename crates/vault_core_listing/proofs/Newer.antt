@@ -67,7 +67,7 @@ listed_up v bucket key gs (h ∷ hs) all rising here found =
 
 -- ---- newest first
 
--- the first is current or not, as told, and none after it is; each is found by its id, and has that key
+-- the first is current or not, as stated, and none after it is; each is found by its id, and has that key
 abbrev pub AreListed : Vault → List ℕ → Bool → List History → Type 0
 AreListed v key current [] = Unit {0}
 AreListed v key current (h ∷ hs) =

@@ -112,7 +112,7 @@ fn list_behind<K: Keeper>(
     Ok(())
 }
 
-/// Lists what is asked for of the next page of keys, and tells after which key to go on.
+/// Lists what is asked for of the next page of keys, and states after which key to go on.
 fn list_keys_behind<K: Keeper>(
     keeper: &mut K,
     page: &mut Page,

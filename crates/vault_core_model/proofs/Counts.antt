@@ -30,8 +30,8 @@ no_less old new failed is = rw is (count_rises old failed)
 
 -- where a failure is reported, it rises, or stands at its greatest value
 pub rose : (old new : ℕ) (failed : Bool) → new ≡ count_after old failed → IsTrue failed → RoseOrIsFull old new
-rose old new true is told = subst (RoseOrIsFull old) (sym is) (rises old)
-rose old new false is told = absurd (cc)
+rose old new true is stated = subst (RoseOrIsFull old) (sym is) (rises old)
+rose old new false is stated = absurd (cc)
 
 -- where none is reported, it stays
 pub stays : (old new : ℕ) (failed : Bool) → new ≡ count_after old failed → failed ≡ false → new ≡ old

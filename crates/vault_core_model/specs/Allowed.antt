@@ -19,7 +19,7 @@ use Rattle.vault_core_model.specs.IntakeOutcome.{is_line}
 use Rattle.vault_core_model.specs.Sound.{IsWhole, IsNoted}
 use Rattle.vault_core_model.specs.Totals.{admitted_bytes, received_bytes, bucket_bytes}
 
--- the note, where there is one, has a line's number, is the first of its line, and tells of that entry
+-- the note, where there is one, has a line's number, is the first of its line, and is about that entry
 abbrev pub IsFirstNote : Vault → Entry → Option Note → Type 0
 IsFirstNote v e None = Unit {0}
 IsFirstNote v e (Some n) = (note_of v n.bucket n.batch n.line ≡ None) × IsTrue (is_line n.line) × (n.id ≡ e.id) × IsNoted n (Some e)

@@ -134,7 +134,7 @@ may_report c dept = do
 
 -- ---- the key or version
 
--- a content version on top of its key; a marker there is told (API Reference, "GetObject": a delete marker on top answers 404)
+-- a content version on top of its key; a marker there is reported (API Reference, "GetObject": a delete marker on top answers 404)
 abbrev pub content_on_top : Option History → Result Entry Refusal
 content_on_top None = Err (NoSuchKey false)
 content_on_top (Some h) = if h.entry.marker then Err (NoSuchKey true) else Ok h.entry

@@ -35,7 +35,7 @@ is_same_hold None None = true
 is_same_hold (Some a) (Some b) = is_same_switch a b
 is_same_hold _ _ = false
 
--- the note tells of the same key, bytes, retention and hold
+-- the note has the same key, bytes, retention and hold
 abbrev pub agrees : Note → Put → Bool
 agrees n c =
     bytes_eq n.key c.key && (n.size == length c.content && (bytes_eq n.digest (sha256 c.content)

@@ -93,7 +93,7 @@ HasTenures v h = HasTenuresAs h.entry.marker v h
 abbrev pub IsPlaced : Vault → History → Type 0
 IsPlaced v h = IsSome (config_of v h.entry.bucket)
 
--- the entry is the version that a note tells of: of its bucket, key, size and digest
+-- the entry is the version that a note is about: of its bucket, key, size and digest
 abbrev pub IsNoted : Note → Option Entry → Type 0
 IsNoted n None = ⊥
 IsNoted n (Some e) = (e.bucket ≡ n.bucket) × (e.key ≡ n.key) × (e.size ≡ n.size) × (e.digest ≡ Some n.digest)

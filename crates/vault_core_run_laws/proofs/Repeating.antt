@@ -25,7 +25,7 @@ use Rattle.vault_core_model.specs.Sound.{AreIdsFrom, AreInOrder}
 use Rattle.vault_core_model.specs.Plan.{plan, after_steps, counts, rules_in, with_ids, is_mark}
 use Rattle.vault_core_model.specs.RunOutcome.{planned_run, StopsByFault, MakesFirst}
 use Rattle.vault_core_model.specs.Step.{IsStep, IsRun}
-use Rattle.vault_core_run_laws.specs.Repeats.{IsOrderly, VaultPlansRepeat, IsCut, AreCut, changes_told, runs_by, IsBegun, CutRunsAddUp, IsCompleted, RunsRepeat}
+use Rattle.vault_core_run_laws.specs.Repeats.{IsOrderly, VaultPlansRepeat, IsCut, AreCut, changes_reported, runs_by, IsBegun, CutRunsAddUp, IsCompleted, RunsRepeat}
 use Rattle.vault_core_run_laws.proofs.Plain.{plain_of, plains, after_steps-plain, after_steps-append, orderly_of}
 use Rattle.vault_core_run_laws.proofs.Keys.{keys_rise, covers}
 use Rattle.vault_core_run_laws.proofs.ByKey.{plan_plain, rules_stay}
@@ -108,7 +108,7 @@ module _ (b : List ℕ) (t : ℕ) where
       (λ (h : (ps : List Planned) × (planned_run v t who run_over ≡ Ok ps) × MakesFirst n ps v b t mid). makes_first v mid who n h.0 h.1 h.2)
       s
 
-  cut_made : (v mid : Vault) (who : List ℕ) (r : Reply) → IsCut r → IsStep v t who (command.Run run_over) r mid → HasMade v mid (changes_told r)
+  cut_made : (v mid : Vault) (who : List ℕ) (r : Reply) → IsCut r → IsStep v t who (command.Run run_over) r mid → HasMade v mid (changes_reported r)
   cut_made v mid who (Done a) cut step = absurd cut
   cut_made v mid who (Refused r) cut step = absurd cut
   cut_made v mid who (Stopped n stop.Memory) cut step = stops v mid who n step
@@ -166,11 +166,11 @@ module _ (b : List ℕ) (t : ℕ) where
       let all : after_steps v b t (take (length ps) ps) ≡ after_steps v b t ps = ap (after_steps v b t) (take_all (length ps) ps (omega arith)) in
       ap (λ w. plan w b t) (e ∙ sym all) ∙ (vault_plans_repeat v b t (length ps) ordered ∙ drop_all (length ps) ps (omega arith))
 
-  completed : (v cut v' : Vault) (n : ℕ) (last : Answer) → IsOrderly v b t → HaveMade v cut n → HasRun cut v' last → IsCompleted v v' b t (n + changes_told (Done last))
+  completed : (v cut v' : Vault) (n : ℕ) (last : Answer) → IsOrderly v b t → HaveMade v cut n → HasRun cut v' last → IsCompleted v v' b t (n + changes_reported (Done last))
   completed v cut v' n last ordered h d =
       let unbroken = whole v cut v' n last h d in
       let none = nothing_left v v' ordered unbroken in
-      let changes : changes_told (Done last) ≡ length (plan cut b t) = ap (λ a. changes_told (Done a)) d.answer in record {
+      let changes : changes_reported (Done last) ≡ length (plan cut b t) = ap (λ a. changes_reported (Done a)) d.answer in record {
         unbroken = unbroken;
         changes = omega (arith, changes, ap length h.rest, length-drop n (plan v b t), h.within);
         idle = λ who a v'' step.
@@ -183,28 +183,28 @@ module _ (b : List ℕ) (t : ℕ) where
 
   -- where the runs before made so much of the first vault's plan
   cut_runs : (first v v' : Vault) (n : ℕ) (callers : List (List ℕ)) (cut : List Reply) → IsOrderly first b t → HaveMade first v n → AreCut cut
-      → IsRun v (runs_by b t callers) cut v' → HaveMade first v' (n + sum_by changes_told cut)
+      → IsRun v (runs_by b t callers) cut v' → HaveMade first v' (n + sum_by changes_reported cut)
   cut_runs first v v' n [] [] ordered h cuts run = subst (λ w. HaveMade first w (n + 0)) (sym run) (subst (HaveMade first v) (omega arith) h)
   cut_runs first v v' n [] (r ∷ cut) ordered h cuts run = absurd run
   cut_runs first v v' n (who ∷ callers) [] ordered h cuts run = absurd run
   cut_runs first v v' n (who ∷ callers) (r ∷ cut) ordered h cuts run =
-      let more = one_after_another first v run.0 n (changes_told r) ordered h (cut_made v run.0 who r cuts.0 run.1) in
-      subst (HaveMade first v') (omega (arith, sum_by-cons changes_told r cut))
-      (cut_runs first run.0 v' (n + changes_told r) callers cut ordered more cuts.1 run.2)
+      let more = one_after_another first v run.0 n (changes_reported r) ordered h (cut_made v run.0 who r cuts.0 run.1) in
+      subst (HaveMade first v') (omega (arith, sum_by-cons changes_reported r cut))
+      (cut_runs first run.0 v' (n + changes_reported r) callers cut ordered more cuts.1 run.2)
 
   all_runs : (first v v' : Vault) (n : ℕ) (callers : List (List ℕ)) (cut : List Reply) (last : Answer) → IsOrderly first b t → HaveMade first v n → AreCut cut
       → IsRun v (runs_by b t callers) (cut ++ Done last ∷ []) v'
-      → IsCompleted first v' b t (n + sum_by changes_told (cut ++ Done last ∷ []))
+      → IsCompleted first v' b t (n + sum_by changes_reported (cut ++ Done last ∷ []))
   all_runs first v v' n [] [] last ordered h cuts run = absurd run
   all_runs first v v' n [] (r ∷ cut) last ordered h cuts run = absurd run
   all_runs first v v' n (who ∷ []) [] last ordered h cuts run =
       let d : HasRun v v' last = subst (λ w. HasRun v w last) (sym run.2) (done_run v run.0 who last run.1) in
-      subst (IsCompleted first v' b t) (omega (arith, sum_by-cons changes_told (Done last) [])) (completed first v v' n last ordered h d)
+      subst (IsCompleted first v' b t) (omega (arith, sum_by-cons changes_reported (Done last) [])) (completed first v v' n last ordered h d)
   all_runs first v v' n (who ∷ other ∷ callers) [] last ordered h cuts run = absurd run.2
   all_runs first v v' n (who ∷ callers) (r ∷ cut) last ordered h cuts run =
-      let more = one_after_another first v run.0 n (changes_told r) ordered h (cut_made v run.0 who r cuts.0 run.1) in
-      subst (IsCompleted first v' b t) (omega (arith, sum_by-cons changes_told r (cut ++ Done last ∷ [])))
-      (all_runs first run.0 v' (n + changes_told r) callers cut last ordered more cuts.1 run.2)
+      let more = one_after_another first v run.0 n (changes_reported r) ordered h (cut_made v run.0 who r cuts.0 run.1) in
+      subst (IsCompleted first v' b t) (omega (arith, sum_by-cons changes_reported r (cut ++ Done last ∷ [])))
+      (all_runs first run.0 v' (n + changes_reported r) callers cut last ordered more cuts.1 run.2)
 
 pub cut_runs_add_up : CutRunsAddUp
 cut_runs_add_up v v' b t callers cut ordered cuts run =

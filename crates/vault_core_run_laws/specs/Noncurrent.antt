@@ -34,7 +34,7 @@ rank v h = length (newer v h) - 1
 abbrev pub beside : Vault → History → List Held
 beside v h = entries_of v h.entry.bucket h.entry.key
 
--- what a run finds of h in the list of its key is what the vault's histories tell
+-- what a run finds of h in the list of its key is what the vault's histories say
 pub record LooksTheSame (v : Vault) (h : History) : Type 0 where
   pub above : key.newer_among (beside v h) (held_of h) ≡ map held_of (newer v h)
   pub on_top : is_current v h ≡ (is_held h.entry && key.is_current_among (beside v h) (held_of h))

@@ -39,21 +39,21 @@ AreCut [] = Unit {0}
 AreCut (r ∷ rs) = IsCut r × AreCut rs
 
 -- how many changes it says that the run made
-abbrev pub changes_told : Reply → ℕ
-changes_told (Done (Ran n)) = n.changes
-changes_told (Done _) = 0
-changes_told (Refused r) = 0
-changes_told (Stopped n s) = n
+abbrev pub changes_reported : Reply → ℕ
+changes_reported (Done (Ran n)) = n.changes
+changes_reported (Done _) = 0
+changes_reported (Refused r) = 0
+changes_reported (Stopped n s) = n
 
 -- runs over the bucket at t, asked for by these callers
 abbrev pub runs_by : List ℕ → ℕ → List (List ℕ) → List Timed
 runs_by bucket t callers = map (λ who. record { at = t; who = who; command = command.Run (record { bucket = bucket }) }) callers
 
--- what cut runs leave: so much of the first vault's plan is made as they tell, and the rest of it is the plan
-pub record IsBegun (v v' : Vault) (bucket : List ℕ) (t told : ℕ) : Type 0 where
-  pub within : told ≤ length (plan v bucket t)
-  pub left : v' ≡ after_steps v bucket t (take told (plan v bucket t))
-  pub rest : plan v' bucket t ≡ drop told (plan v bucket t)
+-- what cut runs leave: so much of the first vault's plan is made as they say, and the rest of it is the plan
+pub record IsBegun (v v' : Vault) (bucket : List ℕ) (t stated : ℕ) : Type 0 where
+  pub within : stated ≤ length (plan v bucket t)
+  pub left : v' ≡ after_steps v bucket t (take stated (plan v bucket t))
+  pub rest : plan v' bucket t ≡ drop stated (plan v bucket t)
 
 -- runs over one bucket at one moment, each cut by a fault
 abbrev pub CutRunsAddUp : Type 0
@@ -61,16 +61,16 @@ CutRunsAddUp =
     (v v' : Vault) (bucket : List ℕ) (t : ℕ) (callers : List (List ℕ)) (cut : List Reply)
     → IsOrderly v bucket t → AreCut cut
     → IsRun v (runs_by bucket t callers) cut v'
-    → IsBegun v v' bucket t (sum_by changes_told cut)
+    → IsBegun v v' bucket t (sum_by changes_reported cut)
 
 -- no change at all
 abbrev pub no_change : Counts
 no_change = record { changes = 0; marked = 0; removed = 0; lone = 0 }
 
--- what runs leave of which the last one was done: the vault of one unbroken run; the changes that they tell are those of its plan; one run more that is done changes nothing and says so
-pub record IsCompleted (v v' : Vault) (bucket : List ℕ) (t told : ℕ) : Type 0 where
+-- what runs leave of which the last one was done: the vault of one unbroken run; the changes that they state are those of its plan; one run more that is done changes nothing and says so
+pub record IsCompleted (v v' : Vault) (bucket : List ℕ) (t stated : ℕ) : Type 0 where
   pub unbroken : v' ≡ after_steps v bucket t (plan v bucket t)
-  pub changes : told ≡ length (plan v bucket t)
+  pub changes : stated ≡ length (plan v bucket t)
   pub idle : (who : List ℕ) (a : Answer) (v'' : Vault) → IsStep v' t who (command.Run (record { bucket = bucket })) (Done a) v''
       → (a ≡ Ran no_change) × (v'' ≡ v')
 
@@ -80,4 +80,4 @@ RunsRepeat =
     (v v' : Vault) (bucket : List ℕ) (t : ℕ) (callers : List (List ℕ)) (cut : List Reply) (last : Answer)
     → IsOrderly v bucket t → AreCut cut
     → IsRun v (runs_by bucket t callers) (cut ++ Done last ∷ []) v'
-    → IsCompleted v v' bucket t (sum_by changes_told (cut ++ Done last ∷ []))
+    → IsCompleted v v' bucket t (sum_by changes_reported (cut ++ Done last ∷ []))

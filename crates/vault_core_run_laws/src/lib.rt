@@ -14,7 +14,7 @@ pub fn plans_go_key_by_key()
     ensures entries { EntriesRise }
 {}
 
-/// What a run finds in the list of a key is what the vault tells, of each entry of a sound vault: which
+/// What a run finds in the list of a key is what the vault says, of each entry of a sound vault: which
 /// entries are newer, whether it is current, since when it is noncurrent, and how many stand above it.
 pub fn places_agree()
     ensures { PlacesAgree }

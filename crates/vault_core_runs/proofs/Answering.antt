@@ -26,16 +26,16 @@ answers_done v b t ps y v2 m = (ps, refl, ap Ran (m.counted ∙ from_none (count
 
 by_fault : (v : Vault) (b : List ℕ) (t : ℕ) (ps : List Planned) (e : Halt) (y : Counts) (v2 : Vault) → MakesUpTo v b t ps e no_change y v2 → StopsByFault (Ok ps) y.changes v b t v2
 by_fault v b t ps e y v2 m =
-    let told : m.n ≡ y.changes = sym (m.counted ∙ zero-add m.n) in
-    inr (ps, refl, (subst (λ (n : ℕ). n ≤ length (with_ids (length v.histories) ps)) told m.within, subst (λ (n : ℕ). v2 ≡ after_steps v b t (take n ps)) told m.left))
+    let stated : m.n ≡ y.changes = sym (m.counted ∙ zero-add m.n) in
+    inr (ps, refl, (subst (λ (n : ℕ). n ≤ length (with_ids (length v.histories) ps)) stated m.within, subst (λ (n : ℕ). v2 ≡ after_steps v b t (take n ps)) stated m.left))
 
 pub answers_stopped : (v : Vault) (b : List ℕ) (t : ℕ) (ps : List Planned) (e : Halt) (y : Counts) (v2 : Vault) → MakesUpTo v b t ps e no_change y v2 → AnswersRun (Ok ps) v b t (Stopped y.changes (stop_of e)) v2
 answers_stopped v b t ps (halt.Fault fault.Memory) y v2 m = by_fault v b t ps (halt.Fault fault.Memory) y v2 m
 answers_stopped v b t ps (halt.Fault fault.Device) y v2 m = by_fault v b t ps (halt.Fault fault.Device) y v2 m
 answers_stopped v b t ps (halt.Refused r) y v2 m =
-    let told : m.n ≡ y.changes = sym (m.counted ∙ zero-add m.n) in
+    let stated : m.n ≡ y.changes = sym (m.counted ∙ zero-add m.n) in
     let P : Refusal → Type 0 = λ s. AnswersRun (Ok ps) v b t (Stopped y.changes (stop_of (halt.Refused s))) v2 in
-    subst P (sym m.why.0) (ps, refl, sym told ∙ m.why.1, subst (λ (n : ℕ). n < length ps) told m.why.2, subst (λ (n : ℕ). v2 ≡ after_steps v b t (take n ps)) told m.left)
+    subst P (sym m.why.0) (ps, refl, sym stated ∙ m.why.1, subst (λ (n : ℕ). n < length ps) stated m.why.2, subst (λ (n : ℕ). v2 ≡ after_steps v b t (take n ps)) stated m.left)
 
 -- a run over the bucket that is asked for answers as it is judged
 pub answers_as_judged : (v w v2 : Vault) (b : List ℕ) (t : ℕ) (r : BucketRun) (judged : Result (List Planned) Refusal) (reply : Reply)

@@ -56,11 +56,11 @@ permitted_by v false true Governance (Rule rule) may = absurd (cc may)
 pub over_or_bypassed : (v : Vault) (r : Retention) (hold : Bool) (t : ℕ) (c : Cause) → IsPermittedUnder v (guards (record { retention = Some r; hold = hold }) t) c → (r.until ≤ t) ⊎ ((r.mode ≡ Governance) × IsBypassOf v c)
 over_or_bypassed v r hold t c may =
     let P : List Denial → Type 0 = λ ds. IsPermittedUnder v ds c in
-    told (permitted_by v hold (nat_lt t r.until) r.mode c (subst P (guards-by r.mode r.until t hold (nat_lt t r.until) refl) may))
+    stated (permitted_by v hold (nat_lt t r.until) r.mode c (subst P (guards-by r.mode r.until t hold (nat_lt t r.until) refl) may))
   where
-    told : (nat_lt t r.until ≡ false) ⊎ ((r.mode ≡ Governance) × IsBypassOf v c) → (r.until ≤ t) ⊎ ((r.mode ≡ Governance) × IsBypassOf v c)
-    told (inl over) = inl (ltb-false t r.until over)
-    told (inr bypassed) = inr bypassed
+    stated : (nat_lt t r.until ≡ false) ⊎ ((r.mode ≡ Governance) × IsBypassOf v c) → (r.until ≤ t) ⊎ ((r.mode ≡ Governance) × IsBypassOf v c)
+    stated (inl over) = inl (ltb-false t r.until over)
+    stated (inr bypassed) = inr bypassed
 
 -- the hold is off
 pub off_hold : (v : Vault) (o : Option Retention) (hold : Bool) (t : ℕ) (c : Cause) → IsPermittedUnder v (guards (record { retention = o; hold = hold }) t) c → hold ≡ false

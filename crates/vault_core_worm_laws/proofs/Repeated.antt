@@ -7,7 +7,7 @@ use Rattle.vault_core_model.specs.Vault.{Vault}
 use Rattle.vault_core_model.specs.Sound.{Sound}
 use Rattle.vault_core_model.specs.Step.{IsRun, IsStep}
 use Rattle.vault_core_laws.proofs.Soundness.{AreInOrder-later}
-use Rattle.vault_core_run_laws.specs.Repeats.{IsOrderly, IsCompleted, changes_told, runs_by}
+use Rattle.vault_core_run_laws.specs.Repeats.{IsOrderly, IsCompleted, changes_reported, runs_by}
 use Rattle.vault_core_run_laws.proofs.Repeating.{cut_runs_add_up, runs_repeat}
 use Rattle.vault_core_worm_laws.specs.Repeated.{BeginRun, CompleteRun, one_command}
 use Rattle.vault_core_worm_laws.proofs.RuleSets.{are_rules_in}
@@ -28,7 +28,7 @@ pub run-completes : (v w : Vault) (commands : List Timed) (replies : List Reply)
 run-completes v w commands replies sound run = λ bucket t callers cut last le e are f.
     let P : List Timed → Type 0 = λ cs. IsRun v cs replies w in
     let Q : List Reply → Type 0 = λ rs. IsRun v (runs_by bucket t callers) rs w in
-    let R : List Reply → Type 0 = λ rs. IsCompleted v w bucket t (sum_by changes_told rs) in
+    let R : List Reply → Type 0 = λ rs. IsCompleted v w bucket t (sum_by changes_reported rs) in
     subst R (sym f) (runs_repeat v w bucket t callers cut last (is_orderly v bucket t sound le) are (subst Q f (subst P e run)))
 
 -- ---- one command

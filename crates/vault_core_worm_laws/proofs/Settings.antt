@@ -164,11 +164,11 @@ kept_by_removal v r later u Governance (inr (inr low)) = inr (inr low.1)
 
 removed_covered : (v : Vault) (r : Removal) (later : List Setting) (o : Option Retention) (hold : Bool) (x : Retention) → IsPermittedUnder v (guards (record { retention = o; hold = hold }) r.at) r.cause → Covers o x → (x.until ≤ r.at) ⊎ (((x.mode ≡ Governance) × IsBypassOf v r.cause) ⊎ ((x.mode ≡ Governance) × IsLowered v later))
 removed_covered v r later None hold x may covers = absurd covers
-removed_covered v r later (Some l) hold x may covers = told (over_or_bypassed v l hold r.at r.cause may)
+removed_covered v r later (Some l) hold x may covers = stated (over_or_bypassed v l hold r.at r.cause may)
   where
-    told : (l.until ≤ r.at) ⊎ ((l.mode ≡ Governance) × IsBypassOf v r.cause) → (x.until ≤ r.at) ⊎ (((x.mode ≡ Governance) × IsBypassOf v r.cause) ⊎ ((x.mode ≡ Governance) × IsLowered v later))
-    told (inl over) = inl (omega (arith, over, covers.1))
-    told (inr by) = inr (inl (sym covers.0 ∙ by.0, by.1))
+    stated : (l.until ≤ r.at) ⊎ ((l.mode ≡ Governance) × IsBypassOf v r.cause) → (x.until ≤ r.at) ⊎ (((x.mode ≡ Governance) × IsBypassOf v r.cause) ⊎ ((x.mode ≡ Governance) × IsLowered v later))
+    stated (inl over) = inl (omega (arith, over, covers.1))
+    stated (inr by) = inr (inl (sym covers.0 ∙ by.0, by.1))
 
 kept_when_removed : (v : Vault) (now : ℕ) (r : Removal) (later : List Setting) (lock : Lock) (o : Option Retention) → now ≤ r.at → IsPermittedUnder v (guards lock r.at) r.cause → Binds v now lock.retention later o → IsKept v (Some r) later o
 kept_when_removed v now r later lock None le may b = tt

@@ -88,7 +88,7 @@ record WasThere (v : Vault) (c : Intake) (x : Answer) (after : Vault) : Type 0 w
   note : Note
   there : note_for v c ≡ Some note
   agreed : agrees note c.put ≡ true
-  told : x ≡ answer.TakenIn (record { id = note.id; again = true })
+  stated : x ≡ answer.TakenIn (record { id = note.id; again = true })
   same : after ≡ v
 
 -- or there was none, and it is admitted with one
@@ -97,7 +97,7 @@ record IsNew (v : Vault) (t : ℕ) (who : List ℕ) (c : Intake) (x : Answer) (a
   dept : List ℕ
   lock : Lock
   free : note_for v c ≡ None
-  told : x ≡ answer.TakenIn (record { id = id; again = false })
+  stated : x ≡ answer.TakenIn (record { id = id; again = false })
   made : after ≡ changed v t (Admit (record { history = new_version id t who dept c.put lock; note = Some (new_note id c) }))
 
 -- either, of a caller who may put
@@ -111,8 +111,8 @@ abbrev answered : Answer → Vault → Result (Answer × Vault) Refusal
 answered x v = Ok (x, v)
 
 -- what the line of a note is reported, as the note agrees or not
-abbrev told_by : Bool → ℕ → Result TakenIn Refusal
-told_by b id = if b then Ok (record { id = id; again = true }) else Err IntakeConflict
+abbrev stated_by : Bool → ℕ → Result TakenIn Refusal
+stated_by b id = if b then Ok (record { id = id; again = true }) else Err IntakeConflict
 
 same_pair : (x y : Answer) (v w : Vault) → answered x v ≡ answered y w → (y ≡ x) × (w ≡ v)
 same_pair x y v w h =
@@ -120,7 +120,7 @@ same_pair x y v w h =
     (sym (ap (λ (p : Answer × Vault). p.0) e), sym (ap (λ (p : Answer × Vault). p.1) e))
 
 by_agreement : (v : Vault) (c : Intake) (n : Note) (x : Answer) (after : Vault) (b : Bool) → agrees n c.put ≡ b
-    → (told_by b n.id >>= λ (taken : TakenIn). answered (answer.TakenIn taken) v) ≡ Ok (x, after)
+    → (stated_by b n.id >>= λ (taken : TakenIn). answered (answer.TakenIn taken) v) ≡ Ok (x, after)
     → (agrees n c.put ≡ true) × (x ≡ answer.TakenIn (record { id = n.id; again = true })) × (after ≡ v)
 by_agreement v c n x after true is h =
     let same = same_pair (answer.TakenIn (record { id = n.id; again = true })) x v after h in
@@ -135,13 +135,13 @@ by_lock v t who dept c x after (Err e) id free h = absurd (cc h)
 by_lock v t who dept c x after (Ok l) (Err e) free h = absurd (cc h)
 by_lock v t who dept c x after (Ok l) (Ok n) free h =
     let same = same_pair (answer.TakenIn (record { id = n; again = false })) x (changed v t (Admit (record { history = new_version n t who dept c.put l; note = Some (new_note n c) }))) after h in
-    record { id = n; dept = dept; lock = l; free = free; told = same.0; made = same.1 }
+    record { id = n; dept = dept; lock = l; free = free; stated = same.0; made = same.1 }
 
 by_note : (v : Vault) (t : ℕ) (who : List ℕ) (c : Intake) (a : Access) (x : Answer) (after : Vault) (o : Option Note) → note_for v c ≡ o → intake_by v t who c a o ≡ Ok (x, after) → WasThere v c x after ⊎ IsNew v t who c x after
 by_note v t who c a x after None is h = inr (by_lock v t who a.bucket.dept c x after (lock_to_take_in v t c a) (free_id v) is h)
 by_note v t who c a x after (Some n) is h =
     let agreed = by_agreement v c n x after (agrees n c.put) refl h in
-    inl (record { note = n; there = is; agreed = agreed.0; told = agreed.1; same = agreed.2 })
+    inl (record { note = n; there = is; agreed = agreed.0; stated = agreed.1; same = agreed.2 })
 
 by_access : (v : Vault) (t : ℕ) (who : List ℕ) (c : Intake) (x : Answer) (after : Vault) (r : Result Access Refusal) → access_to_put v t who c.put ≡ r → (r >>= λ a. intake_by v t who c a (note_for v c)) ≡ Ok (x, after) → Does v t who c x after
 by_access v t who c x after (Err e) is h = absurd (cc h)
@@ -181,8 +181,8 @@ pub done-taken : (v : Vault) (t : ℕ) (who : List ℕ) (c : Intake) (x : Answer
 done-taken v t who c x after h = by_doing (done-does v t who c x after h).does
   where
     by_doing : WasThere v c x after ⊎ IsNew v t who c x after → (y : TakenIn) × (x ≡ answer.TakenIn y)
-    by_doing (inl was) = (record { id = was.note.id; again = true }, was.told)
-    by_doing (inr new) = (record { id = new.id; again = false }, new.told)
+    by_doing (inl was) = (record { id = was.note.id; again = true }, was.stated)
+    by_doing (inr new) = (record { id = new.id; again = false }, new.stated)
 
 -- a line that is answered by an id was accepted
 pub done-accepted : (v : Vault) (t : ℕ) (who : List ℕ) (c : Intake) (y : TakenIn) (after : Vault) → intake v t who c ≡ Ok (answer.TakenIn y, after) → IsAccepted v t who c y.id after
@@ -198,7 +198,7 @@ done-accepted v t who c y after h = by_doing (done-does v t who c (answer.TakenI
       note = was.note;
       noted = rw (was.same) was.there;
       agreed = was.agreed;
-      named = let told : y ≡ record { id = was.note.id; again = true } = cc (was.told) in sym (ap (λ (z : TakenIn). z.id) told);
+      named = let stated : y ≡ record { id = was.note.id; again = true } = cc (was.stated) in sym (ap (λ (z : TakenIn). z.id) stated);
     }
     by_doing (inr new) = record {
       access = may.access;
@@ -206,7 +206,7 @@ done-accepted v t who c y after h = by_doing (done-does v t who c (answer.TakenI
       note = new_note new.id c;
       noted = rw (new.made) (new_note-found v t (new_version new.id t who new.dept c.put new.lock) (new_note new.id c) new.free);
       agreed = new_note-agrees new.id c;
-      named = let told : y ≡ record { id = new.id; again = false } = cc (new.told) in sym (ap (λ (z : TakenIn). z.id) told);
+      named = let stated : y ≡ record { id = new.id; again = false } = cc (new.stated) in sym (ap (λ (z : TakenIn). z.id) stated);
     }
 
 -- ---- the same line again
@@ -275,8 +275,8 @@ admitted-before v w t u who c a later h top =
     (λ x y. bind_passes (free_id w) (free_id v) _ _ (id-was v w later) (λ i j passed. refl))
 
 conflict-again : (v w : Vault) (c : Intake) (n : Note) (r : Refusal) (b : Bool) → agrees n c.put ≡ b
-    → (told_by b n.id >>= λ (taken : TakenIn). answered (answer.TakenIn taken) v) ≡ Err r
-    → is_ok (told_by b n.id >>= λ (taken : TakenIn). answered (answer.TakenIn taken) w) ≡ false
+    → (stated_by b n.id >>= λ (taken : TakenIn). answered (answer.TakenIn taken) v) ≡ Err r
+    → is_ok (stated_by b n.id >>= λ (taken : TakenIn). answered (answer.TakenIn taken) w) ≡ false
 conflict-again v w c n r true is h = absurd (cc h)
 conflict-again v w c n r false is h = refl
 

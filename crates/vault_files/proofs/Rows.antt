@@ -131,25 +131,25 @@ rows-go_on files t who bucket batch above (cells ∷ records) v (row ∷ rows) s
 abbrev answered : Answer → Vault → Result (Answer × Vault) Refusal
 answered x v = Ok (x, v)
 
--- an accepted line is told its id again, and nothing is changed
-told_again : (w w' : Vault) (u : ℕ) (who : List ℕ) (c : Intake) (id : ℕ) (again : Reply)
+-- the id of an accepted line is reported again, and nothing is changed
+stated_again : (w w' : Vault) (u : ℕ) (who : List ℕ) (c : Intake) (id : ℕ) (again : Reply)
     → intake w u who c ≡ Ok (answer.TakenIn (record { id = id; again = true }), w) → is_fault_reply again ≡ false → Answers (intake w u who c) w again w' → (again ≡ Done (answer.TakenIn (record { id = id; again = true }))) × (w' ≡ w)
-told_again w w' u who c id (Done x) own no_fault h =
+stated_again w w' u who c id (Done x) own no_fault h =
     let both : answered x w' ≡ answered (answer.TakenIn (record { id = id; again = true })) w = sym h ∙ own in
     let e : (x, w') ≡ (answer.TakenIn (record { id = id; again = true }), w) = cc in
     (ap (λ (p : Answer × Vault). Done p.0) e, ap (λ (p : Answer × Vault). p.1) e)
-told_again w w' u who c id (Refused r) own no_fault h = absurd (refusal h.1)
+stated_again w w' u who c id (Refused r) own no_fault h = absurd (refusal h.1)
   where
     refusal : IsTrue (is_fault r) ⊎ (intake w u who c ≡ Err r) → ⊥
     refusal (inl fault) = cc (sym no_fault ∙ fault)
     refusal (inr refused) = cc (sym own ∙ refused)
-told_again w w' u who c id (Stopped n s) own no_fault h = absurd h
+stated_again w w' u who c id (Stopped n s) own no_fault h = absurd h
 
 id-again : (t u : ℕ) (who : List ℕ) (c : Intake) (reply again : Reply) (v mid w w' : Vault) → IsLater v w → IsLater mid w → w.last ≤ u
     → Answers (intake v t who c) v reply mid → is_fault_reply again ≡ false → Answers (intake w u who c) w again w' → IsAnsweredAgain reply again
 id-again t u who c (Done (answer.TakenIn y)) again v mid w w' from later in_time h no_fault g =
     let was = done-accepted v t who c y mid h in
-    (told_again w w' u who c y.id again (accepted-again v mid w t u who c y.id was from.callers from.buckets later in_time) no_fault g).0
+    (stated_again w w' u who c y.id again (accepted-again v mid w t u who c y.id was from.callers from.buckets later in_time) no_fault g).0
 id-again t u who c (Done _) again v mid w w' from later in_time h no_fault g = tt
 id-again t u who c (Refused r) again v mid w w' from later in_time h no_fault g = tt
 id-again t u who c (Stopped n s) again v mid w w' from later in_time h no_fault g = tt
@@ -195,7 +195,7 @@ answer-still t u who c (Done x) again v mid w w' from later on top in_time noted
     let taken = done-taken v t who c x mid h in
     let P : Answer → Type 0 = λ z. intake v t who c ≡ Ok (z, mid) in
     let was = done-accepted v t who c taken.0 mid (subst P taken.1 h) in
-    (told_again w w' u who c taken.0.id again (accepted-again v mid w t u who c taken.0.id was from.callers from.buckets later in_time) sane g).1
+    (stated_again w w' u who c taken.0.id again (accepted-again v mid w t u who c taken.0.id was from.callers from.buckets later in_time) sane g).1
 answer-still t u who c (Refused r) again v mid w w' from later on top in_time noted no_back no_fault h sane g =
     let refused = was_refused r (intake v t who c) no_fault h.1 in
     refused-same w w' u who c again

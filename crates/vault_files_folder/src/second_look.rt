@@ -226,7 +226,7 @@ fn explain_all<R: Files, E: Write>(
 
 /// Says on `err` what came of an intake beside its lines: a line for each row that was refused, with its file and the
 /// cause, and for each that was admitted for more than thirty years; and at last what stopped the intake. Whether the
-/// folder failed is what tells a file that can't be read from the vault's.
+/// folder failed is what distinguishes a file that can't be read from the vault's.
 ///
 /// It looks at the list and at the files of refused rows again, and reads a file again only where one couldn't be read.
 /// Where a line can't be written, or room for one is refused, nothing more is written.

@@ -123,20 +123,20 @@ abbrev pub TakesIn : Option (List File) → ℕ → List ℕ → List ℕ → Li
 TakesIn files t who bucket batch list v rows stop v' =
     MatchBool (nat_le (length list) most_list) (TakesList files t who bucket batch list v rows stop v') (StopsAtOnce refusal.EntityTooLarge v rows stop v')
 
--- ---- whether it is told that a device failed
+-- ---- whether it is reported that a device failed
 
 -- by what came of a row: its reply, or a fault
-abbrev pub tells_device : Result Reply Fault → Bool
-tells_device (Ok answer) = is_device_reply answer
-tells_device (Err f) = is_device_fault f
+abbrev pub reports_device : Result Reply Fault → Bool
+reports_device (Ok answer) = is_device_reply answer
+reports_device (Err f) = is_device_fault f
 
 abbrev pub is_device_row : RowReply → Bool
 is_device_row row = is_device_reply row.reply
 
 -- by the replies to rows, or by what stopped their intake
-abbrev pub report_tells_device : List RowReply → Option Refusal → Bool
-report_tells_device rows None = list_any is_device_row rows
-report_tells_device rows (Some r) = list_any is_device_row rows || is_device_refusal r
+abbrev pub report_names_device : List RowReply → Option Refusal → Bool
+report_names_device rows None = list_any is_device_row rows
+report_names_device rows (Some r) = list_any is_device_row rows || is_device_refusal r
 
 -- what stops an intake, if anything does
 abbrev pub stop_of : Result (Unit {0}) Refusal → Option Refusal

@@ -51,7 +51,7 @@ fn take_next<K: Keeper, F: Folder>(
     ensures counted { K.count keeper.old ≤ K.count keeper.new }
     ensures counted_there { F.count folder.old ≤ F.count folder.new }
     ensures device { result ≡ Err Refusal.Device → RoseOrIsFull (K.count keeper.old) (K.count keeper.new) ⊎ RoseOrIsFull (F.count folder.old) (F.count folder.new) }
-    ensures steady { spec.report_tells_device rows.new.items (spec.stop_of result) ≡ false → (list_any spec.is_device_row rows.old.items ≡ false) × (K.count keeper.new ≡ K.count keeper.old) }
+    ensures steady { spec.report_names_device rows.new.items (spec.stop_of result) ≡ false → (list_any spec.is_device_row rows.old.items ≡ false) × (K.count keeper.new ≡ K.count keeper.old) }
 {
     if cells.len() != 5 {
         return Err(Refusal::MalformedBody);
@@ -86,7 +86,7 @@ fn take_rows<K: Keeper, F: Folder>(
     ensures counted { K.count keeper.old ≤ K.count keeper.new }
     ensures counted_there { F.count folder.old ≤ F.count folder.new }
     ensures device { result.stopped ≡ Some Refusal.Device → RoseOrIsFull (K.count keeper.old) (K.count keeper.new) ⊎ RoseOrIsFull (F.count folder.old) (F.count folder.new) }
-    ensures steady { spec.report_tells_device result.rows.items result.stopped ≡ false → K.count keeper.new ≡ K.count keeper.old }
+    ensures steady { spec.report_names_device result.rows.items result.stopped ≡ false → K.count keeper.new ≡ K.count keeper.old }
 {
     let mut rows = Vec::new(alloc);
     let mut above: u32 = 0;
@@ -143,7 +143,7 @@ fn take_below<K: Keeper, F: Folder>(
     ensures counted { K.count keeper.old ≤ K.count keeper.new }
     ensures counted_there { F.count folder.old ≤ F.count folder.new }
     ensures device { result.stopped ≡ Some Refusal.Device → RoseOrIsFull (K.count keeper.old) (K.count keeper.new) ⊎ RoseOrIsFull (F.count folder.old) (F.count folder.new) }
-    ensures steady { spec.report_tells_device result.rows.items result.stopped ≡ false → K.count keeper.new ≡ K.count keeper.old }
+    ensures steady { spec.report_names_device result.rows.items result.stopped ≡ false → K.count keeper.new ≡ K.count keeper.old }
 {
     let Some((first, below)) = records.split_first() else {
         return stopped_at_once(alloc, Refusal::MalformedBody);
@@ -181,8 +181,8 @@ pub fn take_in<K: Keeper, F: Folder>(
     ensures counted_there { F.count folder.old ≤ F.count folder.new }
     // `Device` comes only where the vault's device or the folder's failed.
     ensures device { result.stopped ≡ Some Refusal.Device → RoseOrIsFull (K.count keeper.old) (K.count keeper.new) ⊎ RoseOrIsFull (F.count folder.old) (F.count folder.new) }
-    // Where neither a reply nor the stop tells it, the vault's count of failures is as it was; a folder that failed adds nothing to it.
-    ensures steady { spec.report_tells_device result.rows.items result.stopped ≡ false → K.count keeper.new ≡ K.count keeper.old }
+    // Where neither a reply nor the stop states it, the vault's count of failures is as it was; a folder that failed adds nothing to it.
+    ensures steady { spec.report_names_device result.rows.items result.stopped ≡ false → K.count keeper.new ≡ K.count keeper.old }
 {
     if list.len() > MOST_LIST {
         return stopped_at_once(alloc, Refusal::EntityTooLarge);

@@ -46,7 +46,7 @@ fn push_taken(alloc: Global, out: &mut String, line: u32, taken: TakenIn) -> Res
     push_words(alloc, out, line, word_of(taken), id.as_str())
 }
 
-/// What a reply tells of a row: an id or a refusal.
+/// What a reply says of a row: an id or a refusal.
 fn push_reply(alloc: Global, out: &mut String, line: u32, reply: &Reply) -> Result<(), AllocError>
     ensures { OnOk result (string_bytes out.new ≡ string_bytes out.old ++ spec.reply_line line reply.now) }
 {

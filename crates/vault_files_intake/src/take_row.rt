@@ -107,7 +107,7 @@ fn command<F: Folder>(
 fn settled(reply: Reply) -> Result<Reply, Fault>
     ensures ok { IfOk result (λ r. (r ≡ reply) × (spec.is_fault_reply r ≡ false)) }
     ensures err { IfErr result (λ f. reply ≡ spec.fault_reply f) }
-    ensures reported { spec.tells_device result ≡ is_device_reply reply }
+    ensures reported { spec.reports_device result ≡ is_device_reply reply }
 {
     match reply {
         Reply::Done(answer) => Ok(Reply::Done(answer)),
@@ -129,7 +129,7 @@ fn carried_out<K: Keeper>(
     ensures ok { K.is_honest keeper.new → IfOk result (λ reply. (spec.is_fault_reply reply ≡ false) × IsStep (K.vault keeper.old) at who.now (AsIntake intake) reply (K.vault keeper.new)) }
     ensures err { K.is_honest keeper.new → OnErr result (K.vault keeper.new ≡ K.vault keeper.old) }
     ensures reached { K.is_honest keeper.new → Reached (K.vault keeper.old) → Reached (K.vault keeper.new) }
-    ensures leaves { Leaves K.Kept keeper.old keeper.new (spec.tells_device result) }
+    ensures leaves { Leaves K.Kept keeper.old keeper.new (spec.reports_device result) }
 {
     let command = Command::Intake(intake);
     let reply = step(alloc, keeper, at, who, &command);
@@ -158,7 +158,7 @@ pub(crate) fn take_row<K: Keeper, F: Folder>(
     ensures counted { K.count keeper.old ≤ K.count keeper.new }
     ensures counted_there { F.count folder.old ≤ F.count folder.new }
     ensures device { result ≡ Err Fault.Device → RoseOrIsFull (K.count keeper.old) (K.count keeper.new) ⊎ RoseOrIsFull (F.count folder.old) (F.count folder.new) }
-    ensures steady { spec.tells_device result ≡ false → K.count keeper.new ≡ K.count keeper.old }
+    ensures steady { spec.reports_device result ≡ false → K.count keeper.new ≡ K.count keeper.old }
 {
     match command(alloc, bucket, batch, line, cells, folder) {
         Ok(intake) => carried_out(alloc, keeper, at, who, intake),

@@ -49,7 +49,7 @@ abbrev pub of_which : ℕ → List Tenure → List ℕ
 of_which removed [] = []
 of_which removed (t ∷ ts) = tenure_line t (end_before removed ts) ++ of_which removed ts
 
--- the tenures of a version, where its bucket moved while it was held; of one alone there is nothing to tell
+-- the tenures of a version, where its bucket moved while it was held; of one alone there is nothing to say
 abbrev pub tenure_lines : ℕ → List Tenure → List ℕ
 tenure_lines removed [] = []
 tenure_lines removed (t ∷ []) = []

@@ -1,4 +1,4 @@
--- What is told of a removed entry: its digest, who admitted it, why it was removed, and how long it was held.
+-- What is said of a removed entry: its digest, who admitted it, why it was removed, and how long it was held.
 use Rattle.std.specs.Prelude.{ℕ, ◌-◌, List, [], ◌++◌, Option, Some, None, codes}
 use Rattle.hex.specs.Hex.{encode_lower}
 use Rattle.vault_base.specs.Days.{day}

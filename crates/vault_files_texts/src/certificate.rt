@@ -210,7 +210,7 @@ fn sealed(alloc: Global, text: String) -> Result<String, AllocError>
 
 /// The certificate of a removed content version: what it was, when and by whom it was admitted and removed,
 /// how many whole days it was held, and a seal, which is the SHA-256 digest of all bytes above its line.
-/// Of two tenures or more it tells each: its department, and the whole days from its beginning to its end.
+/// Of two tenures or more it states each: its department, and the whole days from its beginning to its end.
 ///
 /// A marker and a version that is held have no certificate; their text is empty. The error is want of memory.
 #[tactic(auto, unfolding(crate::specs::Certificate::certificate_text))]

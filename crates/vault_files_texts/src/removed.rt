@@ -1,4 +1,4 @@
-//! What is told of a removed entry.
+//! What is said of a removed entry.
 ghost use Rattle.std.specs.Prelude.{◌≡◌, ◌++◌, codes, IfOk, option_map, string_bytes};
 ghost use Rattle.vault_files_texts.specs.Removed as spec;
 

@@ -58,15 +58,15 @@ is_marker (Some allow.Marker) = true
 is_marker _ = false
 
 -- a refusal is about a delete marker: on top of its key, or named by its id
-abbrev pub tells_marker : Refusal → Option Allow → Bool
-tells_marker (refusal.NoSuchKey marker) a = marker
-tells_marker _ a = is_marker a
+abbrev pub names_marker : Refusal → Option Allow → Bool
+names_marker (refusal.NoSuchKey marker) a = marker
+names_marker _ a = is_marker a
 
 abbrev pub refusal_head : Refusal → Option Allow → ℕ → Head
 refusal_head r a n =
-    record { status = refusal_status r; kind = kind.Json n; allow = a; marker = tells_marker r a; version = None; retention = None; hold = None }
+    record { status = refusal_status r; kind = kind.Json n; allow = a; marker = names_marker r a; version = None; retention = None; hold = None }
 
--- out answers a refusal, and tells these methods
+-- out answers a refusal, and states these methods
 abbrev pub AnswersRefusal : Option ℕ → Refusal → Option Allow → Bool → List ℕ → Type 0
 AnswersRefusal moment r a shown out =
     Answers moment (refusal_head r a (length (refusal_text r))) (refusal_text r) shown out
@@ -81,7 +81,7 @@ abbrev pub plain_head : Status → Kind → Bool → Option ℕ → Head
 plain_head s k marker version =
     record { status = s; kind = k; allow = None; marker = marker; version = version; retention = None; hold = None }
 
--- a command that has nothing to tell: 204 where it drops what it names, else 200
+-- a command that has nothing to say: 204 where it drops what it names, else 200
 abbrev pub done_head : Bool → Head
 done_head drops =
     if drops then plain_head status.NoContent kind.Nothing false None else plain_head status.Ok kind.Empty false None

@@ -9,7 +9,7 @@ use Rattle.vault_core_model.specs.declared.command.Command.{Command}
 use Rattle.vault_core_model.specs.declared.reply.Reply.{Reply}
 use Rattle.vault_http.specs.Reply.{AnswersReply}
 use Rattle.vault_io.specs.Begins.{Begins}
-use Rattle.vault_http.specs.Exchange.{drops, told}
+use Rattle.vault_http.specs.Exchange.{drops, stated}
 use Rattle.vault_http.specs.declared.fault.ServeFault.{ServeFault}
 use Rattle.vault_http.specs.declared.fault.ServeFault.TheVariants as faults
 
@@ -25,9 +25,9 @@ abbrev pub JudgedSteady : Type 0 → Result (Unit {0}) ServeFault → ℕ → Bo
 JudgedSteady Honest result at shown who judged old new n n' before after =
     (n' ≡ n) ⊎ ((c : Command) × (reply : Reply) × (judged ≡ Ok c) × (Honest → IsStep old at who c reply new) × IsTrue (is_device_reply reply) × ReplySent result at c shown reply before after)
 
--- the same of a request, whose answer stands after what a client that waits was told
+-- the same of a request, whose answer stands after what a client that waits was sent
 abbrev pub Steady : Type 0 → Result (Unit {0}) ServeFault → Option ℕ → Vault → Vault → ℕ → ℕ → Option (List ℕ) → Option (List ℕ) → Type 0
 Steady Honest result moment old new n n' before after =
     (n' ≡ n)
     ⊎ ((at : ℕ) × (moment ≡ Some at) × (who : List ℕ) × (c : Command) × (reply : Reply) × (Honest → IsStep old at who c reply new) × IsTrue (is_device_reply reply)
-    × (waits : Bool) × (mid : Option (List ℕ)) × (shown : Bool) × Appends before mid (told waits) × ReplySent result at c shown reply mid after)
+    × (waits : Bool) × (mid : Option (List ℕ)) × (shown : Bool) × Appends before mid (stated waits) × ReplySent result at c shown reply mid after)

@@ -21,7 +21,7 @@ use vault_core::step::step;
 use vault_core_model::command::Command;
 use vault_core_model::keeper::Keeper;
 
-/// Whether a command drops what it names, and has nothing to tell.
+/// Whether a command drops what it names, and has nothing to say.
 fn drops(command: &Command) -> bool
     ensures { result ≡ spec.drops command.now }
 {

@@ -91,16 +91,16 @@ pub fn command_after<R: Read>(
     operation: Operation,
     locks: Locks,
     size: Option<u64>,
-    told: Result<(), ServeFault>,
+    stated: Result<(), ServeFault>,
 ) -> Result<Result<Command, Refusal>, ServeFault>
     ensures command { IfOk result (λ judged. IfSome (R.remaining reader.old) (λ rest. judged ≡ spec.command_after operation locks size rest)) }
-    ensures reported { OnOk result (told ≡ Ok tt) }
-    ensures fault { IfErr told (λ f. result ≡ Err f) }
-    ensures err { result ≡ Err faults.Write → told ≡ Err faults.Write }
+    ensures reported { OnOk result (stated ≡ Ok tt) }
+    ensures fault { IfErr stated (λ f. result ≡ Err f) }
+    ensures err { result ≡ Err faults.Write → stated ≡ Err faults.Write }
     ensures unread { result ≡ Err faults.Write → R.remaining reader.new ≡ R.remaining reader.old }
     ensures taken { OnOk result ((taken : List ℕ) × Consumes (R.remaining reader.old) (R.remaining reader.new) taken × spec.IsWithinLength size taken) }
 {
-    if let Err(fault) = told {
+    if let Err(fault) = stated {
         return faulted(operation, fault);
     }
     match body_of(alloc, reader, size) {

@@ -32,8 +32,8 @@ pub fn send<W: Write>(writer: &mut W, bytes: &[u8]) -> Result<(), ServeFault>
     }
 }
 
-/// Tells a client that waits to go on.
-pub fn tell<W: Write>(writer: &mut W, waits: bool) -> Result<(), ServeFault>
+/// States a client that waits to go on.
+pub fn send_interim<W: Write>(writer: &mut W, waits: bool) -> Result<(), ServeFault>
     ensures ok { OnOk result (Appends (W.contents writer.old) (W.contents writer.new) (if waits then go_on else [])) }
     ensures err { IfErr result (λ e. (e ≡ faults.Write) × (waits ≡ true) × Begins (W.contents writer.old) (W.contents writer.new) go_on) }
 {

@@ -17,7 +17,7 @@ use crate::carrying::{conclude, deny};
 use crate::command::command_after;
 use crate::fault::ServeFault;
 use crate::read::head::{Front, read_head};
-use crate::send::tell;
+use crate::send::send_interim;
 use httparse::spans::{EMPTY_HEADER_SPAN, HeaderSpan, RequestSpans};
 use std::alloc::Global;
 use std::io::{Read, Write};
@@ -53,8 +53,8 @@ fn serve_parts<R: Read, W: Write, K: Keeper>(
     ensures counted { K.count keeper.old ≤ K.count keeper.new }
     ensures steady { Steady (K.is_honest keeper.new) result (Some at) (K.vault keeper.old) (K.vault keeper.new) (K.count keeper.old) (K.count keeper.new) (W.contents writer.old) (W.contents writer.new) }
 {
-    let told = tell(writer, waits);
-    let judged = command_after(alloc, reader, operation, locks, size, told)?;
+    let stated = send_interim(writer, waits);
+    let judged = command_after(alloc, reader, operation, locks, size, stated)?;
     conclude(alloc, writer, keeper, at, caller, judged, shown)
 }
 

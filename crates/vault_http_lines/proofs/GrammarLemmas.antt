@@ -23,9 +23,9 @@ use Rattle.vault_http_lines.specs.declared.verb.Verb.TheVariants as verb
 use Rattle.vault_http_lines.proofs.CommandLemmas.{reads-values, heading-fits}
 
 -- what a reading gives, of a line that has the shape or hasn't
-abbrev pub Told : {A : Type 0} → Bool → (A → Type 0) → Result A Refusal → Type 0
-Told true P r = Reads P r
-Told false P r = r ≡ Err MalformedBody
+abbrev pub Decided : {A : Type 0} → Bool → (A → Type 0) → Result A Refusal → Type 0
+Decided true P r = Reads P r
+Decided false P r = r ≡ Err MalformedBody
 
 -- ---- the verb
 
@@ -43,15 +43,15 @@ pub is-name : (name : List ℕ) (verb : Verb) → verb_named name ≡ Some verb 
 is-name name verb e = (bytes_eq-Decides name (verb_name verb)).0 (found-passes (λ v. bytes_eq name (verb_name v)) verbs verb e)
 
 -- the verb of a value that has its shape, or of none
-verb-chosen : (d : Data) (name : List ℕ) (found : Option Verb) → get (codes "do") d ≡ Some (string name) → verb_named name ≡ found → Told (option_map_or (λ verb. is_shaped verb d) found false) (λ verb. IsDo d verb × IsTrue (is_shaped verb d)) (if_shaped found d)
+verb-chosen : (d : Data) (name : List ℕ) (found : Option Verb) → get (codes "do") d ≡ Some (string name) → verb_named name ≡ found → Decided (option_map_or (λ verb. is_shaped verb d) found false) (λ verb. IsDo d verb × IsTrue (is_shaped verb d)) (if_shaped found d)
 verb-chosen d name None e f = refl
 verb-chosen d name (Some verb) e f = shaped (is_shaped verb d) refl
   where
-    shaped : (b : Bool) → is_shaped verb d ≡ b → Told b (λ verb. IsDo d verb × IsTrue (is_shaped verb d)) (if b then Ok verb else Err MalformedBody)
+    shaped : (b : Bool) → is_shaped verb d ≡ b → Decided b (λ verb. IsDo d verb × IsTrue (is_shaped verb d)) (if b then Ok verb else Err MalformedBody)
     shaped true g = (e ∙ ap (λ t. Some (string t)) (is-name name verb f), g)
     shaped false g = refl
 
-verb-found : (d : Data) (found : Option Data) → get (codes "do") d ≡ found → Told (option_map_or (λ verb. is_shaped verb d) (option_and_then verb_named (option_and_then as_str found)) false) (λ verb. IsDo d verb × IsTrue (is_shaped verb d)) (or_malformed (option_and_then as_str found) >>= (λ name. if_shaped (verb_named name) d))
+verb-found : (d : Data) (found : Option Data) → get (codes "do") d ≡ found → Decided (option_map_or (λ verb. is_shaped verb d) (option_and_then verb_named (option_and_then as_str found)) false) (λ verb. IsDo d verb × IsTrue (is_shaped verb d)) (or_malformed (option_and_then as_str found) >>= (λ name. if_shaped (verb_named name) d))
 verb-found d None e = refl
 verb-found d (Some null) e = refl
 verb-found d (Some (boolean b)) e = refl
@@ -60,20 +60,20 @@ verb-found d (Some (string name)) e = verb-chosen d name (verb_named name) e ref
 verb-found d (Some (array ds)) e = refl
 verb-found d (Some (object ms)) e = refl
 
-told-verb : (d : Data) → Told (has_shape d) (λ verb. IsDo d verb × IsTrue (is_shaped verb d)) (verb_of d)
+stated-verb : (d : Data) → Decided (has_shape d) (λ verb. IsDo d verb × IsTrue (is_shaped verb d)) (verb_of d)
 unfolding verb_of text_of
-told-verb d = verb-found d (get (codes "do") d) refl
+stated-verb d = verb-found d (get (codes "do") d) refl
 
 -- ---- lines
 
-pub told-then : {A B : Type 0} (b : Bool) (P : A → Type 0) (Q : B → Type 0) (x : Result A Refusal) (f : A → Result B Refusal) → Told b P x → ((a : A) → P a → Reads Q (f a)) → Told b Q (x >>= f)
-told-then true P Q x f told next = reads-then P Q x f told next
-told-then false P Q x f told next = rw told refl
+pub stated-then : {A B : Type 0} (b : Bool) (P : A → Type 0) (Q : B → Type 0) (x : Result A Refusal) (f : A → Result B Refusal) → Decided b P x → ((a : A) → P a → Reads Q (f a)) → Decided b Q (x >>= f)
+stated-then true P Q x f stated next = reads-then P Q x f stated next
+stated-then false P Q x f stated next = rw stated refl
 
-pub told-timed : (d : Data) → Told (has_shape d) (Spells d) (timed_of d)
+pub stated-timed : (d : Data) → Decided (has_shape d) (Spells d) (timed_of d)
 unfolding timed_of
-told-timed d =
-    told-then (has_shape d) _ (Spells d) (verb_of d) _ (told-verb d) (λ verb verb_is.
+stated-timed d =
+    stated-then (has_shape d) _ (Spells d) (verb_of d) _ (stated-verb d) (λ verb verb_is.
     reads-then _ (Spells d) (reading_of d) _ (reads-reading d (heading-fits verb d verb_is.1).0) (λ at at_is.
     reads-then _ (Spells d) (asker_of d) _ (reads-asker d (heading-fits verb d verb_is.1).1) (λ who who_is.
     reads-then _ (Spells d) (values_of verb d) _ (reads-values verb d verb_is.0 verb_is.1) (λ command command_is.

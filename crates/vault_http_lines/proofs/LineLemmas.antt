@@ -14,21 +14,21 @@ use Rattle.vault_http_lines.specs.declared.read_line.Line.TheVariants as line
 use Rattle.vault_http_values.specs.Document.{json_of, or_malformed}
 use Rattle.vault_values.specs.Fault.{◌>>=◌}
 use Rattle.vault_http_lines.specs.Grammar.{has_shape, HasShape, IsLineOf, Spells}
-use Rattle.vault_http_lines.specs.ReadLine.{timed_of, command_of, without_cr, told, line_of}
-use Rattle.vault_http_lines.proofs.GrammarLemmas.{Told, told-timed}
+use Rattle.vault_http_lines.specs.ReadLine.{timed_of, command_of, without_cr, stated, line_of}
+use Rattle.vault_http_lines.proofs.GrammarLemmas.{Decided, stated-timed}
 use Rattle.vault_http_lines.proofs.SpelledLemmas.{reads-timed}
 
--- what is told of a line by whether it is too long or empty, and the value that it is
+-- what is said of a line by whether it is too long or empty, and the value that it is
 abbrev pub read_as : Bool → Bool → Option Data → Line
-read_as long empty found = if long then line.Refused MalformedBody else if empty then line.Skip else told (or_malformed found >>= timed_of)
+read_as long empty found = if long then line.Refused MalformedBody else if empty then line.Skip else stated (or_malformed found >>= timed_of)
 
 is-read-as : (bytes : List ℕ) → line_of bytes ≡ read_as (nat_lt 4194304 (length bytes)) (length (without_cr bytes) == 0) (json_of (without_cr bytes))
 unfolding line_of command_of
 is-read-as bytes = refl
 
-pub told-ok : (r : Result Timed Refusal) (t : Timed) → told r ≡ line.Command t → r ≡ Ok t
-told-ok (Ok u) t e = cc
-told-ok (Err x) t e = cc
+pub stated-ok : (r : Result Timed Refusal) (t : Timed) → stated r ≡ line.Command t → r ≡ Ok t
+stated-ok (Ok u) t e = cc
+stated-ok (Err x) t e = cc
 
 -- a line that asks for a command
 pub record Asked (long empty : Bool) (found : Option Data) (t : Timed) : Type 0 where
@@ -42,7 +42,7 @@ asks : (long empty : Bool) (found : Option Data) (t : Timed) → read_as long em
 asks true empty found t e = cc
 asks false true found t e = cc
 asks false false None t e = cc
-asks false false (Some d) t e = record { short = refl; filled = refl; value = d; is_value = refl; reading = told-ok (timed_of d) t e }
+asks false false (Some d) t e = record { short = refl; filled = refl; value = d; is_value = refl; reading = stated-ok (timed_of d) t e }
 
 pub not-long : (n : ℕ) → nat_lt 4194304 n ≡ false → n ≤ 4194304
 not-long n e = grind (arith, common_steps)
@@ -50,7 +50,7 @@ not-long n e = grind (arith, common_steps)
 pub is-short : (n : ℕ) → n ≤ 4194304 → nat_lt 4194304 n ≡ false
 is-short n e = grind (arith, common_steps)
 
-pub spelled : (b : Bool) (P : Timed → Type 0) (r : Result Timed Refusal) (t : Timed) → Told b P r → r ≡ Ok t → IsTrue b × P t
+pub spelled : (b : Bool) (P : Timed → Type 0) (r : Result Timed Refusal) (t : Timed) → Decided b P r → r ≡ Ok t → IsTrue b × P t
 spelled true P (Ok u) t h e =
     let same : u ≡ t = cc in
     (refl, subst P same h)
@@ -61,7 +61,7 @@ spelled false P (Err x) t h e = cc
 pub command-is-spelled : (bytes : List ℕ) (t : Timed) → line_of bytes ≡ line.Command t → IsLineOf bytes t
 command-is-spelled bytes t e =
     let asked = asks _ _ _ t (sym (is-read-as bytes) ∙ e) in
-    let found = spelled (has_shape asked.value) (Spells asked.value) (timed_of asked.value) t (told-timed asked.value) asked.reading in
+    let found = spelled (has_shape asked.value) (Spells asked.value) (timed_of asked.value) t (stated-timed asked.value) asked.reading in
     (not-long (length bytes) asked.short, (asked.value, asked.is_value, found.0, found.1))
 
 none-either : (b : Bool) → (let found : Option Data = if b then read [] else None in found) ≡ None
@@ -91,7 +91,7 @@ short-if-empty bytes e =
 pub skip-empty : (bytes : List ℕ) → without_cr bytes ≡ [] → line_of bytes ≡ line.Skip
 skip-empty bytes e = is-read-as bytes ∙ rw (short-if-empty bytes e, e) refl
 
-pub not-malformed : (b : Bool) (P : Timed → Type 0) (r : Result Timed Refusal) → Told b P r → IsTrue b → told r ≡ line.Refused MalformedBody → ⊥
+pub not-malformed : (b : Bool) (P : Timed → Type 0) (r : Result Timed Refusal) → Decided b P r → IsTrue b → stated r ≡ line.Refused MalformedBody → ⊥
 not-malformed true P (Ok u) h s e = cc
 not-malformed true P (Err x) h s e = h cc
 not-malformed false P r h s e = cc
@@ -100,21 +100,21 @@ pub is-filled : (found : Option Data) (bytes : List ℕ) (d : Data) → json_of 
 is-filled found [] d e = let none = no-value in cc
 is-filled found (b ∷ bytes) d e = grind (arith, common_steps)
 
-reads : (bytes : List ℕ) (d : Data) → length bytes ≤ 4194304 → json_of (without_cr bytes) ≡ Some d → line_of bytes ≡ told (timed_of d)
+reads : (bytes : List ℕ) (d : Data) → length bytes ≤ 4194304 → json_of (without_cr bytes) ≡ Some d → line_of bytes ≡ stated (timed_of d)
 reads bytes d short found = is-read-as bytes ∙ rw (is-short (length bytes) short, is-filled None (without_cr bytes) d found, found) refl
 
 pub shape-is-kept : (bytes : List ℕ) → line_of bytes ≡ line.Refused MalformedBody → HasShape bytes → ⊥
-shape-is-kept bytes e h = not-malformed (has_shape h.1.0) (Spells h.1.0) (timed_of h.1.0) (told-timed h.1.0) h.1.2 (sym (reads bytes h.1.0 h.0 h.1.1) ∙ e)
+shape-is-kept bytes e h = not-malformed (has_shape h.1.0) (Spells h.1.0) (timed_of h.1.0) (stated-timed h.1.0) h.1.2 (sym (reads bytes h.1.0 h.0 h.1.1) ∙ e)
 
-pub told-malformed : (b : Bool) (P : Timed → Type 0) (r : Result Timed Refusal) → Told b P r → (b ≡ true → ⊥) → told r ≡ line.Refused MalformedBody
-told-malformed true P r h other = absurd (other refl)
-told-malformed false P r h other = rw h refl
+pub stated-malformed : (b : Bool) (P : Timed → Type 0) (r : Result Timed Refusal) → Decided b P r → (b ≡ true → ⊥) → stated r ≡ line.Refused MalformedBody
+stated-malformed true P r h other = absurd (other refl)
+stated-malformed false P r h other = rw h refl
 
 malformed-read : (long empty : Bool) (found : Option Data) → (empty ≡ true → ⊥) → ((d : Data) → long ≡ false → found ≡ Some d → has_shape d ≡ true → ⊥) → read_as long empty found ≡ line.Refused MalformedBody
 malformed-read true empty found filled other = refl
 malformed-read false true found filled other = absurd (filled refl)
 malformed-read false false None filled other = refl
-malformed-read false false (Some d) filled other = told-malformed (has_shape d) (Spells d) (timed_of d) (told-timed d) (other d refl refl)
+malformed-read false false (Some d) filled other = stated-malformed (has_shape d) (Spells d) (timed_of d) (stated-timed d) (other d refl refl)
 
 pub malformed : (bytes : List ℕ) → (without_cr bytes ≡ [] → ⊥) → (HasShape bytes → ⊥) → line_of bytes ≡ line.Refused MalformedBody
 malformed bytes filled other =
@@ -125,17 +125,17 @@ malformed bytes filled other =
 pub spelled-is-command : (bytes : List ℕ) (t : Timed) → IsLineOf bytes t → line_of bytes ≡ line.Command t
 spelled-is-command bytes t h =
     reads bytes h.1.0 h.0 h.1.1
-    ∙ ap (λ r. told r) (reads-timed h.1.0 t.at t.who t.command h.1.2 h.1.3.0 h.1.3.1 h.1.3.2)
+    ∙ ap (λ r. stated r) (reads-timed h.1.0 t.at t.who t.command h.1.2 h.1.3.0 h.1.3.1 h.1.3.2)
 
 skips : (long empty : Bool) (found : Option Data) → read_as long empty found ≡ line.Skip → empty ≡ true
 skips true empty found e = cc
 skips false true found e = refl
 skips false false None e = cc
-skips false false (Some d) e = told-skip (timed_of d) e
+skips false false (Some d) e = stated-skip (timed_of d) e
   where
-    told-skip : (r : Result Timed Refusal) → told r ≡ line.Skip → false ≡ true
-    told-skip (Ok t) q = cc
-    told-skip (Err x) q = cc
+    stated-skip : (r : Result Timed Refusal) → stated r ≡ line.Skip → false ≡ true
+    stated-skip (Ok t) q = cc
+    stated-skip (Err x) q = cc
 
 pub skipped-is-empty : (bytes : List ℕ) → line_of bytes ≡ line.Skip → without_cr bytes ≡ []
 skipped-is-empty bytes e = no-items (without_cr bytes) (skips _ _ _ (sym (is-read-as bytes) ∙ e))

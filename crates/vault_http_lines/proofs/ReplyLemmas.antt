@@ -100,5 +100,5 @@ reply-whole (Stopped changes stop) = refl
 
 pub reply_text-is : (line text : List ℕ) (value : Data) (reply : Reply) → line ≡ text ++ 10 ∷ [] → (has_float value ≡ false → text ≡ compact_text value) → value ≡ reply_value reply → line ≡ reply_text reply
 unfolding reply_text
-reply_text-is line text value reply ended printed told =
-    ended ∙ ap (λ t. t ++ 10 ∷ []) (printed (ap has_float told ∙ reply-whole reply) ∙ ap compact_text told)
+reply_text-is line text value reply ended printed stated =
+    ended ∙ ap (λ t. t ++ 10 ∷ []) (printed (ap has_float stated ∙ reply-whole reply) ∙ ap compact_text stated)

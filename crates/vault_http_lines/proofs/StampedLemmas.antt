@@ -17,15 +17,15 @@ use Rattle.vault_http_values.proofs.ReadLemmas.{Reads, reads-then}
 use Rattle.vault_http_values.proofs.SpelledLemmas.{asker-ok}
 use Rattle.vault_http_values.proofs.ValueLemmas.{reads-asker}
 use Rattle.vault_http_lines.specs.Grammar.{IsDo, SpellsCommand}
-use Rattle.vault_http_lines.specs.ReadLine.{told, values_of, without_cr}
+use Rattle.vault_http_lines.specs.ReadLine.{stated, values_of, without_cr}
 use Rattle.vault_http_lines.specs.Stamped.{clock_of, has_timeless_shape, HasTimelessShape, if_timeless, is_timeless, IsStampedLineOf, stamped_command_of, stamped_line_of, stamped_of, timeless_verb_of}
 use Rattle.vault_http_lines.specs.Verb.{verb_name, verb_named}
 use Rattle.vault_http_lines.specs.declared.read_line.Line.{Line}
 use Rattle.vault_http_lines.specs.declared.read_line.Line.TheVariants as line
 use Rattle.vault_http_lines.specs.declared.verb.Verb.{Verb}
 use Rattle.vault_http_lines.proofs.CommandLemmas.{timeless-asker-fits, timeless-values}
-use Rattle.vault_http_lines.proofs.GrammarLemmas.{Told, is-name, told-then}
-use Rattle.vault_http_lines.proofs.LineLemmas.{is-filled, is-short, no-items, not-long, not-malformed, short-if-empty, spelled, told-malformed, told-ok}
+use Rattle.vault_http_lines.proofs.GrammarLemmas.{Decided, is-name, stated-then}
+use Rattle.vault_http_lines.proofs.LineLemmas.{is-filled, is-short, no-items, not-long, not-malformed, short-if-empty, spelled, stated-malformed, stated-ok}
 use Rattle.vault_http_lines.proofs.SpelledLemmas.{chosen, do-ok, named, values-spelled}
 
 -- ---- what a value asks for
@@ -37,15 +37,15 @@ SpellsAt moment d t = (moment ≡ Some t.at) × IsName d (codes "as") t.who × S
 abbrev pub IsShapedAs : Data → Verb → Type 0
 IsShapedAs d verb = IsDo d verb × IsTrue (is_timeless verb d)
 
-verb-chosen : (d : Data) (name : List ℕ) (found : Option Verb) → get (codes "do") d ≡ Some (string name) → verb_named name ≡ found → Told (option_map_or (λ verb. is_timeless verb d) found false) (IsShapedAs d) (if_timeless found d)
+verb-chosen : (d : Data) (name : List ℕ) (found : Option Verb) → get (codes "do") d ≡ Some (string name) → verb_named name ≡ found → Decided (option_map_or (λ verb. is_timeless verb d) found false) (IsShapedAs d) (if_timeless found d)
 verb-chosen d name None e f = refl
 verb-chosen d name (Some verb) e f = shaped (is_timeless verb d) refl
   where
-    shaped : (b : Bool) → is_timeless verb d ≡ b → Told b (IsShapedAs d) (if b then Ok verb else Err MalformedBody)
+    shaped : (b : Bool) → is_timeless verb d ≡ b → Decided b (IsShapedAs d) (if b then Ok verb else Err MalformedBody)
     shaped true g = (e ∙ ap (λ t. Some (string t)) (is-name name verb f), g)
     shaped false g = refl
 
-verb-found : (d : Data) (found : Option Data) → get (codes "do") d ≡ found → Told (option_map_or (λ verb. is_timeless verb d) (option_and_then verb_named (option_and_then as_str found)) false) (IsShapedAs d) (or_malformed (option_and_then as_str found) >>= (λ name. if_timeless (verb_named name) d))
+verb-found : (d : Data) (found : Option Data) → get (codes "do") d ≡ found → Decided (option_map_or (λ verb. is_timeless verb d) (option_and_then verb_named (option_and_then as_str found)) false) (IsShapedAs d) (or_malformed (option_and_then as_str found) >>= (λ name. if_timeless (verb_named name) d))
 verb-found d None e = refl
 verb-found d (Some null) e = refl
 verb-found d (Some (boolean b)) e = refl
@@ -54,18 +54,18 @@ verb-found d (Some (string name)) e = verb-chosen d name (verb_named name) e ref
 verb-found d (Some (array ds)) e = refl
 verb-found d (Some (object ms)) e = refl
 
-told-verb : (d : Data) → Told (has_timeless_shape d) (IsShapedAs d) (timeless_verb_of d)
+stated-verb : (d : Data) → Decided (has_timeless_shape d) (IsShapedAs d) (timeless_verb_of d)
 unfolding timeless_verb_of text_of
-told-verb d = verb-found d (get (codes "do") d) refl
+stated-verb d = verb-found d (get (codes "do") d) refl
 
 reads-clock : (moment : Option ℕ) → Reads (λ at. moment ≡ Some at) (clock_of moment)
 reads-clock None = λ e. cc
 reads-clock (Some at) = refl
 
-told-stamped : (moment : Option ℕ) (d : Data) → Told (has_timeless_shape d) (SpellsAt moment d) (stamped_of moment d)
+stated-stamped : (moment : Option ℕ) (d : Data) → Decided (has_timeless_shape d) (SpellsAt moment d) (stamped_of moment d)
 unfolding stamped_of
-told-stamped moment d =
-    told-then (has_timeless_shape d) _ (SpellsAt moment d) (timeless_verb_of d) _ (told-verb d) (λ verb verb_is.
+stated-stamped moment d =
+    stated-then (has_timeless_shape d) _ (SpellsAt moment d) (timeless_verb_of d) _ (stated-verb d) (λ verb verb_is.
     reads-then _ (SpellsAt moment d) (clock_of moment) _ (reads-clock moment) (λ at at_is.
     reads-then _ (SpellsAt moment d) (asker_of d) _ (reads-asker d (timeless-asker-fits verb d verb_is.1)) (λ who who_is.
     reads-then _ (SpellsAt moment d) (values_of verb d) _ (timeless-values verb d verb_is.0 verb_is.1) (λ command command_is.
@@ -97,9 +97,9 @@ reads-stamped moment d t shape s =
 
 -- ---- lines
 
--- what is told of a line by whether it is too long or empty, and the value that it is
+-- what is said of a line by whether it is too long or empty, and the value that it is
 abbrev pub read_as : Option ℕ → Bool → Bool → Option Data → Line
-read_as moment long empty found = if long then line.Refused MalformedBody else if empty then line.Skip else told (or_malformed found >>= stamped_of moment)
+read_as moment long empty found = if long then line.Refused MalformedBody else if empty then line.Skip else stated (or_malformed found >>= stamped_of moment)
 
 is-read-as : (moment : Option ℕ) (bytes : List ℕ) → stamped_line_of moment bytes ≡ read_as moment (nat_lt 4194304 (length bytes)) (length (without_cr bytes) == 0) (json_of (without_cr bytes))
 unfolding stamped_line_of stamped_command_of
@@ -117,29 +117,29 @@ asks : (moment : Option ℕ) (long empty : Bool) (found : Option Data) (t : Time
 asks moment true empty found t e = cc
 asks moment false true found t e = cc
 asks moment false false None t e = cc
-asks moment false false (Some d) t e = record { short = refl; filled = refl; value = d; is_value = refl; reading = told-ok (stamped_of moment d) t e }
+asks moment false false (Some d) t e = record { short = refl; filled = refl; value = d; is_value = refl; reading = stated-ok (stamped_of moment d) t e }
 
 pub command-is-spelled : (moment : Option ℕ) (bytes : List ℕ) (t : Timed) → stamped_line_of moment bytes ≡ line.Command t → IsStampedLineOf moment bytes t
 command-is-spelled moment bytes t e =
     let asked = asks moment _ _ _ t (sym (is-read-as moment bytes) ∙ e) in
-    let found = spelled (has_timeless_shape asked.value) (SpellsAt moment asked.value) (stamped_of moment asked.value) t (told-stamped moment asked.value) asked.reading in
+    let found = spelled (has_timeless_shape asked.value) (SpellsAt moment asked.value) (stamped_of moment asked.value) t (stated-stamped moment asked.value) asked.reading in
     (not-long (length bytes) asked.short, (asked.value, asked.is_value, found.0, found.1.0, found.1.1, found.1.2))
 
-reads : (moment : Option ℕ) (bytes : List ℕ) (d : Data) → length bytes ≤ 4194304 → json_of (without_cr bytes) ≡ Some d → stamped_line_of moment bytes ≡ told (stamped_of moment d)
+reads : (moment : Option ℕ) (bytes : List ℕ) (d : Data) → length bytes ≤ 4194304 → json_of (without_cr bytes) ≡ Some d → stamped_line_of moment bytes ≡ stated (stamped_of moment d)
 reads moment bytes d short found = is-read-as moment bytes ∙ rw (is-short (length bytes) short, is-filled None (without_cr bytes) d found, found) refl
 
 pub spelled-is-command : (moment : Option ℕ) (bytes : List ℕ) (t : Timed) → IsStampedLineOf moment bytes t → stamped_line_of moment bytes ≡ line.Command t
 spelled-is-command moment bytes t h =
-    reads moment bytes h.1.0 h.0 h.1.1 ∙ ap (λ r. told r) (reads-stamped moment h.1.0 t h.1.2 (h.1.3, h.1.4, h.1.5))
+    reads moment bytes h.1.0 h.0 h.1.1 ∙ ap (λ r. stated r) (reads-stamped moment h.1.0 t h.1.2 (h.1.3, h.1.4, h.1.5))
 
 pub shape-is-kept : (moment : Option ℕ) (bytes : List ℕ) → stamped_line_of moment bytes ≡ line.Refused MalformedBody → HasTimelessShape bytes → ⊥
-shape-is-kept moment bytes e h = not-malformed (has_timeless_shape h.1.0) (SpellsAt moment h.1.0) (stamped_of moment h.1.0) (told-stamped moment h.1.0) h.1.2 (sym (reads moment bytes h.1.0 h.0 h.1.1) ∙ e)
+shape-is-kept moment bytes e h = not-malformed (has_timeless_shape h.1.0) (SpellsAt moment h.1.0) (stamped_of moment h.1.0) (stated-stamped moment h.1.0) h.1.2 (sym (reads moment bytes h.1.0 h.0 h.1.1) ∙ e)
 
 malformed-read : (moment : Option ℕ) (long empty : Bool) (found : Option Data) → (empty ≡ true → ⊥) → ((d : Data) → long ≡ false → found ≡ Some d → has_timeless_shape d ≡ true → ⊥) → read_as moment long empty found ≡ line.Refused MalformedBody
 malformed-read moment true empty found filled other = refl
 malformed-read moment false true found filled other = absurd (filled refl)
 malformed-read moment false false None filled other = refl
-malformed-read moment false false (Some d) filled other = told-malformed (has_timeless_shape d) (SpellsAt moment d) (stamped_of moment d) (told-stamped moment d) (other d refl refl)
+malformed-read moment false false (Some d) filled other = stated-malformed (has_timeless_shape d) (SpellsAt moment d) (stamped_of moment d) (stated-stamped moment d) (other d refl refl)
 
 pub malformed : (moment : Option ℕ) (bytes : List ℕ) → (without_cr bytes ≡ [] → ⊥) → (HasTimelessShape bytes → ⊥) → stamped_line_of moment bytes ≡ line.Refused MalformedBody
 malformed moment bytes filled other =

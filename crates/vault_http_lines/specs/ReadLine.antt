@@ -75,13 +75,13 @@ command_of bytes = do
 abbrev pub without_cr : List ℕ → List ℕ
 without_cr line = if slice_index line (length line - 1) == 13 then take (length line - 1) line else line
 
-abbrev pub told : Result Timed Refusal → Line
-told (Ok t) = line.Command t
-told (Err r) = line.Refused r
+abbrev pub stated : Result Timed Refusal → Line
+stated (Ok t) = line.Command t
+stated (Err r) = line.Refused r
 
 -- what is asked by a line as it stands before its LF
 unfoldable pub line_of : List ℕ → Line
 line_of bytes =
     if nat_lt 4194304 (length bytes) then line.Refused MalformedBody
     else if length (without_cr bytes) == 0 then line.Skip
-    else told (command_of (without_cr bytes))
+    else stated (command_of (without_cr bytes))

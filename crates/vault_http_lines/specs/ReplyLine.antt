@@ -176,7 +176,7 @@ answer_value (answer.TakenIn taken) = taken_in_value taken
 abbrev pub numbered_value : Refusal → Data
 numbered_value refusal = object (member (codes "code") (text (name_of refusal)) (member (codes "n") (whole (number_of refusal)) no_members))
 
--- a refusal's name and number, and what else it tells
+-- a refusal's name and number, and what else it says
 abbrev pub refusal_value : Refusal → Data
 refusal_value (AccessDenied reason) = object (member (codes "code") (text (name_of (AccessDenied reason))) (member (codes "n") (whole (number_of (AccessDenied reason))) (member (codes "reason") (text (reason_name reason)) no_members)))
 refusal_value (NoSuchKey marker) = object (member (codes "code") (text (name_of (NoSuchKey marker))) (member (codes "marker") (boolean marker) (member (codes "n") (whole (number_of (NoSuchKey marker))) no_members)))

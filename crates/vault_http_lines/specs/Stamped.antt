@@ -15,7 +15,7 @@ use Rattle.vault_http_values.specs.declared.shape.Kind.{Kind}
 use Rattle.vault_http_values.specs.declared.shape.Kind.TheVariants.{Text}
 use Rattle.vault_values.specs.Fault.{◌>>=◌}
 use Rattle.vault_http_lines.specs.Grammar.{SpellsCommand, verb_in}
-use Rattle.vault_http_lines.specs.ReadLine.{told, values_of, without_cr}
+use Rattle.vault_http_lines.specs.ReadLine.{stated, values_of, without_cr}
 use Rattle.vault_http_lines.specs.Verb.{members_of, verb_named}
 use Rattle.vault_http_lines.specs.declared.read_line.Line.{Line}
 use Rattle.vault_http_lines.specs.declared.read_line.Line.TheVariants as line
@@ -70,7 +70,7 @@ unfoldable pub stamped_line_of : Option ℕ → List ℕ → Line
 stamped_line_of moment bytes =
     if nat_lt 4194304 (length bytes) then line.Refused MalformedBody
     else if length (without_cr bytes) == 0 then line.Skip
-    else told (stamped_command_of moment (without_cr bytes))
+    else stated (stamped_command_of moment (without_cr bytes))
 
 -- ---- the line that asks for the end
 

@@ -15,7 +15,7 @@ pub fn commands_are_spelled()
 {}
 
 /// A line is malformed exactly where it isn't empty and isn't the JSON of an object of just the
-/// members of its `do`, each of its JSON type. So of another line a fault of a value is told.
+/// members of its `do`, each of its JSON type. So of another line a fault of a value is reported.
 pub fn other_shapes_are_malformed()
     ensures { (line : List ℕ) → (line_of line ≡ Line.Refused Refusal.MalformedBody) ↔ ((without_cr line ≢ []) × (¬ HasShape line)) }
 {}

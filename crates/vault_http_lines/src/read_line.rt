@@ -108,7 +108,7 @@ pub(crate) fn trimmed(line: &[u8]) -> &[u8]
 ///
 /// A line of more than `LONGEST_LINE` bytes, one that isn't a JSON object of just the members of
 /// its `do`, and one whose members are of other JSON types is refused with `MalformedBody`. Of a
-/// value that isn't allowed the refusal of the first is told: `at`, `as`, and then the others.
+/// value that isn't allowed the refusal of the first is reported: `at`, `as`, and then the others.
 #[tactic(auto, unfolding(crate::specs::ReadLine::line_of))]
 pub fn read_line(alloc: Global, line: &[u8]) -> Result<Line, AllocError>
     ensures { IfOk result (λ read. read ≡ line_of line.now) }

@@ -142,7 +142,7 @@ fn on_rules(method: &[u8], bucket: BucketName) -> Result<Operation, Resource>
     }
 }
 
-/// What a method does with a target; where the target hasn't that method, the error tells its kind.
+/// What a method does with a target; where the target hasn't that method, the error states its kind.
 /// Methods are compared with their letter case (RFC 9110, section 9.1).
 pub fn operation_of(method: &[u8], target: Target) -> Result<Operation, Resource>
     ensures { result ≡ spec.operation_of method.now target }

@@ -41,7 +41,7 @@ reads-name : (text : List ℕ) → Reads (λ value. (text ≡ value) × IsTrue (
 unfolding name_of
 reads-name text = checked is_plain_name _ _ (is_plain_name text) text (λ h. cc) refl
 
--- a text that is read, and what is told of it
+-- a text that is read, and what is said of it
 pub reads-from-text : (P : List ℕ → Type 0) (name : List ℕ) (d : Data) (f : List ℕ → Result (List ℕ) Refusal) → IsTrue (fits Text (get name d)) → ((text : List ℕ) → Reads (λ value. (text ≡ value) × P value) (f text)) → Reads (λ value. IsText d name value × P value) (text_of name d >>= f)
 reads-from-text P name d f fit of_text =
     reads-then (IsText d name) _ (text_of name d) f (reads-text name d fit) (λ text text_is.

@@ -1,4 +1,4 @@
--- What members spell, told of the values that they are.
+-- What members spell, said of the values that they are.
 use Rattle.std.specs.Prelude.{◌≡◌, ◌<◌, ◌⊎◌, ℕ, List, [], ◌∷◌, codes, Bool, false, IsTrue, Option, Some, None, is_some, MatchOption, Ok}
 use Rattle.std.specs.List.{list_all, list_any}
 use Rattle.std.specs.Str.{bytes_eq}

@@ -88,7 +88,7 @@ fn permit_to_lower(mode: Mode, bypass: bool, may_bypass: bool) -> Result<Permit,
 /// Whether a version with this lock may be removed now, where `bypass` says whether a bypass
 /// of governance is asked for and `may_bypass` whether the caller has that right.
 ///
-/// A bypass that isn't needed isn't told. `Denial` names the first of hold, compliance and
+/// A bypass that isn't needed isn't reported. `Denial` names the first of hold, compliance and
 /// governance that guards the version.
 pub fn may_remove(
     lock: &Lock,

@@ -1,4 +1,4 @@
--- The vault that a store keeps: the one that its tables told when it was opened, with the changes made since.
+-- The vault that a store keeps: the one that its tables stated when it was opened, with the changes made since.
 use Rattle.std.specs.Prelude.{◌≡◌, ℕ, Bool, List, [], ◌∷◌, IsTrue}
 use Rattle.sqlite_trees.specs.declared.store.Store.{Ghosts}
 use Rattle.sqlite.specs.Held.{Held}

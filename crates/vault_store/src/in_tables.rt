@@ -8,7 +8,7 @@ ghost use Rattle.vault_core_model.specs.declared.change.Change.{Change};
 ghost use Rattle.vault_core_model.specs.Step.{IsRun};
 ghost use Rattle.vault_core_model.specs.Vault.{Vault};
 ghost use Rattle.vault_audit.specs.Health.{IsHealthy};
-ghost use Rattle.vault_audit.specs.Whole.{IsTold};
+ghost use Rattle.vault_audit.specs.Whole.{IsReported};
 ghost use Rattle.vault_audit_model.specs.Spells.{AreSound};
 ghost use Rattle.vault_store_apply.specs.Left.{LeavesAlone};
 ghost use Rattle.vault_store.specs.Kept.{StandsFor};
@@ -37,10 +37,10 @@ pub fn run_in_tables<S: Alter>(
         ∥ ((w : Vault) × IsRun v commands.now done.0.items w × StandsFor (state S.Store done.1) w × (refused : List (ℕ × Change)) × LeavesOneOf (state S.Store done.1) w refused) ∥₁) }
     // Commands are carried out over sound tables alone.
     ensures sound { IfOk result (λ done. HasCleanDisk (state S.Store done.1) → (v : Vault) × AreSound (state S.Store conn).now v) }
-    ensures reported { IfErr result (λ e. IsTold e.0) }
-    // A store that works, outside a transaction, is never told as one that failed.
+    ensures reported { IfErr result (λ e. IsReported e.0) }
+    // A store that works, outside a transaction, is never reported as one that failed.
     ensures healthy { conn.in_transaction ≡ false → IfErr result (λ e. IsHealthy (state S.Store e.1) → e.0 ≢ Refusal.Device) }
-    // What is told as damaged spells no vault.
+    // What is reported as damaged spells no vault.
     ensures damaged { IfErr result (λ e. HasCleanDisk (state S.Store e.1) → (t : Table) → e.0 ≡ Refusal.Damaged t → (v : Vault) → ¬ AreSound (state S.Store conn).now v) }
     // Where it is refused, a crash leaves nothing but what it could leave before, or the tables spelled a vault and spell it still, and a crash leaves that alone.
     ensures refused { IfErr result (λ e. HasCleanDisk (state S.Store e.1) →

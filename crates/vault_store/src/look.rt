@@ -4,7 +4,7 @@ ghost use Rattle.sqlite.specs.Held.{state};
 ghost use Rattle.sqlite.specs.State.{HasCleanDisk, IsLive, IsUnchanged, Survives};
 ghost use Rattle.vault_base.specs.declared.refusal.Table.{Table};
 ghost use Rattle.vault_core_model.specs.Vault.{Vault};
-ghost use Rattle.vault_audit.specs.Whole.{IsTold};
+ghost use Rattle.vault_audit.specs.Whole.{IsReported};
 ghost use Rattle.vault_audit_model.specs.Spells.{AreSound, AreSoundAs};
 ghost use Rattle.vault_audit.specs.Health.{IsHealthy};
 ghost use Rattle.vault_store_apply.specs.Left.{LeavesAlone};
@@ -51,7 +51,7 @@ pub(crate) fn look_as<S: Alter>(
     ensures same { HasCleanDisk (state S.Store conn.new) → OnOk result (IsUnchanged (state S.Store conn.old) (state S.Store conn.new)) }
     ensures rest { OnOk result (IsAtRest (state S.Store conn.new)) }
     ensures settled { OnOk result (conn.new.in_transaction ≡ false) }
-    ensures reported { IfErr result IsTold }
+    ensures reported { IfErr result IsReported }
     ensures healthy { IfErr result (λ r. IsHealthy (state S.Store conn.new) → r ≢ Refusal.Device) }
     ensures damaged { IfErr result (λ r. HasCleanDisk (state S.Store conn.new) → (t : Table) → r ≡ Refusal.Damaged t → (v : Vault) → ¬ AreSoundAs edition (state S.Store conn.old).now v) }
     ensures mode { OnErr result (HasCleanDisk (state S.Store conn.new) → conn.new.in_transaction ≡ false) }
@@ -84,7 +84,7 @@ pub(crate) fn look<S: Alter>(alloc: Global, conn: &mut Connection<S>) -> Result<
     ensures same { HasCleanDisk (state S.Store conn.new) → OnOk result (IsUnchanged (state S.Store conn.old) (state S.Store conn.new)) }
     ensures settled { OnOk result (conn.new.in_transaction ≡ false) }
     ensures alone { HasCleanDisk (state S.Store conn.new) → OnOk result ((v : Vault) → AreSound (state S.Store conn.new).now v → LeavesAlone (state S.Store conn.new) v) }
-    ensures reported { IfErr result IsTold }
+    ensures reported { IfErr result IsReported }
     ensures healthy { IfErr result (λ r. IsHealthy (state S.Store conn.new) → r ≢ Refusal.Device) }
     ensures damaged { IfErr result (λ r. HasCleanDisk (state S.Store conn.new) → (t : Table) → r ≡ Refusal.Damaged t → (v : Vault) → ¬ AreSound (state S.Store conn.old).now v) }
     ensures mode { OnErr result (HasCleanDisk (state S.Store conn.new) → conn.new.in_transaction ≡ false) }

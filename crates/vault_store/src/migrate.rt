@@ -6,7 +6,7 @@ ghost use Rattle.sqlite.specs.State.{HasCleanDisk, IsRolledBack, IsUnchanged, Sh
 ghost use Rattle.vault_base.specs.declared.refusal.Table.{Table};
 ghost use Rattle.vault_core_model.specs.Vault.{Vault};
 ghost use Rattle.vault_audit.specs.Health.{IsHealthy};
-ghost use Rattle.vault_audit.specs.Whole.{IsTold};
+ghost use Rattle.vault_audit.specs.Whole.{IsReported};
 ghost use Rattle.vault_audit_model.specs.Spells.{AreSound, AreSoundAs};
 ghost use Rattle.vault_audit_model.specs.Tables.{no_schema};
 ghost use Rattle.vault_store_apply.specs.Left.{LeavesAlone};
@@ -51,7 +51,7 @@ fn take_copy<O: Alter, S: Alter>(
     ensures spelled { HasCleanDisk (state O.Store old.new) → OnOk result ((v : Vault) × AreSoundAs edition (state O.Store old.old).now v) }
     ensures copied { HasCleanDisk (state O.Store old.new) → HasCleanDisk (state S.Store new.new)
         → OnOk result ((v : Vault) → AreSoundAs edition (state O.Store old.old).now v → AreSound (state S.Store new.new).now v × IsDatabase (state S.Store new.new).now) }
-    ensures reported { IfErr result (λ r. r ≢ Refusal.NameTaken → IsTold r) }
+    ensures reported { IfErr result (λ r. r ≢ Refusal.NameTaken → IsReported r) }
     ensures damaged { IfErr result (λ r. HasCleanDisk (state O.Store old.new) → (t : Table) → r ≡ Refusal.Damaged t → (v : Vault) → ¬ AreSoundAs edition (state O.Store old.old).now v) }
     ensures free { OnOk result ((state S.Store new.old).now.schema ≡ no_schema) }
     ensures taken { IfErr result (λ r. r ≡ Refusal.NameTaken → (state S.Store new.old).now.schema ≢ no_schema) }
@@ -78,7 +78,7 @@ fn take_copy<O: Alter, S: Alter>(
     }
 }
 
-/// What is told where a copy isn't kept: what isn't sound was read wrongly.
+/// What is reported where a copy isn't kept: what isn't sound was read wrongly.
 fn fault_of_copy(refusal: Refusal) -> Refusal
     ensures fault { IsFault result }
     ensures memory { (result ≡ Refusal.Memory) ↔ (refusal ≡ Refusal.Memory) }
@@ -161,7 +161,7 @@ fn copy_vault<O: Alter, S: Alter>(
     ensures sound { HasCleanDisk (state S.Store new.new) → OnOk result (IsSettled (state S.Store new.new)) }
     ensures settled { OnOk result (new.new.in_transaction ≡ false) }
     ensures alone { HasCleanDisk (state S.Store new.new) → OnOk result ((v : Vault) → AreSound (state S.Store new.new).now v → LeavesAlone (state S.Store new.new) v) }
-    ensures reported { IfErr result (λ r. r ≢ Refusal.NameTaken → IsTold r) }
+    ensures reported { IfErr result (λ r. r ≢ Refusal.NameTaken → IsReported r) }
     ensures damaged { IfErr result (λ r. HasCleanDisk (state O.Store old.new) → (t : Table) → r ≡ Refusal.Damaged t → (v : Vault) → ¬ AreSoundAs edition (state O.Store old.old).now v) }
     ensures free { OnOk result ((state S.Store new.old).now.schema ≡ no_schema) }
     ensures taken { IfErr result (λ r. r ≡ Refusal.NameTaken → (state S.Store new.old).now.schema ≢ no_schema) }
@@ -221,14 +221,14 @@ impl<S: Alter> SqlKeeper<S> {
         // A crash leaves that vault after that, and nothing else.
         ensures alone { IfOk result (λ k. HasCleanDisk (state S.Store k.conn) → LeavesAlone (state S.Store k.conn) (vault_of S.Store k)) }
         ensures counted { IfOk result (λ k. k.blamed.faults ≡ 0) }
-        ensures reported { IfErr result (λ e. e.0 ≢ Refusal.NameTaken → IsTold e.0) }
+        ensures reported { IfErr result (λ e. e.0 ≢ Refusal.NameTaken → IsReported e.0) }
         ensures damaged { IfErr result (λ e. HasCleanDisk (state O.Store old.new) → (t : Table) → e.0 ≡ Refusal.Damaged t → (v : Vault) → ¬ AreSoundAs edition (state O.Store old.old).now v) }
         ensures free { OnOk result ((state S.Store new).now.schema ≡ no_schema) }
         ensures taken { IfErr result (λ e. e.0 ≡ Refusal.NameTaken → (state S.Store new).now.schema ≢ no_schema) }
-        // A store with anything in it is never told as one that failed, while the old one works.
+        // A store with anything in it is never reported as one that failed, while the old one works.
         ensures named { old.old.in_transaction ≡ false → new.in_transaction ≡ false → (state S.Store new).now.schema ≢ no_schema
             → IfErr result (λ e. IsHealthy (state O.Store old.new) → e.0 ≢ Refusal.Device) }
-        // Nor is an old file whose tables tell no vault.
+        // Nor is an old file whose tables state no vault.
         ensures unsound { old.old.in_transaction ≡ false → new.in_transaction ≡ false → ((v : Vault) → ¬ AreSoundAs edition (state O.Store old.old).now v)
             → IfErr result (λ e. IsHealthy (state O.Store old.new) → e.0 ≢ Refusal.Device) }
         // Inside a transaction it is refused, and that is left as it was; else none is open behind it, and no table was changed.

@@ -5,7 +5,7 @@ ghost use Rattle.sqlite.specs.State.{HasCleanDisk, IsUnchanged, Survives};
 ghost use Rattle.vault_base.specs.declared.refusal.Table.{Table};
 ghost use Rattle.vault_audit_model.specs.Tables.{no_schema};
 ghost use Rattle.vault_audit.specs.Health.{IsHealthy};
-ghost use Rattle.vault_audit.specs.Whole.{IsTold};
+ghost use Rattle.vault_audit.specs.Whole.{IsReported};
 ghost use Rattle.vault_store_create.specs.Create.{IsFault};
 ghost use Rattle.vault_core_model.specs.Vault.{Vault, opening};
 ghost use Rattle.vault_core_model.specs.Allowed.{Allows};
@@ -56,7 +56,7 @@ use vault_tally::row::Row;
 
 /// A vault in tables.
 ///
-/// Which vault it stands for is what its tables told when it was opened, with the changes made since;
+/// Which vault it stands for is what its tables stated when it was opened, with the changes made since;
 /// only proofs read that. While its disk returns what was written and no failure has shut the
 /// connection, the tables are sound and spell that vault. A crash leaves that vault, or that with one more
 /// change, which was refused after the last one that was made; only proofs read which ones these are.
@@ -135,7 +135,7 @@ impl<S: Alter> SqlKeeper<S> {
         // A crash leaves that vault after that, and nothing else.
         ensures alone { IfOk result (λ k. HasCleanDisk (state S.Store k.conn) → LeavesAlone (state S.Store k.conn) (vault_of S.Store k)) }
         ensures counted { IfOk result (λ k. k.blamed.faults ≡ 0) }
-        ensures reported { IfErr result (λ e. IsTold e.0) }
+        ensures reported { IfErr result (λ e. IsReported e.0) }
         // A store that works, outside a transaction, is never reported as one that failed.
         ensures healthy { conn.in_transaction ≡ false → IfErr result (λ e. IsHealthy (state S.Store e.1) → e.0 ≢ Refusal.Device) }
         ensures damaged { IfErr result (λ e. HasCleanDisk (state S.Store e.1) → (t : Table) → e.0 ≡ Refusal.Damaged t → (v : Vault) → ¬ AreSound (state S.Store conn).now v) }

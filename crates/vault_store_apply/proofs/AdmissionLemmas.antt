@@ -46,11 +46,11 @@ summed_same w true config sums is rows = refl
 summed_same w false config sums is rows = ap (λ (s : Sums). map (changed_if (is_named config.dept) (with_sums s)) rows) (is refl)
 
 module _ (v : Vault) (t : ℕ) (a : Admission) (config : BucketConfig) (row sums : Sums) (head : Option Head) (newest : Head) (next : ℕ) (sound : Sound v) (later : v.last ≤ t) (low : t ≤ last_moment)
-    (is : IsAdmission v t a) (placed : Some config ≡ config_of v a.history.entry.bucket) (told : IsRowOf row (items_of v config.dept))
+    (is : IsAdmission v t a) (placed : Some config ≡ config_of v a.history.entry.bucket) (stated : IsRowOf row (items_of v config.dept))
     (counted : a.history.entry.marker ≡ false → CountsIn row a.history.entry.size (day t) sums) (headed_is : head ≡ head_of v a.history.entry.bucket a.history.entry.key)
     (newest_is : newest ≡ head_with a.history.entry.id head) (next_is : next ≡ a.history.entry.id + 1) where
   admitted_sums : a.history.entry.marker ≡ false → sums ≡ (department_in (changed v t (change.Admit a)) config.dept).sums
-  admitted_sums version = sums_admitted v t a config row sums sound later low is version (sym placed) told (counted version)
+  admitted_sums version = sums_admitted v t a config row sums sound later low is version (sym placed) stated (counted version)
 
   pub edits_admission : IsEditOf (entry_added a head newest config.dept sums t next) v t (change.Admit a)
   edits_admission xs table.Meta = ap (λ (n : ℕ). map (changed_if every (with_last_and_next t n)) (xs table.Meta)) (next_is ∙ ap (λ (n : ℕ). n + 1) is.id)

@@ -12,7 +12,7 @@ use Rattle.vault_store_model.specs.Rows.{Rows, AreSameRows, rows_in}
 use Rattle.vault_audit_model.specs.Spells.{AreSound}
 use Rattle.vault_store_model.proofs.RowsLemmas.{sound_is_rows}
 use Rattle.vault_store_model.specs.Changes.{edit_of}
-use Rattle.vault_store_model.proofs.ChangeLemmas.{rows_told}
+use Rattle.vault_store_model.proofs.ChangeLemmas.{rows_stated}
 use Rattle.vault_store_edits.specs.Commits.{Commits, MayCommit}
 use Rattle.vault_store_apply.specs.Left.{IsFoundIn}
 use Rattle.vault_store_apply.specs.Applies.{IsEditOf, ChangesBy, AreChangedBy, IsChanged}
@@ -35,8 +35,8 @@ commits_change old new t edit was_open commits alone v c low given was later all
     let schema = kept.0.spells.schema in
     let did = commits schema in
     let has = (sound_is_rows old.now v).0 kept.0 in
-    let told = rows_told old.now new.now v t c has later low allowed given (did.schema schema) (edited (rows_in old.now) (rows_in new.now) edit v t c (is was_open) (did.rows schema)) in
-    let sound = (sound_is_rows new.now (changed v t c)).1 told in
+    let stated = rows_stated old.now new.now v t c has later low allowed given (did.schema schema) (edited (rows_in old.now) (rows_in new.now) edit v t c (is was_open) (did.rows schema)) in
+    let sound = (sound_is_rows new.now (changed v t c)).1 stated in
     (λ is_open. (sound, did.committed), λ trees may. found_again new.now (changed v t c) trees (did.schema schema) sound (did.listed schema) (alone trees may))
 
 pub may_commit_change : (old : State) (t : ℕ) (edit : Rows → Rows) (trees : Trees) → IsTrue old.is_open → (old.now.schema ≡ vault_schema → MayCommit old edit trees) → AreChangedBy old t edit trees
@@ -46,8 +46,8 @@ may_commit_change old t edit trees was_open commits v c low given was later allo
     let did = commits schema in
     let has = (sound_is_rows old.now v).0 kept.0 in
     let db : Database = record { schema = vault_schema; trees = trees } in
-    let told = rows_told old.now db v t c has later low allowed given refl (edited (rows_in old.now) (rows_in db) edit v t c (is was_open) (did.rows schema)) in
-    record { spelled = (sound_is_rows db (changed v t c)).1 told; listed = did.listed schema }
+    let stated = rows_stated old.now db v t c has later low allowed given refl (edited (rows_in old.now) (rows_in db) edit v t c (is was_open) (did.rows schema)) in
+    record { spelled = (sound_is_rows db (changed v t c)).1 stated; listed = did.listed schema }
 
 pub on_ok_all : {A E : Type 0} {P Q R T : Type 0} (U : Type 0) (r : Result A E) → OnOk r P → OnOk r Q → OnOk r R → OnOk r T → (P → Q → R → T → U) → OnOk r U
 on_ok_all U (Ok a) p q s t f = f p q s t

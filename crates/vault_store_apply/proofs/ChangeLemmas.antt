@@ -1,4 +1,4 @@
--- What is told of a change, told of one that is the same.
+-- What is said of a change, said of one that is the same.
 use Rattle.std.proofs.Common.{◌≡◌, ℕ, sym, subst, Result, OnOk}
 use Rattle.sqlite.specs.State.{State, Survives}
 use Rattle.sqlite.proofs.StateLemmas.{survives_weaker}

@@ -71,7 +71,7 @@ head_there v id e there held =
     let found = found_history (history_of v id) e there in
     head_among (λ h. is_held_at e.bucket e.key h.entry) id v.histories found.0 found.1 (ap (is_held_at e.bucket e.key) found.2 ∙ is_held_there e held)
 
--- ---- the newest besides one, where the head tells of no other
+-- ---- the newest besides one, where the head names no other
 
 none_besides : (id : ℕ) (hs : List History) (head : Option Head) → head ≡ head_over hs → holds_no_other head id ≡ true → None ≡ option_map (λ (x : Head). x.newest) (head_over (filter (λ h. not (h.entry.id == id)) hs))
 none_besides id [] head is alone = refl
@@ -81,8 +81,8 @@ none_besides id (h ∷ []) head is alone =
 none_besides id (h ∷ g ∷ gs) head is alone =
     let some = head_of_some g gs in
     let two : Head = record { newest = some.0.newest; count = length (h ∷ g ∷ gs) } in
-    let told : head ≡ Some two = is ∙ ap (option_map (λ (x : Head). record { newest = x.newest; count = length (h ∷ g ∷ gs) })) some.1 in
-    let both = and_parts (nat_lt (length (h ∷ g ∷ gs)) 2) (some.0.newest == id) (subst (λ o. holds_no_other o id ≡ true) told alone) in
+    let stated : head ≡ Some two = is ∙ ap (option_map (λ (x : Head). record { newest = x.newest; count = length (h ∷ g ∷ gs) })) some.1 in
+    let both = and_parts (nat_lt (length (h ∷ g ∷ gs)) 2) (some.0.newest == id) (subst (λ o. holds_no_other o id ≡ true) stated alone) in
     absurd (many (length (h ∷ g ∷ gs)) both.0 (omega arith))
   where
     many : (n : ℕ) → nat_lt n 2 ≡ true → 2 ≤ n → ⊥
@@ -107,7 +107,7 @@ entry_same x y e = cc e
 -- ---- the edit
 
 module _ (v : Vault) (t id : ℕ) (r : Removal) (e : Entry) (config : BucketConfig) (row sums : Sums) (head left : Option Head) (newest : Option ℕ) (since : ℕ) (sound : Sound v) (later : v.last ≤ t) (low : t ≤ last_moment)
-    (is : IsRemoval v t id r) (there : entry_of v id ≡ Some e) (placed : Some config ≡ config_of v e.bucket) (told : IsRowOf row (items_of v config.dept))
+    (is : IsRemoval v t id r) (there : entry_of v id ≡ Some e) (placed : Some config ≡ config_of v e.bucket) (stated : IsRowOf row (items_of v config.dept))
     (since_is : since ≡ unwrap_or (option_map (λ (x : Tenure). x.from) (last_tenure_of v id)) e.admitted) (counted : CountsOut row e.size (day since) (day t) sums) (headed_is : head ≡ head_of v e.bucket e.key) (newest_is : newest ≡ newest_but v e.bucket e.key id)
     (left_is : left ≡ head_without newest head) where
   abbrev after : Vault
@@ -117,7 +117,7 @@ module _ (v : Vault) (t id : ℕ) (r : Removal) (e : Entry) (config : BucketConf
   held = subst (λ (x : Entry). x.removal ≡ None) (entry_same is.held.0 e (sym is.held.1 ∙ there)) is.held.2
 
   removed_sums : e.marker ≡ false → sums ≡ (department_in after config.dept).sums
-  removed_sums version = sums_removed v t id r e config since e.admitted row sums sound later low is there version (sym placed) since_is told counted
+  removed_sums version = sums_removed v t id r e config since e.admitted row sums sound later low is there version (sym placed) since_is stated counted
 
   heads_left : (rows : List Row) → left_rows e.bucket e.key left rows ≡ headed e.bucket e.key (head_of v e.bucket e.key) (head_over (others_at v id e.bucket e.key)) rows
   heads_left rows =

@@ -84,7 +84,7 @@ pub fn apply_change<S: Alter>(
     // What a crash may leave, at any moment of the call: what it could leave before, or the changed vault.
     ensures crash { (v : Vault) → Keeps (state S.Store conn.old) v → v.last ≤ at → Allows v at change.now → Survives (state S.Store conn.old) (state S.Store conn.new) (IsFoundIn (changed v at change.now)) }
 {
-    // What a read of a connection that a failure has shut leaves is told by no clause.
+    // What a read of a connection that a failure has shut leaves is reported by no clause.
     check_open(conn)?;
     make(conn, alloc, at, change)
 }

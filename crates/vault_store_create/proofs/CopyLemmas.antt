@@ -23,31 +23,31 @@ use Rattle.vault_store_create.specs.Create.{Moves}
 use Rattle.vault_store_model.specs.Edits.{with_row}
 use Rattle.vault_store_model.specs.Rows.{Rows, AreSameRows, rows_in, rows_of}
 use Rattle.vault_store_create.specs.Copied.{PutsRow, HasFirstRows, HasCopied, first_rows}
-use Rattle.vault_store_create.specs.Told.{IsOf, IsRowOf}
+use Rattle.vault_store_create.specs.RowsOf.{IsOf, IsRowOf}
 
--- ---- the rows of a vault tell records
+-- ---- the rows of a vault state records
 
 all_of : {A X : Type 0} (row_of : X → Row) (f : A → X) (xs : List A) → AllByRecursion (IsOf row_of) (map (λ a. row_of (f a)) xs)
 all_of row_of f [] = tt
 all_of row_of f (x ∷ xs) = ((f x, refl), all_of row_of f xs)
 
-all_told : (v : Vault) (t : Table) → AllByRecursion (IsRowOf t) (rows_of v t)
-all_told v table.Meta = ((meta_of v, refl), tt)
-all_told v table.Departments = all_of department_row (department_in v) v.departments
-all_told v table.Callers = all_of caller_row (λ c. c) v.callers
-all_told v table.Buckets = all_of bucket_row bucket_of v.buckets
-all_told v table.Rules = all_of rule_row (λ r. r) _
-all_told v table.Entries = all_of entry_row (λ h. h.entry) v.histories
-all_told v table.Contents = all_of content_row (λ c. c) _
-all_told v table.Settings = all_of setting_row (λ s. s) _
-all_told v table.Intake = all_of note_row (λ n. n) v.notes
-all_told v table.Heads = all_of head_row (λ h. h) (heads_in v)
-all_told v table.Tenures = all_of tenure_row (λ t. t) _
+all_stated : (v : Vault) (t : Table) → AllByRecursion (IsRowOf t) (rows_of v t)
+all_stated v table.Meta = ((meta_of v, refl), tt)
+all_stated v table.Departments = all_of department_row (department_in v) v.departments
+all_stated v table.Callers = all_of caller_row (λ c. c) v.callers
+all_stated v table.Buckets = all_of bucket_row bucket_of v.buckets
+all_stated v table.Rules = all_of rule_row (λ r. r) _
+all_stated v table.Entries = all_of entry_row (λ h. h.entry) v.histories
+all_stated v table.Contents = all_of content_row (λ c. c) _
+all_stated v table.Settings = all_of setting_row (λ s. s) _
+all_stated v table.Intake = all_of note_row (λ n. n) v.notes
+all_stated v table.Heads = all_of head_row (λ h. h) (heads_in v)
+all_stated v table.Tenures = all_of tenure_row (λ t. t) _
 
 -- in any order
-rows_told : (v : Vault) (t : Table) (rows : List Row) → IsPermutation (rows_of v t) rows → AllByRecursion (IsRowOf t) rows
-rows_told v t rows same =
-    recursion_from_All (IsRowOf t) rows (All-permutation (IsRowOf t) (rows_of v t) rows same (All-from_recursion (IsRowOf t) (rows_of v t) (all_told v t)))
+rows_stated : (v : Vault) (t : Table) (rows : List Row) → IsPermutation (rows_of v t) rows → AllByRecursion (IsRowOf t) rows
+rows_stated v t rows same =
+    recursion_from_All (IsRowOf t) rows (All-permutation (IsRowOf t) (rows_of v t) rows same (All-from_recursion (IsRowOf t) (rows_of v t) (all_stated v t)))
 
 -- ---- one row after the other
 
@@ -160,8 +160,8 @@ pub copies_table : (n : Edition) (from x y : Database) (t : Table) (rows : List 
     → Goes (λ a row b. PutsRow t row a b) x rows y → HasCopied n from (place_of t) x → HasCopied n from (place_of t + 1) y
 copies_table n from x y t rows shown gone was v is =
     let before = was v is in
-    let told = shown v is in
-    table_more v t rows x y before told (adds t rows x y (rows_told v t rows told) gone before.schema)
+    let stated = shown v is in
+    table_more v t rows x y before stated (adds t rows x y (rows_stated v t rows stated) gone before.schema)
 
 -- one part of the copy after the other
 pub copies_on : (n : Edition) (from later : Database) (old mid new : State) (From : Database → Type 0) (b c : ℕ) → later ≡ from → Moves old mid From (HasCopied n from b) → Moves mid new (HasCopied n later b) (HasCopied n later c)

@@ -125,7 +125,7 @@ module _ (old : State) (schema : Schema) (base : Table) (at width : ℕ) (terms 
   never_put : (stop : Option Error) → ¬ Inserts (task_on old.step_limit (mode_of old) schema base []) (Values terms width) db (Err stop)
   never_put stop (inl (s, sourced, same)) = given s sourced
   never_put stop (inr (rows, sourced, inl (s, counts, same))) = absurd (cc counts)
-  never_put stop (inr (rows, sourced, inr (counter, counted, inl (s, (why, writes, told), same)))) = never_written schema (record base { is_counted = false }) db row fit rows (news rows sourced) bare why writes
+  never_put stop (inr (rows, sourced, inr (counter, counted, inl (s, (why, writes, stated), same)))) = never_written schema (record base { is_counted = false }) db row fit rows (news rows sourced) bare why writes
   never_put stop (inr (rows, sourced, inr (counter, counted, inr (mid, writes, inl (s, counts, same))))) = absurd (cc counts)
   never_put stop (inr (rows, sourced, inr (counter, counted, inr (mid, writes, inr (next, counts, gives))))) = absurd (cc gives)
 
@@ -135,7 +135,7 @@ module _ (old : State) (schema : Schema) (base : Table) (at width : ℕ) (terms 
   never_added stop (inr (w, inr (rows, sourced, inl (s, counts, same)), ends)) = absurd (cc same)
   never_added stop (inr (w, inr (rows, sourced, inr (counter, counted, inl (s, writes, same))), ends)) = absurd (cc same)
   never_added stop (inr (w, inr (rows, sourced, inr (counter, counted, inr (mid, writes, inl (s, counts, same)))), ends)) = absurd (cc same)
-  never_added stop (inr (w, inr (rows, sourced, inr (counter, counted, inr (mid, writes, inr (next, counts, gives)))), inl (s, (broken, told), same))) =
+  never_added stop (inr (w, inr (rows, sourced, inr (counter, counted, inr (mid, writes, inr (next, counts, gives)))), inl (s, (broken, stated), same))) =
       let base_edit = edit_of db (record base { is_counted = false }) [] Chosen 0 rows in
       let step = one_step schema Enforced db mid base_edit (no_works schema Enforced 0 base.tree base_edit.news) writes in
       let after : next ≡ mid = same_value counts in

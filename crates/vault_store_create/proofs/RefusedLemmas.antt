@@ -41,12 +41,12 @@ by_fault old new well more = omega (arith, more, well.unfailed)
 
 -- one that works fails for want of memory, if nothing was too big for it
 pub by_store : (big : Type 0) → ¬ big → (old new : State) → IsHealthy new → (e : Error) → Fails old new big e → IsMemory e
-by_store big small old new well e (OutOfMemory, is, cause, undone, told) = is
-by_store big small old new well e (Io, is, cause, undone, told) = absurd (by_fault old new well cause)
-by_store big small old new well e (Corrupt, is, cause, undone, told) = absurd (by_fault old new well cause)
-by_store big small old new well e (Full, is, cause, undone, told) = absurd (by_fault old new well cause)
-by_store big small old new well e (Broken, is, cause, undone, told) = absurd (let is_open : IsTrue old.is_open = undone.was_open well.is_open in cc (cause, is_open))
-by_store big small old new well e (Unstorable, is, cause, undone, told) = absurd (small cause)
+by_store big small old new well e (OutOfMemory, is, cause, undone, stated) = is
+by_store big small old new well e (Io, is, cause, undone, stated) = absurd (by_fault old new well cause)
+by_store big small old new well e (Corrupt, is, cause, undone, stated) = absurd (by_fault old new well cause)
+by_store big small old new well e (Full, is, cause, undone, stated) = absurd (by_fault old new well cause)
+by_store big small old new well e (Broken, is, cause, undone, stated) = absurd (let is_open : IsTrue old.is_open = undone.was_open well.is_open in cc (cause, is_open))
+by_store big small old new well e (Unstorable, is, cause, undone, stated) = absurd (small cause)
 
 -- so does a commit of what is inside a transaction
 pub by_commit : (old new : State) → IsHealthy new → IsTrue old.in_transaction → (e : Error) → FailsToCommit old new e → IsMemory e
@@ -55,7 +55,7 @@ by_commit old new well inside e (inr (is, outside, same)) = absurd (cc (inside, 
 
 -- want of memory is reported as such
 pub no_device : (e : Error) → IsMemory e → refusal_of e ≢ Device
-no_device e is told = absurd (let memory : refusal_of e ≡ Memory = ap refusal_of is in cc (memory, told))
+no_device e is stated = absurd (let memory : refusal_of e ≡ Memory = ap refusal_of is in cc (memory, stated))
 
 -- ---- of a statement
 
@@ -104,7 +104,7 @@ module _ (text : List ℕ) (old new : State) (well : IsHealthy new) (schema : Sc
   alone_of c is = subst (IsAlone text) (meant c is) says.alone
 
   a_statement : (e : Error) → ¬ IsNoStatement old text [] e
-  a_statement e (inl (fault, is, told)) = subst (IsAlone text) (ap (λ s. understood s text) (sym has) ∙ is) says.alone
+  a_statement e (inl (fault, is, stated)) = subst (IsAlone text) (ap (λ s. understood s text) (sym has) ∙ is) says.alone
   a_statement e (inr (c, is, inl part)) = part.0 (alone_of c is).0
   a_statement e (inr (c, is, inr (inl given))) = given.0 (sym (ap length (alone_of c is).1))
   a_statement e (inr (c, is, inr (inr timely))) = timely.0 (bare_of c is).1
@@ -146,7 +146,7 @@ table_never : (t : Table) (text : List ℕ) → IsCreationOf t text → (old : S
 table_never t text it old has stop (inr (after, made, given)) = absurd (cc given)
 table_never t text it old has stop (inl (s, inl (None, long, same), is)) = table_short (schema_of_first (place_of t)) text it.made it.defined it.taken long
 table_never t text it old has stop (inl (s, inl (Some e, inl odd, same), is)) = odd.0 it.taken.utf8
-table_never t text it old has stop (inl (s, inl (Some e, inr (why, refuses, told), same), is)) = table_taken (schema_of_first (place_of t)) text it.made it.defined it.taken why (subst (λ x. RefusesTable x text why) has refuses)
+table_never t text it old has stop (inl (s, inl (Some e, inr (why, refuses, stated), same), is)) = table_taken (schema_of_first (place_of t)) text it.made it.defined it.taken why (subst (λ x. RefusesTable x text why) has refuses)
 table_never t text it old has stop (inl (s, inr (after, made, counts), is)) =
     let both : Ok made.table ≡ Ok it.made = sym made.defined ∙ it.defined in
     let same : made.table ≡ it.made = cc in
@@ -174,7 +174,7 @@ index_never : (text : List ℕ) → IsIndexCreation text → (old : State) → (
 index_never text it old trees empty stop (inr (after, made, given)) = absurd (cc given)
 index_never text it old trees empty stop (inl (None, long, same)) = index_short (schema_of_first 11) text entries it.made it.defined it.taken trees empty.1.1.1.1.1.0 long
 index_never text it old trees empty stop (inl (Some e, inl odd, same)) = odd.0 it.taken.utf8
-index_never text it old trees empty stop (inl (Some e, inr (why, refuses, told), same)) = index_taken (schema_of_first 11) text entries it.made it.defined it.taken trees empty why refuses
+index_never text it old trees empty stop (inl (Some e, inr (why, refuses, stated), same)) = index_taken (schema_of_first 11) text entries it.made it.defined it.taken trees empty why refuses
 
 pub index_refused : (text : List ℕ) → IsIndexCreation text → (old new : State) → IsHealthy new → HasFirst 11 old.now → (r : Result ℕ Error) → ExecutesInside 0 text [] old new r → IfErr r IsMemory
 index_refused text it old new well was r h =

@@ -1,4 +1,4 @@
--- The rows that tell a record of their table are put in as they are.
+-- The rows that state a record of their table are put in as they are.
 use Rattle.std.proofs.Common.{◌≡◌, ℕ, [], ◌∷◌, map, Bool, true, false, Option, Some, None, Ok, refl, sym, subst, ◌∙◌}
 use Rattle.sqlite_value.specs.declared.value.Value.TheVariants.{Null, Text, Blob}
 use Rattle.sqlite_value.specs.Order.{Row}
@@ -31,7 +31,7 @@ use Rattle.vault_store_edits.proofs.CastLemmas.{cast_number, cast_number_or_null
 use Rattle.vault_store_edits.proofs.StatementLemmas.{Leaves, inserts}
 use Rattle.vault_store_create.specs.Copied.{PutsRow}
 use Rattle.vault_store_create.specs.Listings.{putting_of}
-use Rattle.vault_store_create.specs.Told.{IsOf, IsRowOf}
+use Rattle.vault_store_create.specs.RowsOf.{IsOf, IsRowOf}
 use Rattle.vault_store_create.proofs.ListingLemmas.{meta_terms, puts_meta, departments_terms, puts_departments, callers_terms, puts_callers, buckets_terms, puts_buckets, rules_terms, puts_rules, entries_terms, puts_entries, contents_terms, puts_contents, settings_terms, puts_settings, intake_terms, puts_intake, heads_terms, puts_heads, tenures_terms, puts_tenures}
 
 -- ---- parameters: the values of records aren't NaN, so they are bound as they are
@@ -92,21 +92,21 @@ note_bound n =
     rw (until, bound_hold n.hold) refl
 
 bound_row : {X : Type 0} (row_of : X → Row) → ((x : X) → IsBound (row_of x)) → (row : Row) → IsOf row_of row → IsBound row
-bound_row row_of bounds row told = subst IsBound (sym told.1) (bounds told.0)
+bound_row row_of bounds row stated = subst IsBound (sym stated.1) (bounds stated.0)
 
 -- as parameters of a statement the row is what it was
-bound_as_told : (t : Table) (row : Row) → IsRowOf t row → IsBound row
-bound_as_told table.Meta = bound_row meta_row (λ m. refl)
-bound_as_told table.Departments = bound_row department_row (λ d. refl)
-bound_as_told table.Callers = bound_row caller_row caller_bound
-bound_as_told table.Buckets = bound_row bucket_row bucket_bound
-bound_as_told table.Rules = bound_row rule_row rule_bound
-bound_as_told table.Entries = bound_row entry_row entry_bound
-bound_as_told table.Contents = bound_row content_row (λ c. refl)
-bound_as_told table.Settings = bound_row setting_row setting_bound
-bound_as_told table.Intake = bound_row note_row note_bound
-bound_as_told table.Heads = bound_row head_row (λ h. refl)
-bound_as_told table.Tenures = bound_row tenure_row (λ t. refl)
+bound_as_stated : (t : Table) (row : Row) → IsRowOf t row → IsBound row
+bound_as_stated table.Meta = bound_row meta_row (λ m. refl)
+bound_as_stated table.Departments = bound_row department_row (λ d. refl)
+bound_as_stated table.Callers = bound_row caller_row caller_bound
+bound_as_stated table.Buckets = bound_row bucket_row bucket_bound
+bound_as_stated table.Rules = bound_row rule_row rule_bound
+bound_as_stated table.Entries = bound_row entry_row entry_bound
+bound_as_stated table.Contents = bound_row content_row (λ c. refl)
+bound_as_stated table.Settings = bound_row setting_row setting_bound
+bound_as_stated table.Intake = bound_row note_row note_bound
+bound_as_stated table.Heads = bound_row head_row (λ h. refl)
+bound_as_stated table.Tenures = bound_row tenure_row (λ t. refl)
 
 -- ---- columns: each takes the values of records as they are
 
@@ -191,23 +191,23 @@ tenure_put old new t =
 
 module _ (old new : State) where
   by_record : {X : Type 0} (row_of : X → Row) (t : Table) → ((x : X) → PutsIn t old new (row_of x)) → (row : Row) → IsOf row_of row → PutsIn t old new row
-  by_record row_of t puts row told = subst (PutsIn t old new) (sym told.1) (puts told.0)
+  by_record row_of t puts row stated = subst (PutsIn t old new) (sym stated.1) (puts stated.0)
 
-  put_as_told : (t : Table) (row : Row) → IsRowOf t row → PutsIn t old new row
-  put_as_told table.Meta = by_record meta_row table.Meta (meta_put old new)
-  put_as_told table.Departments = by_record department_row table.Departments (department_put old new)
-  put_as_told table.Callers = by_record caller_row table.Callers (caller_put old new)
-  put_as_told table.Buckets = by_record bucket_row table.Buckets (bucket_put old new)
-  put_as_told table.Rules = by_record rule_row table.Rules (rule_put old new)
-  put_as_told table.Entries = by_record entry_row table.Entries (entry_put old new)
-  put_as_told table.Contents = by_record content_row table.Contents (content_put old new)
-  put_as_told table.Settings = by_record setting_row table.Settings (setting_put old new)
-  put_as_told table.Intake = by_record note_row table.Intake (note_put old new)
-  put_as_told table.Heads = by_record head_row table.Heads (head_put old new)
-  put_as_told table.Tenures = by_record tenure_row table.Tenures (tenure_put old new)
+  put_as_stated : (t : Table) (row : Row) → IsRowOf t row → PutsIn t old new row
+  put_as_stated table.Meta = by_record meta_row table.Meta (meta_put old new)
+  put_as_stated table.Departments = by_record department_row table.Departments (department_put old new)
+  put_as_stated table.Callers = by_record caller_row table.Callers (caller_put old new)
+  put_as_stated table.Buckets = by_record bucket_row table.Buckets (bucket_put old new)
+  put_as_stated table.Rules = by_record rule_row table.Rules (rule_put old new)
+  put_as_stated table.Entries = by_record entry_row table.Entries (entry_put old new)
+  put_as_stated table.Contents = by_record content_row table.Contents (content_put old new)
+  put_as_stated table.Settings = by_record setting_row table.Settings (setting_put old new)
+  put_as_stated table.Intake = by_record note_row table.Intake (note_put old new)
+  put_as_stated table.Heads = by_record head_row table.Heads (head_put old new)
+  put_as_stated table.Tenures = by_record tenure_row table.Tenures (tenure_put old new)
 
   -- the statement, with the values of the row as its parameters
   pub puts_row : (t : Table) (row params : Row) → params ≡ map bound_value row → (count : ℕ) → Executes (putting_of t) params old new (Ok count) → PutsRow t row old.now new.now
-  puts_row t row params given count h has told =
-      let it = put_as_told t row told count has (subst (λ p. Executes (putting_of t) p old new (Ok count)) (given ∙ bound_as_told t row told) h) in
+  puts_row t row params given count h has stated =
+      let it = put_as_stated t row stated count has (subst (λ p. Executes (putting_of t) p old new (Ok count)) (given ∙ bound_as_stated t row stated) h) in
       record { schema = it.schema; rows = it.rows; listed = it.sound }

@@ -137,10 +137,10 @@ module _ (rows : List Row) (bs : List Bucket) (are : IsPermutation (map row_of_b
   tenures_shown h first =
       let e = h.entry in
       let entry = entry_row e in
-      let told : map (paired entry) (filter (is_pair entry) (map row_of_bucket bs)) ≡ map tenure_row (tenures_in h) =
+      let stated : map (paired entry) (filter (is_pair entry) (map row_of_bucket bs)) ≡ map tenure_row (tenures_in h) =
       ap (map (paired entry)) (filter-map (is_pair entry) row_of_bucket bs ∙ ap (map row_of_bucket) (its_bucket e.marker e.bucket bs up))
       ∙ one_tenure e e.marker (bucket_in bs e.bucket) ∙ ap (λ ts. map tenure_row (map (tenure_at e.id) ts)) (sym first) in
-      subst (λ xs. IsPermutation xs (pairs_for rows entry)) told (IsPermutation-map (paired entry) _ _ (IsPermutation-filter (is_pair entry) _ _ are))
+      subst (λ xs. IsPermutation xs (pairs_for rows entry)) stated (IsPermutation-map (paired entry) _ _ (IsPermutation-filter (is_pair entry) _ _ are))
 
   all_shown : (hs : List History) → AllByRecursion (HasFirstTenures bs) hs → IsPermutation (flat_map (λ h. map tenure_row (tenures_in h)) hs) (flat_map (λ h. pairs_for rows (entry_row h.entry)) hs)
   all_shown [] all = IsPermutation-refl []
@@ -151,12 +151,12 @@ tenures_paired : (n : Edition) (db : Database) (v : Vault) → AreSoundAs n db v
     → IsPermutation (map tenure_row (flat_map tenures_in v.histories)) (flat_map (pairs_in (db.trees buckets_tree)) (db.trees entries_tree))
 tenures_paired n db v is unmoved =
     let buckets = map bucket_columns (db.trees buckets_tree) in
-    let told : IsPermutation (map tenure_row (flat_map tenures_in v.histories)) (flat_map (λ h. pairs_for buckets (entry_row h.entry)) v.histories) =
+    let stated : IsPermutation (map tenure_row (flat_map tenures_in v.histories)) (flat_map (λ h. pairs_for buckets (entry_row h.entry)) v.histories) =
     subst (λ xs. IsPermutation xs (flat_map (λ h. pairs_for buckets (entry_row h.entry)) v.histories)) (sym (map-flat_map tenure_row tenures_in v.histories))
     (all_shown buckets v.buckets is.spells.buckets is.spells.kept.sound.ordered.buckets v.histories unmoved.tenures) in
     let stored = IsPermutation-flat_map (pairs_for buckets) (map (λ h. entry_row h.entry) v.histories) (map entry_columns (db.trees entries_tree)) is.spells.entries in
     let both = subst (λ xs. IsPermutation xs (flat_map (pairs_for buckets) (map entry_columns (db.trees entries_tree)))) (flat_map-map (pairs_for buckets) (λ h. entry_row h.entry) v.histories) stored in
-    subst (IsPermutation (map tenure_row (flat_map tenures_in v.histories))) (sym (all_by_columns (db.trees buckets_tree) (db.trees entries_tree))) (IsPermutation-trans _ _ _ told both)
+    subst (IsPermutation (map tenure_row (flat_map tenures_in v.histories))) (sym (all_by_columns (db.trees buckets_tree) (db.trees entries_tree))) (IsPermutation-trans _ _ _ stated both)
 
 -- and the query shows them
 pub first_tenures_shown : (n : Edition) (old new : State) (v : Vault) → AreSoundAs n old.now v → IsUnmoved v → (rows : List Row) → Shown first_tenures_listing [] old new rows

@@ -11,7 +11,7 @@ use Rattle.vault_audit_model.specs.Tables.{vault_schema}
 use Rattle.vault_audit_model.specs.Spells.{AreSoundAs}
 use Rattle.vault_store_model.specs.Rows.{Rows, AreSameRows, rows_in, rows_of}
 use Rattle.vault_store_model.specs.Edits.{with_row}
-use Rattle.vault_store_create.specs.Told.{IsRowOf}
+use Rattle.vault_store_create.specs.RowsOf.{IsRowOf}
 
 -- A part of a transaction goes from one database to another, and leaves the last commit alone.
 pub record Steps (old new : State) (Goes : Database → Database → Type 0) : Type 0 where
@@ -27,7 +27,7 @@ pub record HasRowMore (t : Table) (row : Row) (old new : Database) : Type 0 wher
   pub rows : AreSameRows (with_row t row (rows_in old)) (rows_in new)
   pub listed : IsDatabase new
 
--- a row that tells a record of the table is put in as it is
+-- a row that states a record of the table is put in as it is
 abbrev pub PutsRow : Table → Row → Database → Database → Type 0
 PutsRow t row old new = old.schema ≡ vault_schema → IsRowOf t row → HasRowMore t row old new
 

@@ -1,4 +1,4 @@
 pub mod Create
 pub mod Listings
-pub mod Told
+pub mod RowsOf
 pub mod Copied

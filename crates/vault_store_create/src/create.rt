@@ -23,7 +23,7 @@ pub fn is_blank(schema: &Schema) -> bool
     schema.tables.is_empty() && schema.indexes.is_empty() && schema.views.is_empty()
 }
 
-/// What it is told as that no table is where a vault should be: the first of a vault's isn't there.
+/// The refusal of a store that has no table where a vault should have some: the first of a vault's isn't there.
 pub fn without_tables() -> Refusal
     ensures { result ≡ without_tables }
 {

@@ -36,12 +36,12 @@ use Rattle.vault_store_edits.proofs.ListLemmas.{put_all_permutes}
 use Rattle.vault_store_edits.proofs.StatementLemmas.{Leaves, task_on, added}
 use Rattle.vault_store_edits.proofs.TableLemmas.{edited_alone, rows_are}
 
--- the rows that are put in, told by their columns, which a rowid that is chosen doesn't touch
-told_rows : (columns : Row → Row) (base : Columns) → ((rows : List Row) (s : Row) → columns (with_rowid Chosen rows (cast_row base (drop 0 s))) ≡ columns (cast_row base (drop 0 s)))
+-- the rows that are put in, stated by their columns, which a rowid that is chosen doesn't touch
+stated_rows : (columns : Row → Row) (base : Columns) → ((rows : List Row) (s : Row) → columns (with_rowid Chosen rows (cast_row base (drop 0 s))) ≡ columns (cast_row base (drop 0 s)))
     → (rows sources : List Row) → map columns (numbered Chosen rows (map (λ s. cast_row base (drop 0 s)) sources)) ≡ map (λ s. columns (cast_row base (drop 0 s))) sources
-told_rows columns base spares rows [] = refl
-told_rows columns base spares rows (s ∷ ss) =
-    rw (spares rows s, told_rows columns base spares (put_row (with_rowid Chosen rows (cast_row base (drop 0 s))) rows) ss) refl
+stated_rows columns base spares rows [] = refl
+stated_rows columns base spares rows (s ∷ ss) =
+    rw (spares rows s, stated_rows columns base spares (put_row (with_rowid Chosen rows (cast_row base (drop 0 s))) rows) ss) refl
 
 -- INSERT INTO t SELECT project FROM from WHERE tests
 abbrev pub copying : Table → ℕ → List Term → List Term → List Collation → Command
@@ -55,7 +55,7 @@ module _ (t from : Table) (at : ℕ) (base : Columns) (sql : List ℕ) (params :
     (same_params : stamped base params ≡ params) (here : base.tree ≡ tree_of t)
     (agrees : (r : Row) → passes tests params r ≡ test (columns_of from r))
     (spares : (rows : List Row) (s : Row) → columns_of t (with_rowid Chosen rows (cast_row base (drop 0 s))) ≡ columns_of t (cast_row base (drop 0 s)))
-    (tells : (r : Row) → columns_of t (cast_row base (drop 0 (shows project params r))) ≡ made (columns_of from r)) where
+    (reads_so : (r : Row) → columns_of t (cast_row base (drop 0 (shows project params r))) ≡ made (columns_of from r)) where
   pub copies : (old new : State) (count : ℕ) → old.now.schema ≡ vault_schema → Executes sql params old new (Ok count) → Leaves old new (with_copies t from test made)
   copies old new count has h =
       let q : Program = record { lets = []; body = scan_as collations (tree_of from) tests project } in
@@ -72,16 +72,16 @@ module _ (t from : Table) (at : ℕ) (base : Columns) (sql : List ℕ) (params :
       let found = scanned_as collations db (tree_of from) tests project params it.0 (subst (λ ps. Sourced old.step_limit db ps (source.Query q) (Ok it.0)) same_params it.1) in
       let news = numbered Chosen rows (map renew it.0) in
       let put : IsPermutation (news ++ rows) (put_all rows news) = put_all_permutes news rows it.2.fresh in
-      let told : map columns news ≡ map (λ s. columns (renew s)) it.0 = told_rows columns base spares rows it.0 in
+      let stated : map columns news ≡ map (λ s. columns (renew s)) it.0 = stated_rows columns base spares rows it.0 in
       let shown : IsPermutation (map (λ s. columns (renew s)) (map (shows project params) (filter (passes tests params) others))) (map (λ s. columns (renew s)) it.0) = IsPermutation-map (λ s. columns (renew s)) _ _ found in
       let sources : map (λ s. columns (renew s)) (map (shows project params) (filter (passes tests params) others)) ≡ map made (filter test (map (columns_of from) others)) =
       map-map (λ s. columns (renew s)) (shows project params) (filter (passes tests params) others)
-      ∙ ap (λ f. map f (filter (passes tests params) others)) (λ i r. tells r i)
+      ∙ ap (λ f. map f (filter (passes tests params) others)) (λ i r. reads_so r i)
       ∙ ap (λ p. map (λ r. made (columns_of from r)) (filter p others)) (λ i r. agrees r i)
       ∙ sym (map-map made (columns_of from) (filter (λ r. test (columns_of from r)) others))
       ∙ ap (map made) (sym (filter-map test (columns_of from) others)) in
       let given : IsPermutation (map made (filter test (rows_in old.now from))) (map columns news) =
-      subst₂ (λ xs ys. IsPermutation xs ys) (sources ∙ ap (λ rs. map made (filter test rs)) (sym (rows_are old.now from))) (sym told) shown in
+      subst₂ (λ xs ys. IsPermutation xs ys) (sources ∙ ap (λ rs. map made (filter test rs)) (sym (rows_are old.now from))) (sym stated) shown in
       let whole = IsPermutation-map columns _ _ put in
       let same : IsPermutation (map made (filter test (rows_in old.now from)) ++ map columns rows) (map columns (new.now.trees base.tree)) =
       IsPermutation-trans _ _ _ (IsPermutation-append_left (map columns rows) _ _ given)

@@ -59,8 +59,8 @@ one_rule_more bucket rules n rule within is =
     let next : RuleRow = record { bucket = bucket; place = n + 1; rule = rule } in
     let taken : take (n + 1) rules ≡ take n rules ++ rule ∷ [] = take_more rules n rule within ∙ ap (λ r. take n rules ++ r ∷ []) (sym is) in
     let long = length-take-le n rules (omega (arith, within)) in
-    let told : rules_from bucket 1 (take (n + 1) rules) ≡ rules_from bucket 1 (take n rules) ++ next ∷ [] = ap (rules_from bucket 1) taken ∙ rule_after bucket 1 (take n rules) rule (n + 1) (omega arith) in
-    ap (λ (rs : List RuleRow). with_each table.Rules (map rule_row rs)) told
+    let stated : rules_from bucket 1 (take (n + 1) rules) ≡ rules_from bucket 1 (take n rules) ++ next ∷ [] = ap (rules_from bucket 1) taken ∙ rule_after bucket 1 (take n rules) rule (n + 1) (omega arith) in
+    ap (λ (rs : List RuleRow). with_each table.Rules (map rule_row rs)) stated
     ∙ ap (with_each table.Rules) (map-append rule_row (rules_from bucket 1 (take n rules)) (next ∷ []))
     ∙ one_row_more table.Rules (map rule_row (rules_from bucket 1 (take n rules))) (rule_row next)
 

@@ -141,14 +141,14 @@ added limit mode base params at from db tally after h =
     let step = one_step vault_schema mode.keys db written.0 edit (no_works vault_schema mode.keys 0 base.tree edit.news) written.1 in
     (given.0, given.1, subst (λ t. Applies vault_schema mode.keys db edit t) (sym (ap (λ (d : Database). d.trees) now ∙ trees)) step, ap (λ (d : Database). d.schema) now)
 
--- an INSERT of one row, whose columns then tell this
-module _ (t : Table) (at : ℕ) (base : Columns) (sql : List ℕ) (params : Row) (terms : List Term) (width : ℕ) (source told : Row)
+-- an INSERT of one row, whose columns then state this
+module _ (t : Table) (at : ℕ) (base : Columns) (sql : List ℕ) (params : Row) (terms : List Term) (width : ℕ) (source stated : Row)
     (is : command_of (understood vault_schema sql) ≡ Insert at (Values terms width)) (plain : IsPlain (understood vault_schema sql))
     (places : (limit : Option ℕ) (mode : Mode) (text : List ℕ) (db : Trees) (out : Result (Tally × Database) (Option Error)) → Does limit mode params (record { schema = vault_schema; trees = db }) text None (Insert at (Values terms width)) out
     → OnRows (task_on limit mode base params) mode None (Insert at (Values terms width)) db out)
     (one : value_rows (stamped base params) width (length terms / width) terms ≡ source ∷ []) (here : base.tree ≡ tree_of t)
-    (tells : (rows : List Row) → columns_of t (with_rowid Chosen rows (cast_row base (drop 0 source))) ≡ told) where
-  pub inserts : (old new : State) (count : ℕ) → old.now.schema ≡ vault_schema → Executes sql params old new (Ok count) → Leaves old new (with_row t told)
+    (reads_so : (rows : List Row) → columns_of t (with_rowid Chosen rows (cast_row base (drop 0 source))) ≡ stated) where
+  pub inserts : (old new : State) (count : ℕ) → old.now.schema ≡ vault_schema → Executes sql params old new (Ok count) → Leaves old new (with_row t stated)
   inserts old new count has h =
       let command = Insert at (Values terms width) in
       let w = runs_as sql params old new vault_schema has command is plain count h in
@@ -160,11 +160,11 @@ module _ (t : Table) (at : ℕ) (base : Columns) (sql : List ℕ) (params : Row)
       let new_row = with_rowid Chosen rows (cast_row base (drop 0 source)) in
       let free : is_taken rows new_row ≡ false = not-true _ (and_parts _ _ step.fresh).0 in
       let put : IsPermutation (columns_of t new_row ∷ map (columns_of t) rows) (map (columns_of t) (put_row new_row rows)) = IsPermutation-map (columns_of t) _ _ (put_permutes new_row rows free) in
-      let stored = subst₂ (λ (first : Row) (all : List Row). IsPermutation (first ∷ map (columns_of t) rows) (map (columns_of t) all)) (tells rows) (sym step.rows) put in
+      let stored = subst₂ (λ (first : Row) (all : List Row). IsPermutation (first ∷ map (columns_of t) rows) (map (columns_of t) all)) (reads_so rows) (sym step.rows) put in
       record {
         schema = it.3;
-        rows = edited_alone t (λ all. told ∷ all) old.now new.now (subst (λ n. AllByRecursion (λ c. c.tree ≢ n → new.now.trees c.tree ≡ old.now.trees c.tree) vault_schema.tables) here step.tables)
-            (subst (λ n. IsPermutation (told ∷ map (columns_of t) (old.now.trees n)) (map (columns_of t) (new.now.trees n))) here stored);
+        rows = edited_alone t (λ all. stated ∷ all) old.now new.now (subst (λ n. AllByRecursion (λ c. c.tree ≢ n → new.now.trees c.tree ≡ old.now.trees c.tree) vault_schema.tables) here step.tables)
+            (subst (λ n. IsPermutation (stated ∷ map (columns_of t) (old.now.trees n)) (map (columns_of t) (new.now.trees n))) here stored);
         sound = w.sound;
       }
 
@@ -243,7 +243,7 @@ module _ (t : Table) (at : ℕ) (base : Columns) (sql : List ℕ) (params : Row)
       → Does limit mode params (record { schema = vault_schema; trees = db }) text None (Update at (record { lets = []; body = table_scan base.tree tests (col 1 0 ∷ project) })) out
       → OnRows (task_on limit mode base params) mode None (Update at (record { lets = []; body = table_scan base.tree tests (col 1 0 ∷ project) })) db out)
       (lists : (db : Trees) → Keeps Datatype vault_schema db → AllByRecursion (λ row. row_passes Datatype vault_schema db base row ≡ true) (db base.tree))
-      (tells : (r : Row) → are_typed base.key 0 base.columns (drop 1 r) ≡ true → (id : ℤ) → rowid r ≡ Int id → columns_of t (cast_row base (drop 1 (shows (col 1 0 ∷ project) params r))) ≡ change (columns_of t r)) where
+      (reads_so : (r : Row) → are_typed base.key 0 base.columns (drop 1 r) ≡ true → (id : ℤ) → rowid r ≡ Int id → columns_of t (cast_row base (drop 1 (shows (col 1 0 ∷ project) params r))) ≡ change (columns_of t r)) where
     pub updates : (old new : State) (count : ℕ) → IsApart (passes tests params) (old.now.trees (tree_of t)) → IsDatabase old.now → old.now.schema ≡ vault_schema → Executes sql params old new (Ok count)
         → Leaves old new (with_changed t test change)
     updates old new count apart_here sound has h =
@@ -275,7 +275,7 @@ module _ (t : Table) (at : ℕ) (base : Columns) (sql : List ℕ) (params : Row)
         (λ r there passes_here.
         let own = apart r there passes_here in
         let is_typed = (and_parts _ _ (all_has (λ row. row_passes Datatype vault_schema old.now.trees base row ≡ true) rows r typed there)).0 in
-        rw (sym (both_tests rows apart r there) ∙ passes_here) (tells r is_typed own.0 own.1))
+        rw (sym (both_tests rows apart r there) ∙ passes_here) (reads_so r is_typed own.0 own.1))
         (λ r there fails. rw (sym (both_tests rows apart r there) ∙ fails) refl) in
         let first : map changed (map columns rows) ≡ map (λ r. changed (columns r)) rows = map-map changed columns rows in
         let parts : map (λ r. columns (renew (show r))) passed ++ map columns (filter (λ r. not (passes tests params r)) rows) ≡ map columns (map renew (map show passed) ++ of_old) =

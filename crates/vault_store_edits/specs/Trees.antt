@@ -1,4 +1,4 @@
--- Where the rows of each table are kept, and how a row as it is kept tells its columns.
+-- Where the rows of each table are kept, and how a row as it is kept states its columns.
 use Rattle.std.specs.Prelude.{ℕ}
 use Rattle.sqlite_value.specs.Order.{Row}
 use Rattle.vault_base.specs.declared.refusal.Table.{Table}

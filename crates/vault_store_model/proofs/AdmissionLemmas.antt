@@ -29,12 +29,12 @@ use Rattle.vault_store_model.proofs.ListLemmas.{placed_in_front, pushed_in_front
 use Rattle.vault_store_model.proofs.RecordLemmas.{sums_by_items}
 
 -- what one more history brings stands in front
-told_in_front : {A : Type 0} (row : A → Row) (tell : History → List A) (hs : List History) (h : History) → IsPermutation (map row (flat_map tell (hs ++ h ∷ []))) (map row (tell h) ++ map row (flat_map tell hs))
-told_in_front row tell hs h =
+stated_in_front : {A : Type 0} (row : A → Row) (decides : History → List A) (hs : List History) (h : History) → IsPermutation (map row (flat_map decides (hs ++ h ∷ []))) (map row (decides h) ++ map row (flat_map decides hs))
+stated_in_front row decides hs h =
     IsPermutation-trans _ _ _ (IsPermutation-same _ _ (
-    ap (map row) (flat_map-append tell hs (h ∷ []) ∙ ap (λ l. flat_map tell hs ++ l) (flat_map_one tell h))
-    ∙ map-append row (flat_map tell hs) (tell h)))
-    (IsPermutation-append_comm (map row (flat_map tell hs)) (map row (tell h)))
+    ap (map row) (flat_map-append decides hs (h ∷ []) ∙ ap (λ l. flat_map decides hs ++ l) (flat_map_one decides h))
+    ∙ map-append row (flat_map decides hs) (decides h)))
+    (IsPermutation-append_comm (map row (flat_map decides hs)) (map row (decides h)))
 
 content_added : (id : ℕ) (content : Option (List ℕ)) (rows : List Row) → map content_row (content_if_given id content) ++ rows ≡ added_if_given (λ bytes. content_row (record { id = id; content = bytes })) content rows
 content_added id None rows = refl
@@ -78,12 +78,12 @@ pub entry_admitted : (v : Vault) (t : ℕ) (a : Admission) → Sound v → IsAdm
 entry_admitted v t a sound is table.Meta beside = IsPermutation-same _ _ (ap (λ row. row ∷ []) (next_after t v.moves v.histories a.history))
 entry_admitted v t a sound is table.Entries beside = IsPermutation-map (λ h. entry_row h.entry) _ _ (IsPermutation-to_front v.histories a.history)
 entry_admitted v t a sound is table.Contents beside =
-    IsPermutation-trans _ _ _ (told_in_front content_row contents_in v.histories a.history)
+    IsPermutation-trans _ _ _ (stated_in_front content_row contents_in v.histories a.history)
     (IsPermutation-same _ _ (content_added a.history.entry.id a.history.content (map content_row (flat_map contents_in v.histories))))
 entry_admitted v t a sound is table.Settings beside =
-    IsPermutation-trans _ _ _ (told_in_front setting_row settings_in v.histories a.history) (pushed_in_front (map setting_row (settings_in a.history)) _)
+    IsPermutation-trans _ _ _ (stated_in_front setting_row settings_in v.histories a.history) (pushed_in_front (map setting_row (settings_in a.history)) _)
 entry_admitted v t a sound is table.Tenures beside =
-    IsPermutation-trans _ _ _ (told_in_front tenure_row tenures_in v.histories a.history) (pushed_in_front (map tenure_row (tenures_in a.history)) _)
+    IsPermutation-trans _ _ _ (stated_in_front tenure_row tenures_in v.histories a.history) (pushed_in_front (map tenure_row (tenures_in a.history)) _)
 entry_admitted v t a sound is table.Intake beside = note_added a.note v.notes
 entry_admitted v t a sound is table.Departments beside =
     IsPermutation-same _ _ (sums_changed v (changed v t (Admit a)) a.history.entry.marker (config_of v a.history.entry.bucket) is.bucket is.placed

@@ -38,7 +38,7 @@ use Rattle.vault_store_model.proofs.BesideLemmas.{beside_heads}
 use Rattle.vault_store_model.proofs.ConfigLemmas.{default_set, rules_set}
 use Rattle.vault_store_model.proofs.EntryLemmas.{found_history, each_is}
 use Rattle.vault_store_model.proofs.KeptLemmas.{kept_changed}
-use Rattle.vault_store_model.proofs.ListLemmas.{map_untold, filter-append}
+use Rattle.vault_store_model.proofs.ListLemmas.{map_unread, filter-append}
 use Rattle.vault_store_model.proofs.OrderLemmas.{edit_ignores}
 use Rattle.vault_store_model.proofs.RecordLemmas.{dept_added, caller_added, caller_closed, bucket_added}
 use Rattle.vault_store_model.proofs.HeadsByEntry.{held_of_key, heads_by, heads_are, last_of, head_over_entries, head_of_entries}
@@ -49,7 +49,7 @@ use Rattle.vault_store_model.proofs.HeadParts.{is_elsewhere}
 
 heads_of_setting : (v : Vault) (t id : ℕ) (s : Setting) → heads_in (changed v t (AddSetting id s)) ≡ heads_in v
 heads_of_setting v t id s =
-    heads_are (changed v t (AddSetting id s)) ∙ ap heads_by (map_untold (λ (h : History). h.entry) (with_setting id s) (entry-setting id s) v.histories) ∙ sym (heads_are v)
+    heads_are (changed v t (AddSetting id s)) ∙ ap heads_by (map_unread (λ (h : History). h.entry) (with_setting id s) (entry-setting id s) v.histories) ∙ sym (heads_are v)
 
 -- ---- a move
 
@@ -59,7 +59,7 @@ entry_stays name t h = elim (is_held_version_in name h.entry) as (λ b. (if b th
 heads_stay : (v : Vault) (t : ℕ) (name dept : List ℕ) → heads_in (changed v t (MoveBucket name dept)) ≡ heads_in v
 heads_stay v t name dept =
     heads_are (changed v t (MoveBucket name dept))
-    ∙ ap heads_by (map_untold (λ (h : History). h.entry) (tenured_if name (next_tenure v t dept)) (entry_stays name (next_tenure v t dept)) v.histories) ∙ sym (heads_are v)
+    ∙ ap heads_by (map_unread (λ (h : History). h.entry) (tenured_if name (next_tenure v t dept)) (entry_stays name (next_tenure v t dept)) v.histories) ∙ sym (heads_are v)
 
 heads_of_move : (v : Vault) (t : ℕ) (name dept : List ℕ) → IsMove v name dept → IsPermutation (rows_of (changed v t (MoveBucket name dept)) table.Heads) (edit_of v t (MoveBucket name dept) (rows_of v) table.Heads)
 heads_of_move v t name dept is =
@@ -206,9 +206,9 @@ rows_made v t c kept later allowed s = beside_heads v t c kept.sound allowed s r
 
 -- ---- databases
 
-pub rows_told : (old new : Database) (v : Vault) (t : ℕ) (c : Change) → HasRows old v → v.last ≤ t → t ≤ last_moment → Allows v t c → IsChangeInLimits c → new.schema ≡ vault_schema
+pub rows_stated : (old new : Database) (v : Vault) (t : ℕ) (c : Change) → HasRows old v → v.last ≤ t → t ≤ last_moment → Allows v t c → IsChangeInLimits c → new.schema ≡ vault_schema
     → AreSameRows (edit_of v t c (rows_in old)) (rows_in new) → HasRows new (changed v t c)
-rows_told old new v t c has later low allowed given schema edited = record {
+rows_stated old new v t c has later low allowed given schema edited = record {
   schema = schema;
   rows = λ s. IsPermutation-trans _ _ _ (rows_made v t c has.kept later allowed s) (IsPermutation-trans _ _ _ (edit_ignores v t c (rows_of v) (rows_in old) has.rows s) (edited s));
   kept = kept_changed v t c has.kept later low allowed given;

@@ -26,7 +26,7 @@ use Rattle.vault_store_model.specs.Rows.{AreSameRows, rows_of}
 use Rattle.vault_store_model.specs.Edits.{changed_if, pushed}
 use Rattle.vault_store_model.specs.Tests.{is_named, with_default_columns}
 use Rattle.vault_store_model.specs.Changes.{edit_of}
-use Rattle.vault_store_model.proofs.ListLemmas.{second_first, pushed_in_front, map_rows, map_untold, flat_map_untold, filter-append}
+use Rattle.vault_store_model.proofs.ListLemmas.{second_first, pushed_in_front, map_rows, map_unread, flat_map_unread, filter-append}
 
 -- ---- a default
 
@@ -42,7 +42,7 @@ rules_kept name default b =
 pub default_set : (v : Vault) (t : ℕ) (name : List ℕ) (default : Option Default) → AreSameRows (rows_of (changed v t (SetDefault name default))) (edit_of v t (SetDefault name default) (rows_of v))
 default_set v t name default table.Buckets =
     IsPermutation-same _ _ (map_rows (λ b. bucket_row (bucket_of b)) (with_default name default) (changed_if (is_named name) (with_default_columns default)) (bucket_row_set name default) v.buckets)
-default_set v t name default table.Rules = IsPermutation-same _ _ (ap (map rule_row) (flat_map_untold rules_in (with_default name default) (rules_kept name default) v.buckets))
+default_set v t name default table.Rules = IsPermutation-same _ _ (ap (map rule_row) (flat_map_unread rules_in (with_default name default) (rules_kept name default) v.buckets))
 default_set v t name default _ = IsPermutation-refl _
 
 -- ---- rules
@@ -134,6 +134,6 @@ rules_replaced name rules bs there up =
     (pushed_in_front (map rule_row (rules_if_given name rules)) _))
 
 pub rules_set : (v : Vault) (t : ℕ) (name : List ℕ) (rules : Option (List Rule)) → Sound v → IsSome (config_of v name) → AreSameRows (rows_of (changed v t (SetRules name rules))) (edit_of v t (SetRules name rules) (rows_of v))
-rules_set v t name rules sound there table.Buckets = IsPermutation-same _ _ (map_untold (λ b. bucket_row (bucket_of b)) (with_rules name rules) (bucket_row_kept name rules) v.buckets)
+rules_set v t name rules sound there table.Buckets = IsPermutation-same _ _ (map_unread (λ b. bucket_row (bucket_of b)) (with_rules name rules) (bucket_row_kept name rules) v.buckets)
 rules_set v t name rules sound there table.Rules = rules_replaced name rules v.buckets there sound.ordered.buckets
 rules_set v t name rules sound there _ = IsPermutation-refl _

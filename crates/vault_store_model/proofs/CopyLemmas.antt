@@ -48,23 +48,23 @@ row_made : (t : Tenure) (e : Entry) → moved_row t.number t.dept t.from (entry_
 row_made t e = ap (λ (id : Value). id ∷ number t.number ∷ Text t.dept ∷ number t.from ∷ []) (cast_int _)
 
 -- what a version has, and one more
-told : (t : Tenure) (h : History) → map tenure_row (tenures_in (tenured_by t h)) ≡ map tenure_row (tenures_in h) ++ tenure_row (tenure_at h.entry.id t) ∷ []
-told t h =
+stated : (t : Tenure) (h : History) → map tenure_row (tenures_in (tenured_by t h)) ≡ map tenure_row (tenures_in h) ++ tenure_row (tenure_at h.entry.id t) ∷ []
+stated t h =
     ap (map tenure_row) (map-append (tenure_at h.entry.id) h.tenures (t ∷ []))
     ∙ map-append tenure_row (tenures_in h) (tenure_at h.entry.id t ∷ [])
 
 -- where it passes, its row is one more in front
-one_told : (b : Bool) (t : Tenure) (h : History) (rest new old : List Row) → IsPermutation rest (new ++ old)
+one_stated : (b : Bool) (t : Tenure) (h : History) (rest new old : List Row) → IsPermutation rest (new ++ old)
     → IsPermutation (map tenure_row (tenures_in (if b then tenured_by t h else h)) ++ rest)
     (cond b (tenure_row (tenure_at h.entry.id t) ∷ new) new ++ (map tenure_row (tenures_in h) ++ old))
-one_told false t h rest new old same =
+one_stated false t h rest new old same =
     let own = map tenure_row (tenures_in h) in
     IsPermutation-trans _ _ _ (IsPermutation-append_right own _ _ same) (second_first own new old)
-one_told true t h rest new old same =
+one_stated true t h rest new old same =
     let own = map tenure_row (tenures_in h) in
     let row = tenure_row (tenure_at h.entry.id t) in
     IsPermutation-trans _ _ _ (IsPermutation-append_right (map tenure_row (tenures_in (tenured_by t h))) _ _ same)
-    (IsPermutation-trans _ _ _ (IsPermutation-same _ _ (ap (λ l. l ++ (new ++ old)) (told t h) ∙ append_assoc own (row ∷ []) (new ++ old)))
+    (IsPermutation-trans _ _ _ (IsPermutation-same _ _ (ap (λ l. l ++ (new ++ old)) (stated t h) ∙ append_assoc own (row ∷ []) (new ++ old)))
     (IsPermutation-trans _ _ _ (IsPermutation-middle own row (new ++ old)) (IsPermutation-cons row _ _ (second_first own new old))))
 
 -- one row that is looked at
@@ -91,7 +91,7 @@ tenures_added name t (h ∷ hs) =
     ∙ ap (λ (row : Row). cond b (row ∷ new) new) (row_made t h.entry)
     ) in
     IsPermutation-trans _ _ _ (IsPermutation-same _ _ (map-append tenure_row (tenures_in (tenured_if name t h)) (flat_map tenures_in (map (tenured_if name t) hs))))
-    (IsPermutation-trans _ _ _ (one_told b t h rest new old (tenures_added name t hs))
+    (IsPermutation-trans _ _ _ (one_stated b t h rest new old (tenures_added name t hs))
     (IsPermutation-same _ _ (
     ap (λ l. l ++ (map tenure_row (tenures_in h) ++ old)) first
     ∙ ap (λ l. map made (filter (is_held_version name) (map (λ (g : History). entry_row g.entry) (h ∷ hs))) ++ l) (sym (map-append tenure_row (tenures_in h) (flat_map tenures_in hs))))))

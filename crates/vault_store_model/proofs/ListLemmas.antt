@@ -43,14 +43,14 @@ pub map_rows : {A : Type 0} (row : A → Row) (f : A → A) (change : Row → Ro
 map_rows row f change same [] = refl
 map_rows row f change same (x ∷ xs) = rw (same x, map_rows row f change same xs) refl
 
--- records that are altered, and what is told of them
-pub map_untold : {A B : Type 0} (g : A → B) (f : A → A) → ((x : A) → g (f x) ≡ g x) → (xs : List A) → map g (map f xs) ≡ map g xs
-map_untold g f same [] = refl
-map_untold g f same (x ∷ xs) = rw (same x, map_untold g f same xs) refl
+-- records that are altered, and what is said of them
+pub map_unread : {A B : Type 0} (g : A → B) (f : A → A) → ((x : A) → g (f x) ≡ g x) → (xs : List A) → map g (map f xs) ≡ map g xs
+map_unread g f same [] = refl
+map_unread g f same (x ∷ xs) = rw (same x, map_unread g f same xs) refl
 
-pub flat_map_untold : {A B : Type 0} (g : A → List B) (f : A → A) → ((x : A) → g (f x) ≡ g x) → (xs : List A) → flat_map g (map f xs) ≡ flat_map g xs
-flat_map_untold g f same [] = refl
-flat_map_untold g f same (x ∷ xs) = rw (same x, flat_map_untold g f same xs) refl
+pub flat_map_unread : {A B : Type 0} (g : A → List B) (f : A → A) → ((x : A) → g (f x) ≡ g x) → (xs : List A) → flat_map g (map f xs) ≡ flat_map g xs
+flat_map_unread g f same [] = refl
+flat_map_unread g f same (x ∷ xs) = rw (same x, flat_map_unread g f same xs) refl
 
 pub filter-append : {A : Type 0} (p : A → Bool) (xs ys : List A) → filter p (xs ++ ys) ≡ filter p xs ++ filter p ys
 filter-append p [] ys = refl

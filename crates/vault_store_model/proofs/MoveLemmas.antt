@@ -28,7 +28,7 @@ use Rattle.vault_store_model.specs.Changes.{edit_of, with_move}
 use Rattle.vault_store_model.specs.Beside.{AreSameBesideHeads}
 use Rattle.vault_store_model.proofs.CopyLemmas.{tenures_added}
 use Rattle.vault_store_model.proofs.EntryLemmas.{texts_turned}
-use Rattle.vault_store_model.proofs.ListLemmas.{map_rows, map_untold, flat_map_untold}
+use Rattle.vault_store_model.proofs.ListLemmas.{map_rows, map_unread, flat_map_unread}
 use Rattle.vault_store_model.proofs.MoveSums.{sums_left}
 use Rattle.vault_store_model.proofs.SettingLemmas.{next_kept}
 
@@ -103,13 +103,13 @@ moved v t name dept sound is table.Departments beside =
     (λ d not_owner not_new. sums_left v t name dept sound is d (texts_turned d is.bucket.dept false not_owner) (texts_turned d dept false not_new)))
 moved v t name dept sound is table.Buckets beside =
     IsPermutation-same _ _ (map_rows (λ b. bucket_row (bucket_of b)) (with_department name dept) (changed_if (is_named name) (with_owner dept)) (owner_written name dept) v.buckets)
-moved v t name dept sound is table.Rules beside = IsPermutation-same _ _ (ap (map rule_row) (flat_map_untold rules_in (with_department name dept) (rules_kept name dept) v.buckets))
+moved v t name dept sound is table.Rules beside = IsPermutation-same _ _ (ap (map rule_row) (flat_map_unread rules_in (with_department name dept) (rules_kept name dept) v.buckets))
 moved v t name dept sound is table.Entries beside =
-    IsPermutation-same _ _ (map_untold (λ h. entry_row h.entry) (tenured_if name (next_tenure v t dept)) (entry_kept name (next_tenure v t dept)) v.histories)
+    IsPermutation-same _ _ (map_unread (λ h. entry_row h.entry) (tenured_if name (next_tenure v t dept)) (entry_kept name (next_tenure v t dept)) v.histories)
 moved v t name dept sound is table.Contents beside =
-    IsPermutation-same _ _ (ap (map content_row) (flat_map_untold contents_in (tenured_if name (next_tenure v t dept)) (content_kept name (next_tenure v t dept)) v.histories))
+    IsPermutation-same _ _ (ap (map content_row) (flat_map_unread contents_in (tenured_if name (next_tenure v t dept)) (content_kept name (next_tenure v t dept)) v.histories))
 moved v t name dept sound is table.Settings beside =
-    IsPermutation-same _ _ (ap (map setting_row) (flat_map_untold settings_in (tenured_if name (next_tenure v t dept)) (settings_kept name (next_tenure v t dept)) v.histories))
+    IsPermutation-same _ _ (ap (map setting_row) (flat_map_unread settings_in (tenured_if name (next_tenure v t dept)) (settings_kept name (next_tenure v t dept)) v.histories))
 moved v t name dept sound is table.Tenures beside = tenures_added name (next_tenure v t dept) v.histories
 moved v t name dept sound is table.Heads beside = absurd (cc beside)
 moved v t name dept sound is _ beside = IsPermutation-refl _

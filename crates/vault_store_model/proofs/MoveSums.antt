@@ -75,17 +75,17 @@ module _ (v : Vault) (t : ℕ) (name dept : List ℕ) (sound : Sound v) (move : 
 
 pub sums_handed : (v : Vault) (t : ℕ) (name dept : List ℕ) (owner : BucketConfig) (row new : Sums) → Sound v → v.last ≤ t → t ≤ last_moment → IsMove v name dept → config_of v name ≡ Some owner → IsRowOf row (items_of v owner.dept)
     → HandsOver row (bucket_bytes v name) (bucket_weight v name) (day t) new → new ≡ (department_in (changed v t (MoveBucket name dept)) owner.dept).sums
-sums_handed v t name dept owner row new sound later low is there told gives =
+sums_handed v t name dept owner row new sound later low is there stated gives =
     let w = changed v t (MoveBucket name dept) in
     let same : is.bucket ≡ owner = same_config is.bucket owner (config_of v name) is.there there in
     let bounded : AreBounded (items_of w is.bucket.dept) = items-bounded w is.bucket.dept (Sound-changed v t (MoveBucket name dept) sound later is) low in
-    let own : IsRowOf row (items_of v is.bucket.dept) = subst (λ (c : BucketConfig). IsRowOf row (items_of v c.dept)) (sym same) told in
+    let own : IsRowOf row (items_of v is.bucket.dept) = subst (λ (c : BucketConfig). IsRowOf row (items_of v c.dept)) (sym same) stated in
     subst (λ (c : BucketConfig). new ≡ (department_in w c.dept).sums) same
     (row_is new (items_of w is.bucket.dept) (row_given v t name dept sound is bounded row new own gives))
 
 pub sums_received : (v : Vault) (t : ℕ) (name dept : List ℕ) (row new : Sums) → Sound v → v.last ≤ t → t ≤ last_moment → IsMove v name dept → IsRowOf row (items_of v dept)
     → Receives row (bucket_bytes v name) (day t) new → new ≡ (department_in (changed v t (MoveBucket name dept)) dept).sums
-sums_received v t name dept row new sound later low is told takes =
+sums_received v t name dept row new sound later low is stated takes =
     let w = changed v t (MoveBucket name dept) in
     let bounded : AreBounded (items_of w dept) = items-bounded w dept (Sound-changed v t (MoveBucket name dept) sound later is) low in
-    row_is new (items_of w dept) (row_got v t name dept sound is bounded row new told takes)
+    row_is new (items_of w dept) (row_got v t name dept sound is bounded row new stated takes)

@@ -21,7 +21,7 @@ use Rattle.vault_core_model.specs.Sound.{AreTenures, HasTenures, HasTenuresAs, I
 use Rattle.vault_core_model.specs.Totals.{items_by, items_in, shares_from, shares_of}
 use Rattle.vault_store_model.proofs.MovedShares.{front, last_item, last_dept, where_own, sum_before, sum_after, last_is, last_held}
 
--- what is told of a version that moves: it is held, and has tenures, the last of which is the owner's
+-- what is said of a version that moves: it is held, and has tenures, the last of which is the owner's
 pub record Moves (owner : List ℕ) (h : History) : Type 0 where
   pub held : h.entry.removal ≡ None
   pub one : Tenure

@@ -27,7 +27,7 @@ use Rattle.vault_store_model.specs.Changes.{edit_of, without_entry}
 use Rattle.vault_store_model.specs.Beside.{AreSameBesideHeads}
 use Rattle.vault_store_model.proofs.AdmissionLemmas.{sums_changed}
 use Rattle.vault_store_model.proofs.EntryLemmas.{found_history, each_is, items_mapped, texts_turned}
-use Rattle.vault_store_model.proofs.ListLemmas.{map_rows, flat_map_untold, filter-append}
+use Rattle.vault_store_model.proofs.ListLemmas.{map_rows, flat_map_unread, filter-append}
 use Rattle.vault_store_model.proofs.SettingLemmas.{next_kept}
 use Rattle.vault_store_model.proofs.TenureLemmas.{other_removed, marker_removed}
 
@@ -102,8 +102,8 @@ removed : (v : Vault) (t id : ℕ) (r : Removal) (g : History) (config : BucketC
 removed v t id r g config sound found tenured held placed table.Meta beside = IsPermutation-same _ _ (ap (λ row. row ∷ []) (next_kept t v.moves (removed_if id r) v.histories))
 removed v t id r g config sound found tenured held placed table.Entries beside = IsPermutation-same _ _ (map_rows (λ h. entry_row h.entry) (removed_if id r) (changed_if (is_numbered id) (removed_row r)) (entry_row_removed id r) v.histories)
 removed v t id r g config sound found tenured held placed table.Contents beside = IsPermutation-same _ _ (contents_dropped id r v.histories)
-removed v t id r g config sound found tenured held placed table.Settings beside = IsPermutation-same _ _ (ap (map setting_row) (flat_map_untold settings_in (removed_if id r) (settings_kept id r) v.histories))
-removed v t id r g config sound found tenured held placed table.Tenures beside = IsPermutation-same _ _ (ap (map tenure_row) (flat_map_untold tenures_in (removed_if id r) (tenures_kept id r) v.histories))
+removed v t id r g config sound found tenured held placed table.Settings beside = IsPermutation-same _ _ (ap (map setting_row) (flat_map_unread settings_in (removed_if id r) (settings_kept id r) v.histories))
+removed v t id r g config sound found tenured held placed table.Tenures beside = IsPermutation-same _ _ (ap (map tenure_row) (flat_map_unread tenures_in (removed_if id r) (tenures_kept id r) v.histories))
 removed v t id r g config sound found tenured held placed table.Departments beside =
     IsPermutation-same _ _ (sums_changed v (changed v t (Remove id r)) g.entry.marker (config_of v g.entry.bucket) config placed
     (λ marker d. items_kept v t id r g d sound found (marker_removed v g.entry.marker g r d tenured marker))

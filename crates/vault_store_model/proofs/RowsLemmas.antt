@@ -29,9 +29,9 @@ rows_of_sound db v is table.Tenures = is.spells.tenures
 abbrev name_in : Row → Value
 name_in row = column row 0
 
-names_told : (v : Vault) (ds : List (List ℕ)) → map name_in (map (λ d. department_row (department_in v d)) ds) ≡ map (λ d. Text d) ds
-names_told v [] = refl
-names_told v (d ∷ ds) = ap (λ names. Text d ∷ names) (names_told v ds)
+names_stated : (v : Vault) (ds : List (List ℕ)) → map name_in (map (λ d. department_row (department_in v d)) ds) ≡ map (λ d. Text d) ds
+names_stated v [] = refl
+names_stated v (d ∷ ds) = ap (λ names. Text d ∷ names) (names_stated v ds)
 
 names_stand : (rows : List Row) → map name_in (map department_columns rows) ≡ map (λ r. column r 1) rows
 names_stand [] = refl
@@ -41,7 +41,7 @@ names_stand (r ∷ rs) = ap (λ names. column r 1 ∷ names) (names_stand rs)
 departments_named : (db : Database) (v : Vault) → IsPermutation (map (λ d. department_row (department_in v d)) v.departments) (map department_columns (db.trees departments_tree))
     → IsPermutation (map (λ d. Text d) v.departments) (map (λ r. column r 1) (db.trees departments_tree))
 departments_named db v same =
-    subst (λ names. IsPermutation names (map (λ r. column r 1) (db.trees departments_tree))) (names_told v v.departments)
+    subst (λ names. IsPermutation names (map (λ r. column r 1) (db.trees departments_tree))) (names_stated v v.departments)
     (subst (IsPermutation (map name_in (map (λ d. department_row (department_in v d)) v.departments))) (names_stand (db.trees departments_tree)) (IsPermutation-map name_in _ _ same))
 
 sound_by_rows : (db : Database) (v : Vault) → HasRows db v → AreSound db v

@@ -25,7 +25,7 @@ use Rattle.vault_store_model.specs.Rows.{rows_of}
 use Rattle.vault_store_model.specs.Changes.{edit_of}
 use Rattle.vault_store_model.specs.Beside.{AreSameBesideHeads}
 use Rattle.vault_store_model.proofs.EntryLemmas.{other_ids, found_history, items_mapped}
-use Rattle.vault_store_model.proofs.ListLemmas.{map_untold, flat_map_untold}
+use Rattle.vault_store_model.proofs.ListLemmas.{map_unread, flat_map_unread}
 use Rattle.vault_store_model.proofs.RecordLemmas.{sums_by_items}
 
 -- ---- the settings of one version
@@ -115,10 +115,10 @@ settings_added v t id s sound is =
 
 pub setting_added : (v : Vault) (t id : ℕ) (s : Setting) → Sound v → IsNextSetting v t id s → AreSameBesideHeads (rows_of (changed v t (AddSetting id s))) (edit_of v t (AddSetting id s) (rows_of v))
 setting_added v t id s sound is table.Meta beside = IsPermutation-same _ _ (ap (λ row. row ∷ []) (next_kept t v.moves (with_setting id s) v.histories))
-setting_added v t id s sound is table.Entries beside = IsPermutation-same _ _ (map_untold (λ h. entry_row h.entry) (with_setting id s) (entry_kept id s) v.histories)
-setting_added v t id s sound is table.Contents beside = IsPermutation-same _ _ (ap (map content_row) (flat_map_untold contents_in (with_setting id s) (content_kept id s) v.histories))
+setting_added v t id s sound is table.Entries beside = IsPermutation-same _ _ (map_unread (λ h. entry_row h.entry) (with_setting id s) (entry_kept id s) v.histories)
+setting_added v t id s sound is table.Contents beside = IsPermutation-same _ _ (ap (map content_row) (flat_map_unread contents_in (with_setting id s) (content_kept id s) v.histories))
 setting_added v t id s sound is table.Settings beside = settings_added v t id s sound is
-setting_added v t id s sound is table.Tenures beside = IsPermutation-same _ _ (ap (map tenure_row) (flat_map_untold tenures_in (with_setting id s) (tenures_kept id s) v.histories))
+setting_added v t id s sound is table.Tenures beside = IsPermutation-same _ _ (ap (map tenure_row) (flat_map_unread tenures_in (with_setting id s) (tenures_kept id s) v.histories))
 setting_added v t id s sound is table.Departments beside = IsPermutation-same _ _ (sums_by_items v (changed v t (AddSetting id s)) (items_kept v t id s))
 setting_added v t id s sound is table.Heads beside = absurd (cc beside)
 setting_added v t id s sound is _ beside = IsPermutation-refl _

@@ -49,7 +49,7 @@ same_config c d o e f = cc (sym e ∙ f)
 pub sums_admitted : (v : Vault) (t : ℕ) (a : Admission) (config : BucketConfig) (row new : Sums) → Sound v → v.last ≤ t → t ≤ last_moment → IsAdmission v t a → a.history.entry.marker ≡ false
     → config_of v a.history.entry.bucket ≡ Some config → IsRowOf row (items_of v config.dept) → CountsIn row a.history.entry.size (day t) new
     → new ≡ (department_in (changed v t (Admit a)) config.dept).sums
-sums_admitted v t a config row new sound later low is version there told counts =
+sums_admitted v t a config row new sound later low is version there stated counts =
     let items = items_of v config.dept in
     let more = items_of (changed v t (Admit a)) config.dept in
     let same : is.bucket ≡ config = same_config is.bucket config (config_of v a.history.entry.bucket) is.placed there in
@@ -59,7 +59,7 @@ sums_admitted v t a config row new sound later low is version there told counts 
     subst (λ (c : BucketConfig). items_by c.dept (shares_of a.history) ≡ held_item true a.history.entry.size (day t) ∷ []) same one in
     let shape : more ≡ items ++ held_item true a.history.entry.size (day t) ∷ [] = items_push config.dept v.histories a.history ∙ ap (λ (l : List Item). items ++ l) own in
     let bounded : AreBounded more = items-bounded (changed v t (Admit a)) config.dept (Sound-changed v t (Admit a) sound later is) low in
-    row_is new more (subst (IsRowOf new) (sym shape) (counts items told (subst AreBounded shape bounded)))
+    row_is new more (subst (IsRowOf new) (sym shape) (counts items stated (subst AreBounded shape bounded)))
 
 -- ---- a removal
 
@@ -115,7 +115,7 @@ entry_same x y e = cc e
 pub sums_ended : (v : Vault) (t id : ℕ) (r : Removal) (h : History) (tenure : Tenure) (row new : Sums) → Sound v → v.last ≤ t → t ≤ last_moment → IsRemoval v t id r → history_of v id ≡ Some h → last_tenure h.tenures ≡ Some tenure
     → IsRowOf row (items_of v tenure.dept) → CountsOut row h.entry.size (day tenure.from) (day t) new
     → new ≡ (department_in (changed v t (Remove id r)) tenure.dept).sums
-sums_ended v t id r h tenure row new sound later low is there last told counts =
+sums_ended v t id r h tenure row new sound later low is there last stated counts =
     let same : is.held.0 ≡ h.entry = entry_same is.held.0 h.entry (sym is.held.1 ∙ ap (λ (o : Option History). option_map (λ g. g.entry) o) there) in
     let held : h.entry.removal ≡ None = ap (λ (e : Entry). e.removal) (sym same) ∙ is.held.2 in
     let it = ends_in 1 id r v.histories h tenure sound.ids there held last in
@@ -123,7 +123,7 @@ sums_ended v t id r h tenure row new sound later low is there last told counts =
     let becomes : more ≡ it.before ++ removed_item it.first h.entry.size (day tenure.from) (day t) ∷ it.after =
     it.ended ∙ ap (λ n. it.before ++ removed_item it.first h.entry.size (day tenure.from) (day n) ∷ it.after) is.now in
     let bounded : AreBounded more = items-bounded (changed v t (Remove id r)) tenure.dept (Sound-changed v t (Remove id r) sound later is) low in
-    row_is new more (subst (IsRowOf new) (sym becomes) (counts it.before it.first it.after (subst (IsRowOf row) it.held told) (subst AreBounded becomes bounded)))
+    row_is new more (subst (IsRowOf new) (sym becomes) (counts it.before it.first it.after (subst (IsRowOf row) it.held stated) (subst AreBounded becomes bounded)))
 
 tenure_of_dept : (o : Option Tenure) (dept : List ℕ) → option_map (λ (x : Tenure). x.dept) o ≡ Some dept → (x : Tenure) × (o ≡ Some x) × (x.dept ≡ dept)
 tenure_of_dept None dept is = absurd (cc is)
@@ -137,11 +137,11 @@ last_there v false h config has version held placed =
     let with : IsWithBucket v None h = subst (λ o. IsWithBucket v o h) held has.2 in
     tenure_of_dept (last_tenure h.tenures) config.dept (with ∙ ap (λ (o : Option BucketConfig). option_map (λ c. c.dept) o) placed)
 
--- it ends on the day of the removal, whatever was told of a version without tenures
+-- it ends on the day of the removal, whatever was said of a version without tenures
 pub sums_removed : (v : Vault) (t id : ℕ) (r : Removal) (e : Entry) (config : BucketConfig) (from none : ℕ) (row new : Sums) → Sound v → v.last ≤ t → t ≤ last_moment → IsRemoval v t id r → entry_of v id ≡ Some e → e.marker ≡ false
     → config_of v e.bucket ≡ Some config → from ≡ unwrap_or (option_map (λ (x : Tenure). x.from) (last_tenure_of v id)) none → IsRowOf row (items_of v config.dept) → CountsOut row e.size (day from) (day t) new
     → new ≡ (department_in (changed v t (Remove id r)) config.dept).sums
-sums_removed v t id r e config from none row new sound later low is there version placed since told counts =
+sums_removed v t id r e config from none row new sound later low is there version placed since stated counts =
     let found = found_history (history_of v id) e there in
     let g = found.0 in
     let same : is.held.0 ≡ g.entry = entry_same is.held.0 g.entry (sym is.held.1 ∙ there ∙ ap Some (sym found.2)) in
@@ -149,10 +149,10 @@ sums_removed v t id r e config from none row new sound later low is there versio
     let last =
     last_there v g.entry.marker g config (found_all (HasTenures v) (λ h. h.entry.id == id) v.histories g sound.tenured found.1) (ap (λ (x : Entry). x.marker) found.2 ∙ version) held
     (ap (λ (x : Entry). config_of v x.bucket) found.2 ∙ placed) in
-    let told_from : from ≡ last.0.from =
+    let stated_from : from ≡ last.0.from =
     since ∙ ap (λ (o : Option History). unwrap_or (option_map (λ (x : Tenure). x.from) (last_tenure (unwrap_or (option_map (λ h. h.tenures) o) []))) none) found.1
     ∙ ap (λ (o : Option Tenure). unwrap_or (option_map (λ (x : Tenure). x.from) o) none) last.1 in
     let own : CountsOut row g.entry.size (day last.0.from) (day t) new =
-    subst (λ n. CountsOut row g.entry.size (day n) (day t) new) told_from (subst (λ (x : Entry). CountsOut row x.size (day from) (day t) new) (sym found.2) counts) in
+    subst (λ n. CountsOut row g.entry.size (day n) (day t) new) stated_from (subst (λ (x : Entry). CountsOut row x.size (day from) (day t) new) (sym found.2) counts) in
     subst (λ d. new ≡ (department_in (changed v t (Remove id r)) d).sums) last.2
-    (sums_ended v t id r g last.0 row new sound later low is found.1 last.1 (subst (λ d. IsRowOf row (items_of v d)) (sym last.2) told) own)
+    (sums_ended v t id r g last.0 row new sound later low is found.1 last.1 (subst (λ d. IsRowOf row (items_of v d)) (sym last.2) stated) own)

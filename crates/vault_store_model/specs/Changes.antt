@@ -23,7 +23,7 @@ use Rattle.vault_store_model.specs.Tests.{is_named, is_numbered, is_of_key, ever
 
 -- ---- parts of edits
 
--- a row more, where there is what it tells
+-- a row more, where there is what it says
 abbrev pub added_if_given : {A : Type 0} → (A → Row) → Option A → List Row → List Row
 added_if_given row None rows = rows
 added_if_given row (Some x) rows = row x ∷ rows

@@ -18,7 +18,7 @@ use Rattle.vault_store_model.specs.Rows.{Rows}
 abbrev pub with_copies : Table → Table → (Row → Bool) → (Row → Row) → Rows → Rows
 with_copies t from test made xs s = cond (place_of t == place_of s) (map made (filter test (xs from)) ++ xs s) (xs s)
 
--- the row of an entry tells a held version of that bucket, as SQL compares
+-- the row of an entry states a held version of that bucket, as SQL compares
 abbrev pub is_held_version : List ℕ → Row → Bool
 is_held_version bucket row =
     is_true (binary (Compare Eq Binary) (column row 1) (Text bucket))

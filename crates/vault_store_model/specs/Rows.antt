@@ -1,4 +1,4 @@
--- The rows of all tables, each row as the columns that it tells.
+-- The rows of all tables, each row as the columns that it states.
 use Rattle.std.specs.Prelude.{◌≡◌, List, [], ◌∷◌, map, flat_map, IsPermutation}
 use Rattle.sqlite_value.specs.Order.{Row}
 use Rattle.sqlite.specs.Effect.{Database}

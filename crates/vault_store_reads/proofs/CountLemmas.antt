@@ -35,13 +35,13 @@ pub none_shown : (hs : List History) → length hs ≡ 0 → [] ≡ map entry_sh
 none_shown [] none = refl
 none_shown (h ∷ hs) none = absurd (omega (arith, none))
 
--- all rows, the last first, tell what is told in order once they are turned around
+-- all rows, the last first, say what is reported in order once they are turned around
 turned_around : {X : Type 0} (row_of : X → Row) (xs : List X) (n : ℕ) (rows : List Row) → length rows ≤ n → map row_of xs ≡ take n (reverse rows) → map row_of (reverse xs) ≡ rows
-turned_around row_of xs n rows most told =
+turned_around row_of xs n rows most stated =
     let all : length (reverse rows) ≤ n = omega (arith, most, length-reverse rows) in
-    map-reverse row_of xs ∙ ap reverse (told ∙ take_all n (reverse rows) all) ∙ reverse-reverse rows
+    map-reverse row_of xs ∙ ap reverse (stated ∙ take_all n (reverse rows) all) ∙ reverse-reverse rows
 
 pub shown_in_order : {X : Type 0} (row_of : X → Row) (xs : List X) (n : ℕ) (hs : List History) → n ≡ length hs → map row_of xs ≡ take n (reverse (map entry_shown (map held_of hs)))
     → map row_of (reverse xs) ≡ map entry_shown (map held_of hs)
-shown_in_order row_of xs n hs counts told =
-    turned_around row_of xs n (map entry_shown (map held_of hs)) (omega (arith, counts, length-map (map held_of hs) entry_shown, length-map hs held_of)) told
+shown_in_order row_of xs n hs counts stated =
+    turned_around row_of xs n (map entry_shown (map held_of hs)) (omega (arith, counts, length-map (map held_of hs) entry_shown, length-map hs held_of)) stated

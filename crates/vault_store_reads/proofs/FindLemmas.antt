@@ -30,11 +30,11 @@ module _ {X : Type 0} (row_of : X → Row) (columns : Row → Row) (t : ℕ) (te
       → Answers db (record { lets = []; body = select_from t tests project [] }) params rows → IsPermutation (map row_of (filter is xs)) rows
   records_found db xs rows are a =
       let stored = db.trees t in
-      let told : filter picks (map row_of xs) ≡ map row_of (filter is xs) = filter-map picks row_of xs ∙ ap (map row_of) (filter_same (λ x. picks (row_of x)) is picked xs) in
+      let stated : filter picks (map row_of xs) ≡ map row_of (filter is xs) = filter-map picks row_of xs ∙ ap (map row_of) (filter_same (λ x. picks (row_of x)) is picked xs) in
       let given : filter picks (map columns stored) ≡ map (shows project params) (filter (passes tests params) stored) =
       filter-map picks columns stored ∙ ap (map columns) (sym (filter_same (passes tests params) (λ r. picks (columns r)) passed stored)) ∙ sym (map_same (shows project params) columns shown (filter (passes tests params) stored)) in
       let same : IsPermutation (map row_of (filter is xs)) (map (shows project params) (filter (passes tests params) stored)) =
-      subst (λ ys. IsPermutation ys (map (shows project params) (filter (passes tests params) stored))) told (subst (IsPermutation (filter picks (map row_of xs))) given (IsPermutation-filter picks (map row_of xs) (map columns stored) are)) in
+      subst (λ ys. IsPermutation ys (map (shows project params) (filter (passes tests params) stored))) stated (subst (IsPermutation (filter picks (map row_of xs))) given (IsPermutation-filter picks (map row_of xs) (map columns stored) are)) in
       IsPermutation-trans _ _ _ same (scanned db t tests project params rows a)
 
 -- ---- one record of a key

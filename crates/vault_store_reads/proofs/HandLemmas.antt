@@ -114,10 +114,10 @@ module _ {T : Type 0} (takes : Taking T) (s t : T) (old : State) where
   some_err (Ok done) some = tt
   some_err (Err e) some = some
 
-  pub told : (r : Result Bool Error) → IfOk r (λ done. (v : Vault) → ∥ Keeps old v ∥₁ → Hands takes s (removed_entries v) (Ok done) t) → OnErr r ((v : Vault) → ∥ Keeps old v ∥₁ → TakesSome takes s (removed_entries v) t)
+  pub stated : (r : Result Bool Error) → IfOk r (λ done. (v : Vault) → ∥ Keeps old v ∥₁ → Hands takes s (removed_entries v) (Ok done) t) → OnErr r ((v : Vault) → ∥ Keeps old v ∥₁ → TakesSome takes s (removed_entries v) t)
       → (v : Vault) → ∥ Keeps old v ∥₁ → Hands takes s (removed_entries v) (as_fault r) t
-  told (Ok done) all some v was = all v was
-  told (Err e) all some v was = some v was
+  stated (Ok done) all some v was = all v was
+  stated (Err e) all some v was = some v was
 
 -- a query that is refused leaves the vault
 pub refused_keeps : {S X : Type 0} (g : store.Ghosts S) (old new : Held S) (v : Vault) → Keeps (state g old) v → HasCleanDisk (state g new) → (r : Result X Error) → OnErr r (IsRefused g removed_text [] old r new) → IfOk r (λ _. ⊥) → Keeps (state g new) v

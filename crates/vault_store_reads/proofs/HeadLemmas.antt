@@ -113,7 +113,7 @@ module _ (v : Vault) (bucket key : List ℕ) (sound : Sound v) where
       let last : h ≡ last_of f fs = newest_last h f fs ascending there newest in
       head_over-last f fs ∙ ap (λ (x : History). Some (record { newest = x.entry.id; count = length (f ∷ fs) })) (sym last)
 
-  -- the current entry of the key is what its head tells
+  -- the current entry of the key is what its head says
   current_head : (h : History) → Has v.histories h → is_current v h ≡ true → is_of_key h ≡ true → head_of v bucket key ≡ Some (head_in v h).head
   unfolding IsNewest
   current_head h there current p =

@@ -29,7 +29,7 @@ use Rattle.vault_store_reads.proofs.OrderedListLemmas.{always, map_once}
 use Rattle.vault_store_reads.proofs.SelectLemmas.{select_of, of_records, answered}
 use Rattle.vault_store_reads.proofs.SettingLemmas.{ids_rise}
 use Rattle.vault_store_reads.proofs.OrderedTextLemmas.{entries_order, no_limit, sized_text, sized_tests, sized_shown, sized_is}
-use Rattle.vault_store_reads.proofs.ToldLemmas.{found_each}
+use Rattle.vault_store_reads.proofs.StatedLemmas.{found_each}
 use Rattle.vault_store_reads.proofs.ValueLemmas.{number_less}
 use Rattle.vault_store_reads.proofs.OrderedEntryLemmas.{IsOlder, row_of}
 
@@ -59,10 +59,10 @@ found_sized v bucket rows (db, sound, answers) =
 
 -- ---- the day of a last tenure
 
-pub day_told : (t : Tenure) (ts : List Tenure) → Some t ≡ last_tenure ts → day t.from ≡ last_day_from ts
-day_told t [] is = absurd cc
-day_told t (u ∷ []) is = ap (λ (x : Tenure). day x.from) (let e : t ≡ u = cc in e)
-day_told t (u ∷ w ∷ ws) is = day_told t (w ∷ ws) is
+pub day_stated : (t : Tenure) (ts : List Tenure) → Some t ≡ last_tenure ts → day t.from ≡ last_day_from ts
+day_stated t [] is = absurd cc
+day_stated t (u ∷ []) is = ap (λ (x : Tenure). day x.from) (let e : t ≡ u = cc in e)
+day_stated t (u ∷ w ∷ ws) is = day_stated t (w ∷ ws) is
 
 -- ---- the sums
 
@@ -81,9 +81,9 @@ sum_of_made f g (h ∷ hs) all = sum_by-cons f (sized_of h) (map sized_of hs) �
 weighed : (v : Vault) (h : History) → find (λ g. g.entry.id == h.entry.id) v.histories ≡ Some h → weight_in v (sized_of h) ≡ h.entry.size * last_day_from h.tenures
 weighed v h is = ap (λ (o : Option History). h.entry.size * last_day_from (unwrap_or (option_map (λ g. g.tenures) o) [])) is
 
-module _ (v : Vault) (bucket : List ℕ) (versions : List SizedRow) (rows : List Row) (are : (rows ≡ map sized_row (map sized_of (held_versions_in v bucket))) × Sound v) (told : map sized_row versions ≡ rows) where
+module _ (v : Vault) (bucket : List ℕ) (versions : List SizedRow) (rows : List Row) (are : (rows ≡ map sized_row (map sized_of (held_versions_in v bucket))) × Sound v) (stated : map sized_row versions ≡ rows) where
   versions_are : versions ≡ map sized_of (held_versions_in v bucket)
-  versions_are = map_once sized_row same_sized versions (map sized_of (held_versions_in v bucket)) (told ∙ are.0)
+  versions_are = map_once sized_row same_sized versions (map sized_of (held_versions_in v bucket)) (stated ∙ are.0)
 
   pub bytes_are : sum_by (λ (x : SizedRow). x.size) versions ≡ bucket_bytes v bucket
   bytes_are =

@@ -18,6 +18,6 @@ pub mod SelectLemmas
 pub mod SettingLemmas
 pub mod TenureLemmas
 pub mod OrderedTextLemmas
-pub mod ToldLemmas
+pub mod StatedLemmas
 pub mod ValueLemmas
 pub mod HandLemmas

@@ -71,7 +71,7 @@ module _ (v : Vault) (name : List ℕ) (rows : List Row) (finds : FindsRows v de
       let each : length (map row_in (filter (λ d. bytes_eq d name) v.departments)) ≡ length (filter (λ d. bytes_eq d name) v.departments) = simp length-map in
       sym (any_left (λ d. bytes_eq d name) v.departments ∙ ap (λ n. not (n == 0)) (sym each ∙ sym few))
 
-  -- the row tells the seven sums
+  -- the row states the seven sums
   sums_read : (d : DepartmentRow) (x : List ℕ) → department_row d ≡ row_in x → IsRowFor v x d.sums
   sums_read d x e =
       let at = λ (n : ℕ). ap (λ r. column r n) e in

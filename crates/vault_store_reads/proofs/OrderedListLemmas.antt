@@ -124,10 +124,10 @@ filter_twice p q (x ∷ xs) = elim (cases_Bool (q x)) [
 
 -- ---- the steps of a loop
 
-pub told_more : {X Y : Type 0} (f : X → Y) (xs : List X) (x : X) (ys : List Y) (i : ℕ) (y : Y) → map f xs ++ drop i ys ≡ ys → i < length ys → y ≡ get_or ys i y → y ≡ f x → map f (xs ++ x ∷ []) ++ drop (i + 1) ys ≡ ys
-told_more f xs x ys i y so low is told =
+pub stated_more : {X Y : Type 0} (f : X → Y) (xs : List X) (x : X) (ys : List Y) (i : ℕ) (y : Y) → map f xs ++ drop i ys ≡ ys → i < length ys → y ≡ get_or ys i y → y ≡ f x → map f (xs ++ x ∷ []) ++ drop (i + 1) ys ≡ ys
+stated_more f xs x ys i y so low is stated =
     ap (λ l. l ++ drop (i + 1) ys) (map-append f xs (x ∷ [])) ∙ append_assoc (map f xs) (f x ∷ []) (drop (i + 1) ys)
-    ∙ ap (λ l. map f xs ++ l) (ap (λ z. z ∷ drop (i + 1) ys) (sym told ∙ is) ∙ sym (drop_more ys i y low)) ∙ so
+    ∙ ap (λ l. map f xs ++ l) (ap (λ z. z ∷ drop (i + 1) ys) (sym stated ∙ is) ∙ sym (drop_more ys i y low)) ∙ so
 
 pub made_more : {X Y : Type 0} (f : X → Y) (done : List Y) (one : Y) (xs : List X) (i : ℕ) (x : X) → done ++ map f (drop i xs) ≡ map f xs → i < length xs → x ≡ get_or xs i x → one ≡ f x → (done ++ one ∷ []) ++ map f (drop (i + 1) xs) ≡ map f xs
 made_more f done one xs i x so low is made =

@@ -111,7 +111,7 @@ found_rules v name rows (db, sound, answers) =
     answered rules_tree rules_tests rules_shown rules_order no_limit db params rows (answers query rules_is) (outs mine) are (outs_rise mine rise)
     ∙ map-map (λ (o : Output). o.1) (λ r. out (rule_row r)) mine ∙ ap (map rule_row) its
 
--- ---- the rules that such rows tell
+-- ---- the rules that such rows state
 
 their_rules : (bucket : List ℕ) (place : ℕ) (rs : List Rule) → map (λ x. x.rule) (rules_from bucket place rs) ≡ rs
 their_rules bucket place [] = refl
@@ -129,5 +129,5 @@ found_in name (b ∷ bs) all = elim (cases_Bool (bytes_eq b.name name)) [
   | inr other ↦ rw other (found_in name bs all.1)
 ]
 
-pub told_rules : (v : Vault) (name : List ℕ) → AllByRecursion HasRuleSet v.buckets → set_of (part_of rules_in (bucket_in v.buckets name)) ≡ rules_of v name
-told_rules v name all = found_in name v.buckets all
+pub stated_rules : (v : Vault) (name : List ℕ) → AllByRecursion HasRuleSet v.buckets → set_of (part_of rules_in (bucket_in v.buckets name)) ≡ rules_of v name
+stated_rules v name all = found_in name v.buckets all

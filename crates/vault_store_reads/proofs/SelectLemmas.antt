@@ -60,7 +60,7 @@ module _ {X : Type 0} (row_of : X → Row) (columns : Row → Row) (test : Row �
     | inr left ↦ rw (is, left) (alike keep xs all)
   ]
 
-  -- the outputs of the rows that pass are those of the records that they tell
+  -- the outputs of the rows that pass are those of the records that they state
   pub of_records : (keep : X → Bool) (xs : List X) (rows : List Row) → IsPermutation (map row_of xs) (map columns rows) → AllByRecursion (λ x. test (row_of x) ≡ keep x) xs
       → IsPermutation (map (λ x. out (row_of x)) (filter keep xs)) (map output_of (filter pass rows))
   of_records keep xs rows same all =

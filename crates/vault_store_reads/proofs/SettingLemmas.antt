@@ -65,19 +65,19 @@ all_of : (id place : ℕ) (ss : List Setting) (n : ℕ) → AllByRecursion (λ s
 all_of id place [] n = tt
 all_of id place (s ∷ ss) n = (refl, all_of id (place + 1) ss n)
 
--- what the row of a setting tells of the last one
-abbrev told : SettingRow → LastSetting
-told s = record { lock = s.setting.lock; count = s.place }
+-- what the row of a setting says of the last one
+abbrev stated : SettingRow → LastSetting
+stated s = record { lock = s.setting.lock; count = s.place }
 
-last_told : (id place : ℕ) (s : Setting) (ss : List Setting) → option_map told (last (settings_from id place (s ∷ ss))) ≡ Some (record { lock = last_lock (s ∷ ss); count = place + length ss })
-last_told id place s [] = ap (λ n. Some (record { lock = s.lock; count = n })) (omega arith)
-last_told id place s (r ∷ rs) = last_told id (place + 1) r rs ∙ ap (λ n. Some (record { lock = last_lock (r ∷ rs); count = n })) (omega arith)
+last_stated : (id place : ℕ) (s : Setting) (ss : List Setting) → option_map stated (last (settings_from id place (s ∷ ss))) ≡ Some (record { lock = last_lock (s ∷ ss); count = place + length ss })
+last_stated id place s [] = ap (λ n. Some (record { lock = s.lock; count = n })) (omega arith)
+last_stated id place s (r ∷ rs) = last_stated id (place + 1) r rs ∙ ap (λ n. Some (record { lock = last_lock (r ∷ rs); count = n })) (omega arith)
 
-its_last : (id : ℕ) (ss : List Setting) → option_map told (last (settings_from id 1 ss)) ≡ last_setting ss
+its_last : (id : ℕ) (ss : List Setting) → option_map stated (last (settings_from id 1 ss)) ≡ last_setting ss
 its_last id [] = refl
-its_last id (s ∷ ss) = last_told id 1 s ss ∙ ap (λ n. Some (record { lock = last_lock (s ∷ ss); count = n })) (omega arith)
+its_last id (s ∷ ss) = last_stated id 1 s ss ∙ ap (λ n. Some (record { lock = last_lock (s ∷ ss); count = n })) (omega arith)
 
-last_of_part : (o : Option History) → option_map told (last (part_of settings_in o)) ≡ option_and_then (λ h. last_setting h.settings) o
+last_of_part : (o : Option History) → option_map stated (last (part_of settings_in o)) ≡ option_and_then (λ h. last_setting h.settings) o
 last_of_part None = refl
 last_of_part (Some h) = its_last h.entry.id h.settings
 
@@ -104,12 +104,12 @@ outs_fall ss up =
     let R : Output → Output → Type 0 = λ a b. output_cmp query b a ≡ Less in
     falls R (outs ss) (ascending-map R (λ s. out (setting_row s)) ss (ascending_weaker (λ s t. s.place < t.place) (λ s t. R (out (setting_row s)) (out (setting_row t))) (λ s t low. number_less s.place t.place low) ss up))
 
-first_out : (ss : List SettingRow) → take 1 (map (λ (o : Output). o.1) (reverse (outs ss))) ≡ map last_row (option_to_list (option_map told (last ss)))
+first_out : (ss : List SettingRow) → take 1 (map (λ (o : Output). o.1) (reverse (outs ss))) ≡ map last_row (option_to_list (option_map stated (last ss)))
 first_out ss =
     ap (take 1) (map-reverse (λ (o : Output). o.1) (outs ss) ∙ ap reverse (map-map (λ (o : Output). o.1) (λ s. out (setting_row s)) ss))
-    ∙ first_reversed (map (λ s. last_row (told s)) ss) ∙ ap option_to_list (last-map (λ s. last_row (told s)) ss) ∙ twice (last ss)
+    ∙ first_reversed (map (λ s. last_row (stated s)) ss) ∙ ap option_to_list (last-map (λ s. last_row (stated s)) ss) ∙ twice (last ss)
   where
-    twice : (o : Option SettingRow) → option_to_list (option_map (λ s. last_row (told s)) o) ≡ map last_row (option_to_list (option_map told o))
+    twice : (o : Option SettingRow) → option_to_list (option_map (λ s. last_row (stated s)) o) ≡ map last_row (option_to_list (option_map stated o))
     twice None = refl
     twice (Some s) = refl
 
@@ -125,7 +125,7 @@ found_setting v id rows (db, sound, answers) =
     let same = IsPermutation-trans _ _ _ (IsPermutation-sym _ _ (IsPermutation-reverse (outs mine))) are in
     let rise = subst (IsAscending (λ s t. s.place < t.place)) (sym its) (part_rises (history_of v id)) in
     answered settings_tree setting_tests setting_shown setting_order (lit (Int (pos 1))) db params rows (answers query setting_is) (reverse (outs mine)) same (outs_fall mine rise)
-    ∙ first_out mine ∙ ap (λ ss. map last_row (option_to_list (option_map told (last ss)))) its ∙ ap (λ o. map last_row (option_to_list o)) (last_of_part (history_of v id))
+    ∙ first_out mine ∙ ap (λ ss. map last_row (option_to_list (option_map stated (last ss)))) its ∙ ap (λ o. map last_row (option_to_list o)) (last_of_part (history_of v id))
 
 -- ---- all of them
 
@@ -136,12 +136,12 @@ same_all : (id place : ℕ) (ss : List Setting) → map setting_in (settings_fro
 same_all id place [] = refl
 same_all id place (s ∷ ss) = ap (λ l. s ∷ l) (same_all id (place + 1) ss)
 
-told_part : (o : Option History) → map setting_in (part_of settings_in o) ≡ unwrap_or (option_map (λ h. h.settings) o) []
-told_part None = refl
-told_part (Some h) = same_all h.entry.id 1 h.settings
+stated_part : (o : Option History) → map setting_in (part_of settings_in o) ≡ unwrap_or (option_map (λ h. h.settings) o) []
+stated_part None = refl
+stated_part (Some h) = same_all h.entry.id 1 h.settings
 
-pub told_settings : (v : Vault) (id : ℕ) → map setting_in (part_of settings_in (history_of v id)) ≡ settings_of v id
-told_settings v id = told_part (history_of v id)
+pub stated_settings : (v : Vault) (id : ℕ) → map setting_in (part_of settings_in (history_of v id)) ≡ settings_of v id
+stated_settings v id = stated_part (history_of v id)
 
 abbrev out_all : Row → Output
 out_all c = (column c 1 ∷ [], column c 0 ∷ column c 1 ∷ column c 2 ∷ column c 3 ∷ column c 4 ∷ column c 5 ∷ column c 6 ∷ column c 7 ∷ [])

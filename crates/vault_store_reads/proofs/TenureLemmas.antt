@@ -73,7 +73,7 @@ all_of : (id : ℕ) (ts : List Tenure) (n : ℕ) → AllByRecursion (λ r. (r.id
 all_of id [] n = tt
 all_of id (t ∷ ts) n = (refl, all_of id ts n)
 
--- ---- what the rows tell
+-- ---- what the rows say
 
 abbrev tenure_in : TenureRow → Tenure
 tenure_in x = x.tenure
@@ -82,20 +82,20 @@ same_all : (id : ℕ) (ts : List Tenure) → map tenure_in (map (tenure_at id) t
 same_all id [] = refl
 same_all id (t ∷ ts) = ap (λ l. t ∷ l) (same_all id ts)
 
-told_part : (o : Option History) → map tenure_in (part_of tenures_in o) ≡ unwrap_or (option_map (λ h. h.tenures) o) []
-told_part None = refl
-told_part (Some h) = same_all h.entry.id h.tenures
+stated_part : (o : Option History) → map tenure_in (part_of tenures_in o) ≡ unwrap_or (option_map (λ h. h.tenures) o) []
+stated_part None = refl
+stated_part (Some h) = same_all h.entry.id h.tenures
 
-pub told_tenures : (v : Vault) (id : ℕ) → map tenure_in (part_of tenures_in (history_of v id)) ≡ tenures_of v id
-told_tenures v id = told_part (history_of v id)
+pub stated_tenures : (v : Vault) (id : ℕ) → map tenure_in (part_of tenures_in (history_of v id)) ≡ tenures_of v id
+stated_tenures v id = stated_part (history_of v id)
 
 same_last : (ts : List Tenure) → last ts ≡ last_tenure ts
 same_last [] = refl
 same_last (t ∷ []) = refl
 same_last (t ∷ u ∷ us) = same_last (u ∷ us)
 
-pub told_last : (v : Vault) (id : ℕ) → option_map tenure_in (last (part_of tenures_in (history_of v id))) ≡ last_tenure_of v id
-told_last v id = sym (last-map tenure_in (part_of tenures_in (history_of v id))) ∙ ap last (told_tenures v id) ∙ same_last (tenures_of v id)
+pub stated_last : (v : Vault) (id : ℕ) → option_map tenure_in (last (part_of tenures_in (history_of v id))) ≡ last_tenure_of v id
+stated_last v id = sym (last-map tenure_in (part_of tenures_in (history_of v id))) ∙ ap last (stated_tenures v id) ∙ same_last (tenures_of v id)
 
 -- ---- the rows of one version
 

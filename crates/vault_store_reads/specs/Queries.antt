@@ -35,7 +35,7 @@ pub record Selects (sql : List ℕ) (q : Query) : Type 0 where
   pub plain : IsPlain (understood vault_schema sql)
   pub unlisted : reads_listing vault_schema sql ≡ false
 
--- such a text was answered with these rows, over tables that tell the vault
+-- such a text was answered with these rows, over tables that state the vault
 abbrev pub FindsRows : Vault → List ℕ → Row → List Row → Type 0
 FindsRows v sql params rows =
     (db : Database) × AreSound db v × ((q : Query) → Selects sql q → Answers db (record { lets = []; body = q }) params rows)

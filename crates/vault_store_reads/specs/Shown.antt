@@ -1,4 +1,4 @@
--- What a row of an ordered read tells.
+-- What a row of an ordered read says.
 use Rattle.std.specs.Prelude.{ℕ, ◌*◌, ◌==◌, not, List, [], ◌∷◌, map, filter, Option, None, Some, option_map}
 use Rattle.sqlite_value.specs.declared.value.Value.TheVariants.{Text}
 use Rattle.sqlite_value.specs.Order.{Row}

@@ -2,7 +2,7 @@
 //! on one at a time.
 //!
 //! Each answers what its name says of the vault that the connection keeps, and changes nothing. An error
-//! is want of memory, told as `ErrorCode::OutOfMemory`, or a failure of the store.
+//! is want of memory, reported as `ErrorCode::OutOfMemory`, or a failure of the store.
 #![tactic(auto)]
 
 pub mod entries;

@@ -1,7 +1,7 @@
 //! Queries over the tables of a vault that a connection keeps.
 //!
 //! A query changes nothing, whatever it answers; its rows are the answer of what its text means over
-//! tables that tell the vault.
+//! tables that state the vault.
 
 ghost use Rattle.std.specs.Prelude.{◌≡◌, IfOk, IfErr};
 ghost use Rattle.sqlite_sql.specs.Query.{Query};
@@ -33,7 +33,7 @@ pub fn query_rows<S: Alter>(
     conn.query_all(sql, params)
 }
 
-/// What is told of a row that isn't read as a record: want of memory as such, any other cause as a file
+/// What is said of a row that isn't read as a record: want of memory as such, any other cause as a file
 /// that isn't a vault's.
 pub fn unread(misread: Misread) -> Error
     ensures memory { misread ≡ Misread.Memory → result ≡ Error.SqliteFailure ErrorCode.OutOfMemory }

@@ -114,7 +114,7 @@ fn command(alloc: Global) -> Result<Timed, Fail> {
 }
 
 /// What replies say of the vault after the run, which its keeper may stop.
-fn told_after_run<K: Keeper>(alloc: Global, keeper: &mut K) -> Result<String, Fail> {
+fn stated_after_run<K: Keeper>(alloc: Global, keeper: &mut K) -> Result<String, Fail> {
     answers(alloc, keeper, RUN.as_bytes())?;
     answers(alloc, keeper, READS.as_bytes())
 }
@@ -132,18 +132,18 @@ fn filled(alloc: Global) -> Result<ListKeeper, Fail> {
 }
 
 /// What replies say of a vault with the first n changes of the run: its device refuses the next one.
-fn told_with(alloc: Global, changes: u64) -> Result<String, Fail> {
+fn stated_with(alloc: Global, changes: u64) -> Result<String, Fail> {
     let mut keeper: FuseKeeper<ListKeeper> = FuseKeeper::new(filled(alloc)?, changes);
-    let told = told_after_run(alloc, &mut keeper);
+    let stated = stated_after_run(alloc, &mut keeper);
     drop(keeper);
-    told
+    stated
 }
 
 /// Fails unless the vault has the first n changes of the run, and no other.
 fn compare_with<K: Keeper>(alloc: Global, keeper: &mut K, changes: u64) -> Result<(), Fail> {
-    let told = answers(alloc, keeper, READS.as_bytes())?;
-    let wanted = told_with(alloc, changes)?;
-    compare("the vault", told.as_str(), wanted.as_str())
+    let stated = answers(alloc, keeper, READS.as_bytes())?;
+    let wanted = stated_with(alloc, changes)?;
+    compare("the vault", stated.as_str(), wanted.as_str())
 }
 
 /// Carries the run out, and says how it ended. The vault has the changes that it reported, and given again it makes the
@@ -171,9 +171,9 @@ fn a_refused_growth_stops_a_run(rt: HostRuntime) -> Result<(), Fail> {
 /// So the test above can see each of its changes in the vault.
 #[test]
 fn each_change_of_the_run_is_seen(rt: HostRuntime) -> Result<(), Fail> {
-    let mut before = told_with(rt.alloc(), 0)?;
+    let mut before = stated_with(rt.alloc(), 0)?;
     for changes in 1..=CHANGES {
-        let after = told_with(rt.alloc(), changes)?;
+        let after = stated_with(rt.alloc(), changes)?;
         assert!(rt; before.as_str() != after.as_str());
         before = after;
     }

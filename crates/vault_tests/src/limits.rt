@@ -116,7 +116,7 @@ fn is_done(reply: &Reply) -> bool {
     matches!(reply, Reply::Done(_))
 }
 
-/// How many replies there are, and how many tell that a command is done; none where there was no room for them.
+/// How many replies there are, and how many say that a command is done; none where there was no room for them.
 fn counts_of(replies: Result<Vec<Reply>, AllocError>) -> Option<(usize, usize)> {
     match replies {
         Ok(replies) => {

@@ -27,7 +27,7 @@ pub struct RiggedKeeper<'a, K> {
 }
 
 impl<'a, K> RiggedKeeper<'a, K> {
-    /// A keeper that tells of n bytes admitted to each department, of this next id, and of n
+    /// A keeper that reports n bytes admitted to each department, of this next id, and of n
     /// moves made.
     pub fn new(keeper: &'a mut K, admitted: u64, next_id: u64, moves: u32) -> RiggedKeeper<'a, K> {
         RiggedKeeper {

@@ -25,13 +25,13 @@ const PAST_THE_LAST: u64 = 1_000_000_001;
 pub struct WatchedKeeper<'a, K> {
     keeper: &'a mut K,
     calls: String,
-    /// How many ids it still tells as they are.
+    /// How many ids it still states as they are.
     ids: u64,
     is_full: bool,
 }
 
 impl<'a, K> WatchedKeeper<'a, K> {
-    /// A keeper over another one, of which nothing was asked yet, that tells n ids before it is full.
+    /// A keeper over another one, of which nothing was asked yet, that states n ids before it is full.
     pub fn new(alloc: Global, keeper: &'a mut K, ids: u64) -> WatchedKeeper<'a, K> {
         WatchedKeeper {
             keeper,

@@ -14,7 +14,7 @@ use vault_files::list_folder::ListFolder;
 use vault_files::report::IntakeReport;
 use vault_transcript::trial::compare;
 use vaultctl_commands::fault::JobFault;
-use vaultctl_commands::intake::take_in_and_tell;
+use vaultctl_commands::intake::take_in_and_print;
 use vaultctl_commands::outcome::Outcome;
 
 fn file(alloc: Global, name: &str, bytes: &str) -> Result<File, Fail> {
@@ -76,7 +76,7 @@ impl Batch {
     }
 
     /// Takes a list in as the program does, which prints a line for each row.
-    pub fn take_and_tell<K: Keeper, F: Folder, W: Write>(
+    pub fn take_and_print<K: Keeper, F: Folder, W: Write>(
         &self,
         alloc: Global,
         keeper: &mut K,
@@ -84,7 +84,7 @@ impl Batch {
         folder: &mut F,
         out: &mut W,
     ) -> (Result<Outcome, JobFault>, IntakeReport) {
-        take_in_and_tell(
+        take_in_and_print(
             alloc,
             keeper,
             self.at,

@@ -8,7 +8,7 @@ use vault_files::disk_folder::DiskFolder;
 use vault_files::file_name::FileName;
 use vault_files::folder::Folder;
 use vault_files::list_file::read_list;
-use vault_files::progress::ToldFolder;
+use vault_files::progress::ProgressFolder;
 
 const FOLDER: &str = "intake_of_a_test";
 
@@ -27,7 +27,7 @@ fn make(rt: &HostRuntime) -> io::Result<()> {
 }
 
 /// How many bytes were read, and how the first of them begin.
-fn told(alloc: Global, read: Result<Option<Vec<u8>>, Fault>) -> Result<String, AllocError> {
+fn stated(alloc: Global, read: Result<Option<Vec<u8>>, Fault>) -> Result<String, AllocError> {
     match read {
         Ok(None) => String::from_str(alloc, "none"),
         Ok(Some(bytes)) => {
@@ -40,12 +40,12 @@ fn told(alloc: Global, read: Result<Option<Vec<u8>>, Fault>) -> Result<String, A
     }
 }
 
-/// What is told of each of these files in turn.
-fn told_of(alloc: Global, folder: &mut impl Folder, names: &[&str]) -> Result<String, Fail> {
+/// What is said of each of these files in turn.
+fn stated_of(alloc: Global, folder: &mut impl Folder, names: &[&str]) -> Result<String, Fail> {
     let mut all = String::new(alloc);
     for name in names {
         let name = FileName::read(alloc, name)?.ok_or("a name of a file")?;
-        let read = told(alloc, folder.read(&name))?;
+        let read = stated(alloc, folder.read(&name))?;
         all.push_str(read.as_str())?;
         all.push_str("; ")?;
     }
@@ -63,7 +63,7 @@ fn read_all(rt: &HostRuntime) -> Result<(), Fail> {
     let alloc = rt.alloc();
     let mut folder = DiskFolder::new(alloc, rt, FOLDER);
     let names = ["small", "large", "absent", "inner", "link", "loop", "small"];
-    let all = told_of(alloc, &mut folder, &names)?;
+    let all = stated_of(alloc, &mut folder, &names)?;
     compare(
         all.as_str(),
         "5 of 104; 1048577 of 97; none; none; none; none; 5 of 104; ",
@@ -78,7 +78,7 @@ fn read_all(rt: &HostRuntime) -> Result<(), Fail> {
 fn read_through_a_loop(rt: &HostRuntime) -> Result<(), Fail> {
     let alloc = rt.alloc();
     let mut folder = DiskFolder::new(alloc, rt, "intake_of_a_test/loop");
-    let all = told_of(alloc, &mut folder, &["small", "small"])?;
+    let all = stated_of(alloc, &mut folder, &["small", "small"])?;
     compare(all.as_str(), "device; device; ")?;
     if folder.faults() != 2 {
         return Err(Fail::new("two failures are counted"));
@@ -100,10 +100,10 @@ fn files_are_read_by_name(rt: HostRuntime) -> Result<(), Fail> {
 fn a_list_is_read_or_fails(rt: HostRuntime) -> Result<(), Fail> {
     let alloc = rt.alloc();
     fs::write(&rt, "list_of_a_test", "file,key,mode,until,hold\n")?;
-    let there = told(alloc, read_list(alloc, &rt, "list_of_a_test").map(Some))?;
+    let there = stated(alloc, read_list(alloc, &rt, "list_of_a_test").map(Some))?;
     fs::remove_file(&rt, "list_of_a_test")?;
     compare(there.as_str(), "25 of 102")?;
-    let absent = told(alloc, read_list(alloc, &rt, "no_list_of_a_test").map(Some))?;
+    let absent = stated(alloc, read_list(alloc, &rt, "no_list_of_a_test").map(Some))?;
     compare(absent.as_str(), "device")
 }
 
@@ -116,7 +116,7 @@ fn a_long_list_is_read_up_to_the_limit(rt: HostRuntime) -> Result<(), Fail> {
         "long_list_of_a_test",
         vec![in alloc; b'a'; 16_777_218]?,
     )?;
-    let read = told(
+    let read = stated(
         alloc,
         read_list(alloc, &rt, "long_list_of_a_test").map(Some),
     );
@@ -125,8 +125,11 @@ fn a_long_list_is_read_up_to_the_limit(rt: HostRuntime) -> Result<(), Fail> {
 }
 
 #[test]
-fn a_told_folder_reads_what_its_folder_reads(rt: HostRuntime) -> Result<(), Fail> {
+fn a_progress_folder_reads_what_its_folder_reads(rt: HostRuntime) -> Result<(), Fail> {
     let alloc = rt.alloc();
-    let mut folder = ToldFolder::new(DiskFolder::new(alloc, &rt, "."), None);
-    compare(told_of(alloc, &mut folder, &["absent"])?.as_str(), "none; ")
+    let mut folder = ProgressFolder::new(DiskFolder::new(alloc, &rt, "."), None);
+    compare(
+        stated_of(alloc, &mut folder, &["absent"])?.as_str(),
+        "none; ",
+    )
 }

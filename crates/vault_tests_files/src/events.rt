@@ -6,7 +6,7 @@ use vault_core_model::keeper::Keeper;
 use vault_failing::streams::FailingWriter;
 use vault_files::ExportFault;
 use vault_files_events::export_events;
-use vault_transcript::telling::{tells_still, told};
+use vault_transcript::replies_of::{answers_still, stated};
 use vault_transcript::trial::{Trial, compare, try_behind};
 
 /// A version under governance and a hold, which is lifted; its bucket moves there and back; it is removed by a bypass.
@@ -115,9 +115,9 @@ impl Events<'_> {
 impl Trial for Events<'_> {
     /// The vault is as it was then: what `export_events` says in `err` and `same`.
     fn carry_out<K: Keeper>(&self, alloc: Global, keeper: &mut K) -> Result<(), Fail> {
-        let before = told(alloc, keeper)?;
+        let before = stated(alloc, keeper)?;
         self.cut_each(alloc, keeper)?;
-        tells_still(alloc, keeper, before.as_str())
+        answers_still(alloc, keeper, before.as_str())
     }
 }
 

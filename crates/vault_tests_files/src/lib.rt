@@ -1,5 +1,5 @@
 //! Tests of what is read from files and written into them: lines that are no command; intakes over a folder in memory,
-//! also where that folder, a device, a writer or memory fails; folders on a disk, and what a terminal is told of a long
+//! also where that folder, a device, a writer or memory fails; folders on a disk, and what a terminal is said of a long
 //! job; registers of removals and events whose writer fails.
 #![tactic(auto)]
 

@@ -6,7 +6,7 @@ use vault_core_model::keeper::Keeper;
 use vault_failing::streams::FailingWriter;
 use vault_files::ExportFault;
 use vault_files::register::export_register;
-use vault_transcript::telling::{tells_still, told};
+use vault_transcript::replies_of::{answers_still, stated};
 use vault_transcript::trial::{Trial, compare, try_behind};
 
 /// Three entries are removed.
@@ -116,9 +116,9 @@ impl Register<'_> {
 impl Trial for Register<'_> {
     /// The vault is as it was then: what `export_register` says in `err` and `same`.
     fn carry_out<K: Keeper>(&self, alloc: Global, keeper: &mut K) -> Result<(), Fail> {
-        let before = told(alloc, keeper)?;
+        let before = stated(alloc, keeper)?;
         self.cut_each(alloc, keeper)?;
-        tells_still(alloc, keeper, before.as_str())
+        answers_still(alloc, keeper, before.as_str())
     }
 }
 
@@ -147,7 +147,7 @@ impl Trial for HeldBack {
     }
 }
 
-/// What is held back is handed on before the register counts as written, and a fault of that is told.
+/// What is held back is handed on before the register counts as written, and a fault of that is reported.
 #[test]
 fn a_register_that_is_held_back_fails_at_its_end(rt: HostRuntime) -> Result<(), Fail> {
     try_behind(rt.alloc(), REMOVALS, &HeldBack)

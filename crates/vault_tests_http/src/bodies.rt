@@ -243,7 +243,7 @@ fn a_reader_that_ends_within_a_body(rt: HostRuntime) -> Result<(), Fail> {
     try_on_new(rt.alloc(), &Coming::Cut(false))
 }
 
-/// One that fails there is told as a failed read.
+/// One that fails there is reported as a failed read.
 #[test]
 fn a_reader_that_fails_within_a_body(rt: HostRuntime) -> Result<(), Fail> {
     try_on_new(rt.alloc(), &Coming::Cut(true))

@@ -2,14 +2,14 @@
 use crate::exchange::{Exchange, answer_whole, compare_deed};
 use crate::rows::rows;
 use crate::serving::{READING, answer, serve};
-use crate::vault::{Filled, tells_still, told};
+use crate::vault::{Filled, answers_still, stated};
 use std::alloc::Global;
 use std::test::Fail;
 use vault_core_list::list_keeper::ListKeeper;
 use vault_core_model::keeper::Keeper;
 use vault_failing::streams::FailingReader;
 use vault_http::ServeFault;
-use vault_transcript::telling::edge;
+use vault_transcript::replies_of::edge;
 
 /// What a reader does behind the bytes that it gives.
 #[derive(Clone, Copy)]
@@ -42,7 +42,7 @@ fn serve_from<K: Keeper>(
     Ok((String::from_utf8(written)?, served))
 }
 
-/// Fails unless `Read` is told where the reader fails behind so many bytes, and nothing but 100 Continue is written.
+/// Fails unless `Read` is reported where the reader fails behind so many bytes, and nothing but 100 Continue is written.
 /// Where they are all that is read, it isn't asked any more, and they get their answer.
 fn serve_failing<K: Keeper>(
     alloc: Global,
@@ -55,7 +55,7 @@ fn serve_failing<K: Keeper>(
         return exchange.compare_answer(size, written.as_str());
     }
     if served == Err(ServeFault::Read) && size < exchange.read {
-        return exchange.compare_told(size, written.as_str());
+        return exchange.compare_replies(size, written.as_str());
     }
     Err(Fail::new(format_args!("{served:?} to {size} bytes of {}", exchange.request)))
 }
@@ -121,7 +121,7 @@ fn serve_whole<K: Keeper>(
     }
 }
 
-/// No cut changes anything; then the whole does what it should, to a vault that is told so before.
+/// No cut changes anything; then the whole does what it should, to a vault that is reported so before.
 fn cut_and_serve<K: Keeper>(
     alloc: Global,
     keeper: &mut K,
@@ -130,14 +130,14 @@ fn cut_and_serve<K: Keeper>(
     before: &str,
 ) -> Result<(), Fail> {
     cut_each(alloc, keeper, exchange, cut)?;
-    tells_still(alloc, keeper, before)?;
+    answers_still(alloc, keeper, before)?;
     serve_whole(alloc, keeper, exchange, cut)?;
     compare_deed(alloc, keeper, exchange, before)
 }
 
 fn cut_everywhere<K: Filled>(alloc: Global, exchange: &Exchange, cut: Cut) -> Result<(), Fail> {
     let mut keeper = K::filled(alloc)?;
-    let before = told(alloc, &mut keeper)?;
+    let before = stated(alloc, &mut keeper)?;
     cut_and_serve(alloc, &mut keeper, exchange, cut, before.as_str())
 }
 

@@ -1,7 +1,7 @@
 //! A row as bytes: its request, and what is answered to each beginning of it.
 use crate::rows::{Deed, Row};
 use crate::serving::{READING, answer, spelled};
-use crate::vault::told;
+use crate::vault::stated;
 use std::alloc::Global;
 use std::test::Fail;
 use vault_core_model::keeper::Keeper;
@@ -74,7 +74,7 @@ impl Exchange {
     }
 
     /// Fails unless this is what is written before the rest of so many bytes is waited for.
-    pub fn compare_told(&self, size: usize, given: &str) -> Result<(), Fail> {
+    pub fn compare_replies(&self, size: usize, given: &str) -> Result<(), Fail> {
         let name = self.request.as_str();
         if self.waits && size >= self.head {
             compare(name, given, GO_ON)
@@ -116,7 +116,7 @@ pub fn compare_deed<K: Keeper>(
     exchange: &Exchange,
     before: &str,
 ) -> Result<(), Fail> {
-    let after = told(alloc, keeper)?;
+    let after = stated(alloc, keeper)?;
     if (after.as_str() != before) == (exchange.deed == Deed::Made) {
         return Ok(());
     }

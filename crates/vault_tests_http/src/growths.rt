@@ -2,7 +2,7 @@
 use crate::exchange::{Exchange, GO_ON, answer_whole};
 use crate::rows::{Deed, Row, rows};
 use crate::serving::{READING, serve};
-use crate::vault::{Filled, told};
+use crate::vault::{Filled, stated};
 use std::alloc::Global;
 use std::test::Fail;
 use vault_core_list::list_keeper::ListKeeper;
@@ -106,17 +106,17 @@ fn serve_cases<K: Filled>(alloc: Global, cases: &mut [Case<K>]) -> Result<(), Fa
     Ok(())
 }
 
-/// What replies tell of the vault before a request.
-fn told_before<K: Filled>(alloc: Global) -> Result<String, Fail> {
+/// What replies say of the vault before a request.
+fn stated_before<K: Filled>(alloc: Global) -> Result<String, Fail> {
     let mut keeper = K::filled(alloc)?;
-    told(alloc, &mut keeper)
+    stated(alloc, &mut keeper)
 }
 
-/// What replies tell of the vault once a request was answered.
-fn told_behind<K: Filled>(alloc: Global, exchange: &Exchange) -> Result<String, Fail> {
+/// What replies say of the vault once a request was answered.
+fn stated_after<K: Filled>(alloc: Global, exchange: &Exchange) -> Result<String, Fail> {
     let mut keeper = K::filled(alloc)?;
     answer_whole(alloc, &mut keeper, exchange)?;
-    told(alloc, &mut keeper)
+    stated(alloc, &mut keeper)
 }
 
 /// The vault is as behind the request; where the refusal was answered it is as before, and where nothing was
@@ -134,7 +134,7 @@ fn is_changed(deed: Deed, left: &str, before: &str) -> bool {
     deed == Deed::Made && left != before
 }
 
-fn tell(rt: &HostRuntime, ending: Ending, is_changed: bool) -> Result<(), Fail> {
+fn compare_ending(rt: &HostRuntime, ending: Ending, is_changed: bool) -> Result<(), Fail> {
     let change = if is_changed {
         "the change is made"
     } else {
@@ -145,24 +145,24 @@ fn tell(rt: &HostRuntime, ending: Ending, is_changed: bool) -> Result<(), Fail> 
 }
 
 /// Says how a request ended, where it wasn't answered, and whether the vault has its change.
-fn tell_troubled(rt: &HostRuntime, ending: Ending, is_changed: bool) -> Result<(), Fail> {
+fn report_troubled(rt: &HostRuntime, ending: Ending, is_changed: bool) -> Result<(), Fail> {
     match ending {
         Ending::Answered => Ok(()),
-        _ => tell(rt, ending, is_changed),
+        _ => compare_ending(rt, ending, is_changed),
     }
 }
 
 fn judge<K: Filled>(rt: &HostRuntime, case: &mut Case<K>) -> Result<(), Fail> {
     let alloc = rt.alloc();
-    let before = told_before::<K>(alloc)?;
-    let behind = told_behind::<K>(alloc, &case.exchange)?;
+    let before = stated_before::<K>(alloc)?;
+    let behind = stated_after::<K>(alloc, &case.exchange)?;
     let request = case.exchange.request.as_str();
     if (before.as_str() == behind.as_str()) == (case.exchange.deed == Deed::Made) {
         return Err(Fail::new(format_args!("{request} doesn't do what it should")));
     }
-    let left = told(alloc, &mut case.keeper)?;
+    let left = stated(alloc, &mut case.keeper)?;
     let is_changed = is_changed(case.exchange.deed, left.as_str(), before.as_str());
-    tell_troubled(rt, case.ending, is_changed)?;
+    report_troubled(rt, case.ending, is_changed)?;
     if is_promised(case.ending, left.as_str(), before.as_str(), behind.as_str()) {
         return Ok(());
     }

@@ -49,7 +49,7 @@ pub fn answer<R: Read, K: Keeper>(
     Ok(text)
 }
 
-/// Whether an answer is the wanted one. Of that just the beginning and the end are told where ` .. ` stands between.
+/// Whether an answer is the wanted one. Of that just the beginning and the end are reported where ` .. ` stands between.
 fn is_wanted(given: &str, wanted: &str) -> bool {
     match wanted.split_once(" .. ") {
         Some((front, end)) => given.starts_with(front) && given.ends_with(end),

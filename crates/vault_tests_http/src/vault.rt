@@ -53,13 +53,13 @@ fn played<K: Keeper + Drop>(alloc: Global, keeper: K, transcript: &str) -> Resul
     Ok(keeper)
 }
 
-/// All that replies tell of the vault: the report, what is held, its locks, contents, the default, the rules.
-pub fn told<K: Keeper>(alloc: Global, keeper: &mut K) -> Result<String, Fail> {
+/// All that replies say of the vault: the report, what is held, its locks, contents, the default, the rules.
+pub fn stated<K: Keeper>(alloc: Global, keeper: &mut K) -> Result<String, Fail> {
     answers(alloc, keeper, READS.as_bytes())
 }
 
-/// Fails unless replies still tell of the vault what they told before.
-pub fn tells_still<K: Keeper>(alloc: Global, keeper: &mut K, before: &str) -> Result<(), Fail> {
-    let told = told(alloc, keeper)?;
-    compare("the vault", told.as_str(), before)
+/// Fails unless replies still say of the vault what they reported before.
+pub fn answers_still<K: Keeper>(alloc: Global, keeper: &mut K, before: &str) -> Result<(), Fail> {
+    let stated = stated(alloc, keeper)?;
+    compare("the vault", stated.as_str(), before)
 }

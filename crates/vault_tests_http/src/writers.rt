@@ -2,7 +2,7 @@
 use crate::exchange::{Exchange, compare_deed};
 use crate::rows::{Deed, rows};
 use crate::serving::{READING, serve};
-use crate::vault::{Filled, told};
+use crate::vault::{Filled, stated};
 use std::alloc::Global;
 use std::io::BufWriter;
 use std::test::Fail;
@@ -40,7 +40,7 @@ fn serve_to<K: Keeper>(
     Ok((String::from_utf8(writer.written)?, served))
 }
 
-/// Fails unless the writer takes what was to be written before its fault: what is told.
+/// Fails unless the writer takes what was to be written before its fault: what is reported.
 fn serve_behind<K: Keeper>(
     alloc: Global,
     keeper: &mut K,
@@ -49,13 +49,13 @@ fn serve_behind<K: Keeper>(
     writes: u64,
 ) -> Result<Result<(), ServeFault>, Fail> {
     let (written, served) = serve_to(alloc, keeper, exchange.front(size)?, writes)?;
-    // Of a writer that takes nothing, nothing is told, however much has come.
+    // Of a writer that takes nothing, nothing is reported, however much has come.
     let come = if writes == 0 { 0 } else { size };
-    exchange.compare_told(come, written.as_str())?;
+    exchange.compare_replies(come, written.as_str())?;
     Ok(served)
 }
 
-/// What is told where what is held back is handed on, before a request counts as served.
+/// What is reported where what is held back is handed on, before a request counts as served.
 fn serve_held_back<K: Keeper>(
     alloc: Global,
     keeper: &mut K,
@@ -79,7 +79,7 @@ fn serve_stopped<K: Keeper>(
     }
 }
 
-/// Fails unless the writer's fault is told, with what was to be written before it, and the vault is as it was, or as
+/// Fails unless the writer's fault is reported, with what was to be written before it, and the vault is as it was, or as
 /// the answer that wasn't written says.
 fn refuse_write<K: Filled>(
     alloc: Global,
@@ -89,9 +89,9 @@ fn refuse_write<K: Filled>(
     is_made: bool,
 ) -> Result<(), Fail> {
     let mut keeper = K::filled(alloc)?;
-    let before = told(alloc, &mut keeper)?;
+    let before = stated(alloc, &mut keeper)?;
     let served = serve_stopped(alloc, &mut keeper, exchange, size, full)?;
-    let after = told(alloc, &mut keeper)?;
+    let after = stated(alloc, &mut keeper)?;
     if served == Err(ServeFault::Write) && (after.as_str() != before.as_str()) == is_made {
         return Ok(());
     }
@@ -140,7 +140,7 @@ fn serve_all<K: Keeper>(
 /// 100 Continue takes one write, and the answer another.
 fn take_each_write<K: Filled>(alloc: Global, exchange: &Exchange) -> Result<(), Fail> {
     let mut keeper = K::filled(alloc)?;
-    let before = told(alloc, &mut keeper)?;
+    let before = stated(alloc, &mut keeper)?;
     let writes: u64 = if exchange.waits { 2 } else { 1 };
     serve_all(alloc, &mut keeper, exchange, writes)?;
     compare_deed(alloc, &mut keeper, exchange, before.as_str())

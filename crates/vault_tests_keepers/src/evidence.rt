@@ -97,7 +97,7 @@ fn compare_seals<K: Keeper>(alloc: Global, keeper: &mut K) -> Result<(), Fail> {
     compare("the seal", given.as_str(), SEALS[1].1)
 }
 
-fn tell_history<K: Keeper>(alloc: Global, keeper: &mut K) -> Result<(), Fail> {
+fn export_history<K: Keeper>(alloc: Global, keeper: &mut K) -> Result<(), Fail> {
     play(alloc, keeper, OPENING)?;
     play(alloc, keeper, DAYS)?;
     let given = events(alloc, keeper)?;
@@ -120,8 +120,8 @@ impl KeeperTrial for History {
         keeper: FuseKeeper<K>,
     ) -> (Result<(), Fail>, FuseKeeper<K>) {
         let mut keeper = keeper;
-        let told = tell_history(alloc, &mut keeper);
-        (told, keeper)
+        let stated = export_history(alloc, &mut keeper);
+        (stated, keeper)
     }
 }
 

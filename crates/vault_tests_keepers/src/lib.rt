@@ -1,4 +1,4 @@
-//! Tests over both kinds of keeper, the list and tables in memory: rows, runs that a device stops, and what is told of
+//! Tests over both kinds of keeper, the list and tables in memory: rows, runs that a device stops, and what is said of
 //! buckets that were moved, of removed entries and of what happened to each.
 #![tactic(auto)]
 

@@ -1,4 +1,4 @@
-//! What both keepers tell of buckets that were moved: how often, what each holds, and whose its versions were.
+//! What both keepers say of buckets that were moved: how often, what each holds, and whose its versions were.
 use crate::over_keepers::{KeeperTrial, failed_so_often, try_over_both};
 use std::alloc::Global;
 use std::test::Fail;
@@ -34,7 +34,7 @@ const BEFORE: &str = r#"
 "#;
 
 /// `docs` holds 6 bytes since day 19737 and 5 since the next.
-const TOLD_BEFORE: &str = "moves 0
+const REPLIES_BEFORE: &str = "moves 0
 docs 11 217112
 rolls 4 78952
 empty 0 0
@@ -50,7 +50,7 @@ const THERE: &str = r#"
 "#;
 
 /// The court has all that `docs` holds since day 19739.
-const TOLD_THERE: &str = "moves 1
+const REPLIES_THERE: &str = "moves 1
 docs 11 217129
 rolls 4 78952
 empty 0 0
@@ -79,7 +79,7 @@ const BACK: &str = r#"
 "#;
 
 /// The records have the 12 bytes of `docs` since day 19741.
-const TOLD_BACK: &str = "moves 3
+const REPLIES_BACK: &str = "moves 3
 docs 12 236892
 rolls 4 78952
 empty 0 0
@@ -98,8 +98,11 @@ empty 0 0
 const IDS: u32 = 9;
 
 /// The number of moves; of each bucket its held bytes and their weight; and a line for each tenure of each version.
-fn told<K: Keeper>(alloc: Global, keeper: &mut K) -> Result<String, Fail> {
-    let moves = keeper.moves().ok().ok_or("the number of moves isn't told")?;
+fn stated<K: Keeper>(alloc: Global, keeper: &mut K) -> Result<String, Fail> {
+    let moves = keeper
+        .moves()
+        .ok()
+        .ok_or("the number of moves isn't reported")?;
     let mut text = format!(in alloc; "moves {moves}\n")?;
     for bucket in ["docs", "rolls", "empty"] {
         text.push_str(held_of(alloc, keeper, bucket)?.as_str())?;
@@ -115,13 +118,16 @@ fn held_of<K: Keeper>(alloc: Global, keeper: &mut K, bucket: &str) -> Result<Str
     let (bytes, weight) = keeper
         .bucket_held(&name)
         .ok()
-        .ok_or("what is held isn't told")?;
+        .ok_or("what is held isn't reported")?;
     Ok(format!(in alloc; "{bucket} {bytes} {weight}\n")?)
 }
 
 fn tenures_of<K: Keeper>(alloc: Global, keeper: &mut K, number: u32) -> Result<String, Fail> {
     let id = VersionId::new(number).ok_or("no id")?;
-    let tenures = keeper.tenures(id).ok().ok_or("the tenures aren't told")?;
+    let tenures = keeper
+        .tenures(id)
+        .ok()
+        .ok_or("the tenures aren't reported")?;
     let lines = lines_of(alloc, number, tenures.as_slice());
     drop(tenures);
     lines
@@ -146,17 +152,17 @@ fn line_of(alloc: Global, number: u32, tenure: &Tenure, from: &str) -> Result<St
 fn go<K: Keeper>(alloc: Global, keeper: &mut K) -> Result<(), Fail> {
     play(alloc, keeper, OPENING)?;
     for (lines, wanted) in [
-        (BEFORE, TOLD_BEFORE),
-        (THERE, TOLD_THERE),
-        (BACK, TOLD_BACK),
+        (BEFORE, REPLIES_BEFORE),
+        (THERE, REPLIES_THERE),
+        (BACK, REPLIES_BACK),
     ] {
         play(alloc, keeper, lines)?;
-        compare("the moves", told(alloc, keeper)?.as_str(), wanted)?;
+        compare("the moves", stated(alloc, keeper)?.as_str(), wanted)?;
     }
     failed_so_often(keeper, 0)
 }
 
-/// A bucket that is moved there and back, with what is told before, between and then.
+/// A bucket that is moved there and back, with what is reported before, between and then.
 struct ThereAndBack;
 
 impl KeeperTrial for ThereAndBack {
@@ -166,12 +172,12 @@ impl KeeperTrial for ThereAndBack {
         keeper: FuseKeeper<K>,
     ) -> (Result<(), Fail>, FuseKeeper<K>) {
         let mut keeper = keeper;
-        let told = go(alloc, &mut keeper);
-        (told, keeper)
+        let stated = go(alloc, &mut keeper);
+        (stated, keeper)
     }
 }
 
 #[test]
-fn moves_there_and_back_are_told(rt: HostRuntime) -> Result<(), Fail> {
+fn moves_there_and_back_are_reported(rt: HostRuntime) -> Result<(), Fail> {
     try_over_both(rt.alloc(), &ThereAndBack)
 }

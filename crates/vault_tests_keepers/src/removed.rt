@@ -1,4 +1,4 @@
-//! What both keepers tell of removed entries, and which rule they name.
+//! What both keepers say of removed entries, and which rule they name.
 use crate::over_keepers::{KeeperTrial, try_over_both};
 use std::alloc::{AllocError, Global};
 use std::test::Fail;
@@ -11,7 +11,7 @@ use vault_tests_keepers_rows::texts::OPENING;
 use vault_transcript::transcript::play;
 use vault_transcript::trial::compare;
 
-/// What is told after a transcript.
+/// What is reported after a transcript.
 #[derive(Clone, Copy)]
 struct Removed<'a> {
     transcript: &'a str,
@@ -200,7 +200,7 @@ fn compare_authors<K: Keeper>(keeper: &mut K, removed: &Removed<'_>) -> Result<(
     Ok(())
 }
 
-fn tell_removed<K: Keeper>(
+fn list_removed<K: Keeper>(
     alloc: Global,
     keeper: &mut K,
     removed: &Removed<'_>,
@@ -218,13 +218,13 @@ impl KeeperTrial for Removed<'_> {
         keeper: FuseKeeper<K>,
     ) -> (Result<(), Fail>, FuseKeeper<K>) {
         let mut keeper = keeper;
-        let told = tell_removed(alloc, &mut keeper, self);
-        (told, keeper)
+        let stated = list_removed(alloc, &mut keeper, self);
+        (stated, keeper)
     }
 }
 
 #[test]
-fn removed_entries_are_told(rt: HostRuntime) -> Result<(), Fail> {
+fn removed_entries_are_reported(rt: HostRuntime) -> Result<(), Fail> {
     for removed in [OF_THREE_REMOVALS, OF_NOTHING, OF_RULES_IN_ORDER] {
         try_over_both(rt.alloc(), &removed)?;
     }

@@ -46,8 +46,8 @@ fn stop<K: Keeper>(
     match play_before(alloc, &mut keeper, stopped) {
         Ok(()) => {
             let mut failing = FuseKeeper::new(keeper.into_keeper(), stopped.changes);
-            let told = play_runs(alloc, &mut failing, stopped);
-            (told, unfailing(failing.into_keeper()))
+            let stated = play_runs(alloc, &mut failing, stopped);
+            (stated, unfailing(failing.into_keeper()))
         }
         Err(fail) => (Err(fail), keeper),
     }
@@ -59,9 +59,9 @@ impl KeeperTrial for Stopped<'_> {
         alloc: Global,
         keeper: FuseKeeper<K>,
     ) -> (Result<(), Fail>, FuseKeeper<K>) {
-        let (told, keeper) = stop(alloc, keeper, self);
+        let (stated, keeper) = stop(alloc, keeper, self);
         let mut keeper = keeper;
-        match told {
+        match stated {
             Ok(()) => (play(alloc, &mut keeper, self.after), keeper),
             Err(fail) => (Err(fail), keeper),
         }

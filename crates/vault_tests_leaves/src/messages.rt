@@ -22,8 +22,8 @@ fn messages_say_what_is_wrong(rt: HostRuntime) -> Result<(), Fail> {
         (message(Denial::Hold), "a legal hold is on"),
         (message(RuleFault::NoAction), "a rule has no action"),
     ];
-    for (told, wanted) in &rows {
-        assert_eq!(rt; told.as_str(), *wanted);
+    for (stated, wanted) in &rows {
+        assert_eq!(rt; stated.as_str(), *wanted);
     }
     Ok(())
 }

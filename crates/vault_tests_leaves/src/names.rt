@@ -118,7 +118,7 @@ fn is_batch_of(alloc: Global, text: &str) -> Result<bool, Fail> {
     Ok(batch.as_str() == text)
 }
 
-/// No reply tells a batch.
+/// No reply states a batch.
 #[test]
 fn batches_give_their_text_back(rt: HostRuntime) -> Result<(), Fail> {
     assert!(rt; is_batch_of(rt.alloc(), "b1")?);
@@ -171,8 +171,8 @@ fn digested(alloc: Global, bytes: &[u8], digest: &[u8]) -> Result<(usize, bool),
 #[test]
 fn digests(rt: HostRuntime) -> Result<(), Fail> {
     for (bytes, is_digest) in &DIGESTED {
-        let told = digested(rt.alloc(), bytes.as_slice(), ABC.as_slice())?;
-        assert_eq!(rt; told, (3, *is_digest));
+        let stated = digested(rt.alloc(), bytes.as_slice(), ABC.as_slice())?;
+        assert_eq!(rt; stated, (3, *is_digest));
     }
     Ok(())
 }
@@ -186,8 +186,8 @@ fn refusals(rt: HostRuntime) -> Result<(), Fail> {
             && denied.name() == "AccessDenied"
             && right.name() == "right:delete-version"
     );
-    let told = [denied.status(), Refusal::Damaged(Table::Heads).status()];
-    assert_eq!(rt; told, [Some(403), None]);
+    let stated = [denied.status(), Refusal::Damaged(Table::Heads).status()];
+    assert_eq!(rt; stated, [Some(403), None]);
     let read = [Right::read("bypass"), Right::read("Bypass")];
     assert!(rt; read == [Some(Right::Bypass), None]);
     Ok(())

@@ -1,4 +1,4 @@
-//! A department's sums by numbers that no report tells and no script reaches.
+//! A department's sums by numbers that no report states and no script reaches.
 use std::test::Fail;
 use vault_tally::row::Row;
 

@@ -121,8 +121,8 @@ const SIZES: [(u64, bool); 3] = [(4, false), (5, true), (6, false)];
 #[test]
 fn a_copy_says_the_same(rt: HostRuntime) -> Result<(), Fail> {
     for (size, due) in &SIZES {
-        let told = dues_between(rt.alloc(), *size)?;
-        assert_eq!(rt; told, [due.then_some(0); 3]);
+        let stated = dues_between(rt.alloc(), *size)?;
+        assert_eq!(rt; stated, [due.then_some(0); 3]);
     }
     Ok(())
 }

@@ -53,7 +53,7 @@ fn serve_waiting<R: Net<Listener = TcpListener, Stream = TcpStream>, K: Keeper>(
     answered(alloc, peer, wanted.as_str())
 }
 
-/// Serves peers that sent these bytes, and then one that waits, whose version tells how many were put before.
+/// Serves peers that sent these bytes, and then one that waits, whose version says how many were put before.
 fn survive(rt: &HostRuntime, sent: &str, id: u64) -> Result<(), Fail> {
     let alloc = rt.alloc();
     let mut keeper = opened(alloc)?;

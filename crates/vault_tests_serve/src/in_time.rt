@@ -64,9 +64,9 @@ fn a_nanosecond_too_late(rt: HostRuntime) -> Result<(), Fail> {
     Ok(())
 }
 
-/// As many tries are made as it is told, those without a connection too.
+/// As many tries are made as it is reported, those without a connection too.
 #[test]
-fn as_many_tries_as_told(rt: HostRuntime) -> Result<(), Fail> {
+fn as_many_tries_as_reported(rt: HostRuntime) -> Result<(), Fail> {
     let alloc = rt.alloc();
     let mut keeper = opened(alloc)?;
     let readings = [Some(READING), None, Some(READING), Some(READING)];

@@ -128,9 +128,9 @@ fn a_listener_that_fails(rt: HostRuntime) -> Result<(), Fail> {
     answered(alloc, clients, &[STORED, GOT])
 }
 
-/// Where no clock tells how long one waits nothing is served, and nothing carried out.
+/// Where no clock says how long one waits nothing is served, and nothing carried out.
 #[test]
-fn a_clock_that_tells_no_time(rt: HostRuntime) -> Result<(), Fail> {
+fn a_clock_without_a_time(rt: HostRuntime) -> Result<(), Fail> {
     let alloc = rt.alloc();
     let mut keeper = opened(alloc)?;
     let listener = TcpListener::bind(&rt, (Ipv4Addr::LOCALHOST, 0))?;

@@ -1,6 +1,6 @@
 //! What is to be found, from the list: the vault after each change of a day.
 use crate::day::Day;
-use crate::telling::told;
+use crate::seen::stated;
 use std::alloc::Global;
 use std::test::Fail;
 use vault_core::fuse_keeper::FuseKeeper;
@@ -13,7 +13,7 @@ use vault_transcript::transcript::replies;
 pub struct Progress {
     /// How many lines were answered before the device failed.
     pub lines: usize,
-    /// How many changes the next one had made by then, as its reply tells.
+    /// How many changes the next one had made by then, as its reply says.
     pub changes: usize,
     /// Whether the device failed at that line.
     pub has_failed: bool,
@@ -44,21 +44,21 @@ pub fn play<K: Keeper>(
     })
 }
 
-/// The progress where the line behind so many got that reply. Fails where it tells of no failure.
+/// The progress where the line behind so many got that reply. Fails where it says of no failure.
 fn failed_at(lines: usize, reply: &str) -> Result<Progress, Fail> {
     if !reply.contains("\"Device\"") {
-        return Err(Fail::new("a failure isn't told"));
+        return Err(Fail::new("a failure isn't reported"));
     }
     Ok(Progress {
         lines,
-        changes: changes_told(reply),
+        changes: changes_reported(reply),
         has_failed: true,
         has_more: false,
     })
 }
 
 /// The changes of a stopped run; of any other reply none.
-fn changes_told(reply: &str) -> usize {
+fn changes_reported(reply: &str) -> usize {
     let Some(rest) = reply.strip_prefix("{\"stopped\":{\"changes\":") else {
         return 0;
     };
@@ -70,7 +70,7 @@ fn changes_told(reply: &str) -> usize {
 
 /// The vault after each change of a day.
 pub struct Expected {
-    /// What is told of it after none, one, two changes and so on.
+    /// What is said of it after none, one, two changes and so on.
     states: Vec<String>,
     /// How many lines come before the one that makes the next change.
     lines: Vec<usize>,
@@ -89,7 +89,7 @@ impl Drop for Expected {
 /// How many changes a day may have.
 const MOST: u64 = 64;
 
-/// Adds what is told of a vault over which the lines are carried out. Says whether the device failed at one.
+/// Adds what is said of a vault over which the lines are carried out. Says whether the device failed at one.
 fn add_played<K: Keeper>(
     alloc: Global,
     keeper: &mut K,
@@ -97,7 +97,7 @@ fn add_played<K: Keeper>(
     all: &mut Expected,
 ) -> Result<bool, Fail> {
     let progress = play(alloc, keeper, lines, 0)?;
-    all.states.push(told(alloc, keeper)?)?;
+    all.states.push(stated(alloc, keeper)?)?;
     all.lines.push(progress.lines)?;
     Ok(progress.has_failed)
 }
@@ -109,7 +109,7 @@ fn behind<K: Keeper + Drop>(alloc: Global, keeper: K, lines: &str) -> Result<K, 
     Ok(keeper)
 }
 
-/// Adds what is told of the vault of earlier days, whose device fails behind so many changes of this one. Says
+/// Adds what is said of the vault of earlier days, whose device fails behind so many changes of this one. Says
 /// whether it failed.
 fn add_behind<K: Keeper + Drop>(
     alloc: Global,
@@ -125,7 +125,7 @@ fn add_behind<K: Keeper + Drop>(
 }
 
 /// The vault after each change of a day, kept as a list whose device fails behind that change. Fails where a change
-/// isn't told.
+/// isn't reported.
 pub fn expect(alloc: Global, day: &Day) -> Result<Expected, Fail> {
     let mut all = Expected {
         states: Vec::new(alloc),
@@ -138,7 +138,7 @@ pub fn expect(alloc: Global, day: &Day) -> Result<Expected, Fail> {
 fn add_each(alloc: Global, day: &Day, all: &mut Expected) -> Result<(), Fail> {
     for changes in 0..MOST {
         if !add_behind(alloc, ListKeeper::new(alloc)?, day, changes, all)? {
-            return all.tells_each_change();
+            return all.lists_each_change();
         }
     }
     Err(Fail::new("the day has too many changes"))
@@ -155,7 +155,7 @@ impl Expected {
         before.saturating_add(progress.changes)
     }
 
-    /// Whether the text is what is told of the vault after so many changes.
+    /// Whether the text is what is said of the vault after so many changes.
     fn is_after(&self, changes: usize, text: &str) -> bool {
         match self.states.get(changes) {
             Some(state) => state.as_str() == text,
@@ -176,21 +176,21 @@ impl Expected {
         Err(Fail::new(format_args!("after {acknowledged} changes: {text}")))
     }
 
-    /// Whether the text is what is told at the end of the day.
+    /// Whether the text is what is reported at the end of the day.
     pub fn is_end(&self, text: &str) -> bool {
         self.is_after(self.states.len().saturating_sub(1), text)
     }
 
-    /// Fails unless something else is told after each change.
-    fn tells_each_change(&self) -> Result<(), Fail> {
-        let tells = self
+    /// Fails unless something else is reported after each change.
+    fn lists_each_change(&self) -> Result<(), Fail> {
+        let reads_so = self
             .states
             .iter()
             .zip(self.states.iter().skip(1))
             .all(|(before, after)| before.as_str() != after.as_str());
-        if tells {
+        if reads_so {
             return Ok(());
         }
-        Err(Fail::new("a change is not told"))
+        Err(Fail::new("a change is not reported"))
     }
 }

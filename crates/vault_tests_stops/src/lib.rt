@@ -9,11 +9,11 @@ mod expected;
 #[cfg(test)]
 mod reads;
 #[cfg(test)]
+mod seen;
+#[cfg(test)]
 mod stopped;
 #[cfg(test)]
 mod stops;
-#[cfg(test)]
-mod telling;
 #[cfg(test)]
 mod trial;
 #[cfg(test)]

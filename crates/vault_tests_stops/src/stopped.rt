@@ -113,7 +113,7 @@ fn entered<S: Alter>(alloc: Global, is_made: bool, conn: Connection<S>) -> Entra
     }
 }
 
-/// A visit up to its stop, and the connection as it is left then. Fails where a failing file is told as
+/// A visit up to its stop, and the connection as it is left then. Fails where a failing file is reported as
 /// anything but that, and where the vault isn't the one that is to be found.
 fn worked_on<S: Alter>(
     alloc: Global,

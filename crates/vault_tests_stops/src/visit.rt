@@ -1,7 +1,7 @@
 //! What is asked of a vault that was opened, whatever keeps it.
 use crate::day::Day;
 use crate::expected::{Expected, Progress, play};
-use crate::telling::{is_conserved, told};
+use crate::seen::{is_conserved, stated};
 use std::alloc::Global;
 use std::test::Fail;
 use vault_core_model::keeper::Keeper;
@@ -36,14 +36,14 @@ fn go_on<K: Keeper>(
     lines: &str,
     resumed: &Resumed<'_>,
 ) -> Result<Progress, Fail> {
-    let text = told(alloc, keeper)?;
+    let text = stated(alloc, keeper)?;
     let has_more = resumed
         .expected
         .finds_one_more(&resumed.progress, text.as_str())?;
     is_conserved(alloc, keeper)?;
     let from = next_line(lines, resumed.progress.lines, has_more);
     let mut progress = play(alloc, keeper, lines, from)?;
-    if !resumed.expected.is_end(told(alloc, keeper)?.as_str()) {
+    if !resumed.expected.is_end(stated(alloc, keeper)?.as_str()) {
         return Err(Fail::new("the rest of the day leads elsewhere"));
     }
     progress.has_more = has_more;

@@ -7,7 +7,7 @@ mod commit;
 mod version;
 
 use crate::commit::COMMIT;
-use crate::version::{tell_version, version_beside};
+use crate::version::{print_version, version_beside};
 use sqlite::{Start, Unknown};
 use std::io::{self, BufWriter, ErrorKind, Read, Write};
 use std::process::ExitCode;
@@ -44,13 +44,13 @@ fn main(rt: HostRuntime) -> ExitCode {
     let mut machine = Machine::new(&rt);
     match answer_given_words(&mut machine, starts, &mut err) {
         Ok(status) => ExitCode::from(status),
-        Err(error) => ExitCode::from(tell_unread(&mut err, error.kind())),
+        Err(error) => ExitCode::from(print_unread(&mut err, error.kind())),
     }
 }
 
-/// Tells why the program's words weren't read, and answers the status. Where even this can't be written, the status tells
+/// Says why the program's words weren't read, and answers the status. Where even this can't be written, the status says
 /// alone.
-fn tell_unread<E: Write>(err: &mut E, kind: ErrorKind) -> u8
+fn print_unread<E: Write>(err: &mut E, kind: ErrorKind) -> u8
     ensures words { kind ≡ ErrorKind.InvalidData → result ≡ 2 }
     ensures memory { kind ≢ ErrorKind.InvalidData → result ≡ 1 }
 {
@@ -73,7 +73,7 @@ fn answer<A: Start, B: Start, R: Read, W: Write, E: Write>(
     err: &mut E,
 ) -> u8 {
     match version_beside(COMMIT, words) {
-        Some(version) => tell_version(version, COMMIT, out, err),
+        Some(version) => print_version(version, COMMIT, out, err),
         None => answer_words(machine, starts, words, reader, out, err),
     }
 }

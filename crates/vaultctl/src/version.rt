@@ -23,7 +23,7 @@ fn write_version<W: Write>(version: &str, commit: &str, out: &mut W) -> io::Resu
 
 /// Prints the version and the commit, and answers the status: 0, or 1 where they can't be written, which `err` gets as
 /// `version: Write`.
-pub(crate) fn tell_version<W: Write, E: Write>(
+pub(crate) fn print_version<W: Write, E: Write>(
     version: &str,
     commit: &str,
     out: &mut W,

@@ -4,7 +4,7 @@ use Rattle.vaultctl_commands.specs.declared.fault.JobFault.{JobFault}
 use Rattle.vaultctl_commands.specs.declared.fault.JobFault.TheVariants.{Read, Write, Memory, Device}
 use Rattle.vaultctl_commands.specs.declared.outcome.Outcome.{Outcome}
 
--- the name by which a fault is told
+-- the name by which a fault is reported
 abbrev pub fault_name : JobFault → List ℕ
 fault_name Read = codes "Read"
 fault_name Write = codes "Write"

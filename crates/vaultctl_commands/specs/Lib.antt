@@ -1,6 +1,6 @@
 pub mod Asked
 pub mod Words
-pub mod Told
+pub mod PrintedIntake
 pub mod Printed
 pub mod Faults
 pub mod Evidence

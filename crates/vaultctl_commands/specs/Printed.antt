@@ -22,5 +22,5 @@ outcome_of (Refused refusal) = outcome.Refused
 outcome_of (Stopped changes stop) = outcome.Refused
 
 -- a reply is printed, and that came of its command
-abbrev pub TellsReply : Outcome → Option (List ℕ) → Option (List ℕ) → Type 0
-TellsReply told before after = (reply : Reply) × (told ≡ outcome_of reply) × Appends before after (printed reply)
+abbrev pub PrintsReply : Outcome → Option (List ℕ) → Option (List ℕ) → Type 0
+PrintsReply stated before after = (reply : Reply) × (stated ≡ outcome_of reply) × Appends before after (printed reply)

@@ -25,7 +25,7 @@ use vault_core_model::reply::Reply;
 use vaultctl_remedies::remedies::say_reply;
 
 /// Prints a reply, and answers what came of it.
-fn tell_lent<W: Write>(alloc: Global, reply: &Reply, out: &mut W) -> Result<Outcome, JobFault>
+fn print_lent<W: Write>(alloc: Global, reply: &Reply, out: &mut W) -> Result<Outcome, JobFault>
     ensures ok { IfOk result (λ outcome. (outcome ≡ spec.outcome_of reply.now) × Appends (W.contents out.old) (W.contents out.new) (spec.printed reply.now)) }
     ensures reader { result ≢ Err JobFault.Read }
     ensures device { result ≢ Err JobFault.Device }
@@ -38,19 +38,19 @@ fn tell_lent<W: Write>(alloc: Global, reply: &Reply, out: &mut W) -> Result<Outc
 }
 
 /// Prints a reply, which is dropped, and answers what came of it.
-fn tell<W: Write>(alloc: Global, reply: Reply, out: &mut W) -> Result<Outcome, JobFault>
+fn print_reply<W: Write>(alloc: Global, reply: Reply, out: &mut W) -> Result<Outcome, JobFault>
     ensures ok { IfOk result (λ outcome. (outcome ≡ spec.outcome_of reply) × Appends (W.contents out.old) (W.contents out.new) (spec.printed reply)) }
     ensures reader { result ≢ Err JobFault.Read }
     ensures device { result ≢ Err JobFault.Device }
 {
-    let outcome = tell_lent(alloc, &reply, out);
+    let outcome = print_lent(alloc, &reply, out);
     drop(reply);
     outcome
 }
 
 /// Prints the reply to a command, says in words on `err` what it leaves a person to know, and drops it; answers what came
 /// of it.
-fn tell_in_words<W: Write, E: Write>(
+fn print_in_words<W: Write, E: Write>(
     alloc: Global,
     command: &Command,
     reply: Reply,
@@ -61,7 +61,7 @@ fn tell_in_words<W: Write, E: Write>(
     ensures reader { result ≢ Err JobFault.Read }
     ensures device { result ≢ Err JobFault.Device }
 {
-    let outcome = tell_lent(alloc, &reply, out);
+    let outcome = print_lent(alloc, &reply, out);
     if outcome.is_ok() {
         say_reply(command, &reply, err);
     }
@@ -70,17 +70,17 @@ fn tell_in_words<W: Write, E: Write>(
 }
 
 /// Prints the line of a refusal.
-pub fn tell_refusal<W: Write>(
+pub fn print_refusal<W: Write>(
     alloc: Global,
     refusal: Refusal,
     out: &mut W,
 ) -> Result<Outcome, JobFault>
     ensures ok { IfOk result (λ outcome. (outcome ≡ Outcome.Refused) × Appends (W.contents out.old) (W.contents out.new) (spec.printed (Refused refusal))) }
-    ensures printed { IfOk result (λ outcome. spec.TellsReply outcome (W.contents out.old) (W.contents out.new)) }
+    ensures printed { IfOk result (λ outcome. spec.PrintsReply outcome (W.contents out.old) (W.contents out.new)) }
     ensures reader { result ≢ Err JobFault.Read }
     ensures device { result ≢ Err JobFault.Device }
 {
-    tell(alloc, Reply::Refused(refusal), out)
+    print_reply(alloc, Reply::Refused(refusal), out)
 }
 
 /// Carries out what is asked at a reading, prints the reply, and answers what came of it. Why it was refused, and what to
@@ -97,16 +97,16 @@ pub fn carry_out<K: Keeper, W: Write, E: Write>(
     out: &mut W,
     err: &mut E,
 ) -> Result<Outcome, JobFault>
-    // The reply is that of one step of the machine, and it is what is printed. It tells that the device failed only
+    // The reply is that of one step of the machine, and it is what is printed. It says that the device failed only
     // where the count of failures rose, or stands at its greatest value.
     ensures ok { K.is_honest keeper.new → IfOk result (λ outcome. (reply : AnyReply) × IsStep (K.vault keeper.old) at asked.now.who asked.now.command reply (K.vault keeper.new)
         × (outcome ≡ spec.outcome_of reply) × Appends (W.contents out.old) (W.contents out.new) (spec.printed reply)
         × (IsTrue (is_device_reply reply) → RoseOrIsFull (K.count keeper.old) (K.count keeper.new))) }
     ensures err { K.is_honest keeper.new → OnErr result ((reply : AnyReply) × IsStep (K.vault keeper.old) at asked.now.who asked.now.command reply (K.vault keeper.new)) }
     // Whatever the device does, what is answered is what the printed reply says.
-    ensures printed { IfOk result (λ outcome. spec.TellsReply outcome (W.contents out.old) (W.contents out.new)) }
-    // And there is one reply, printed where anything is, which tells that the device failed just where the count of
-    // failures rose, or can rise no further; where it doesn't tell it, the count is as it was.
+    ensures printed { IfOk result (λ outcome. spec.PrintsReply outcome (W.contents out.old) (W.contents out.new)) }
+    // And there is one reply, printed where anything is, which says that the device failed just where the count of
+    // failures rose, or can rise no further; where it doesn't state it, the count is as it was.
     ensures steady { (reply : AnyReply) × (K.is_honest keeper.new → IsStep (K.vault keeper.old) at asked.now.who asked.now.command reply (K.vault keeper.new))
         × IfOk result (λ outcome. (outcome ≡ spec.outcome_of reply) × Appends (W.contents out.old) (W.contents out.new) (spec.printed reply))
         × (K.count keeper.new ≡ count_after (K.count keeper.old) (is_device_reply reply)) }
@@ -117,5 +117,5 @@ pub fn carry_out<K: Keeper, W: Write, E: Write>(
     ensures device { result ≢ Err JobFault.Device }
 {
     let reply = step(alloc, keeper, at, &asked.who, &asked.command);
-    tell_in_words(alloc, &asked.command, reply, out, err)
+    print_in_words(alloc, &asked.command, reply, out, err)
 }

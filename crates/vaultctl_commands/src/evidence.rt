@@ -13,7 +13,7 @@ ghost use Rattle.vaultctl_commands.specs.Faults.{reports_device};
 ghost use Rattle.vaultctl_commands.specs.Printed.{printed};
 
 use crate::asked::{AskedEvents, AskedSeal};
-use crate::carrying::tell_refusal;
+use crate::carrying::print_refusal;
 use crate::fault::JobFault;
 use crate::outcome::Outcome;
 use crate::printing::print;
@@ -31,13 +31,13 @@ use vault_files_events::{Seal, export_events, seal, seal_text};
 ///
 /// `Write` comes where the text can't be written, `Memory` where there is no room for an entry's rows, and `Device` where
 /// the vault's device failed.
-pub fn tell_events<K: Keeper, W: Write>(
+pub fn print_events<K: Keeper, W: Write>(
     alloc: Global,
     keeper: &mut K,
     asked: &AskedEvents,
     out: &mut W,
 ) -> Result<Outcome, JobFault>
-    ensures ok { K.is_honest keeper.new → IfOk result (λ told. (told ≡ Outcome.Done) × Appends (W.contents out.old) (W.contents out.new) (events_text (events_asked asked.now.before (K.vault keeper.old)))) }
+    ensures ok { K.is_honest keeper.new → IfOk result (λ stated. (stated ≡ Outcome.Done) × Appends (W.contents out.old) (W.contents out.new) (events_text (events_asked asked.now.before (K.vault keeper.old)))) }
     ensures err { K.is_honest keeper.new → OnErr result (Begins (W.contents out.old) (W.contents out.new) (events_text (events_asked asked.now.before (K.vault keeper.old)))) }
     ensures leaves { LeavesSame K.Kept keeper.old keeper.new (reports_device result) }
     ensures reader { result ≢ Err JobFault.Read }
@@ -52,7 +52,7 @@ pub fn tell_events<K: Keeper, W: Write>(
 
 /// Prints the lines of a seal.
 fn print_seal<W: Write>(alloc: Global, seal: &Seal, out: &mut W) -> Result<Outcome, JobFault>
-    ensures ok { IfOk result (λ told. (told ≡ Outcome.Done) × Appends (W.contents out.old) (W.contents out.new) (seal_lines seal.now)) }
+    ensures ok { IfOk result (λ stated. (stated ≡ Outcome.Done) × Appends (W.contents out.old) (W.contents out.new) (seal_lines seal.now)) }
     ensures reader { result ≢ Err JobFault.Read }
     ensures device { result ≢ Err JobFault.Device }
 {
@@ -64,19 +64,19 @@ fn print_seal<W: Write>(alloc: Global, seal: &Seal, out: &mut W) -> Result<Outco
 }
 
 /// Prints the refusal of a moment that the vault hasn't reached, and says in words on `err` which one it may be.
-fn tell_unreached<W: Write, E: Write>(
+fn print_unreached<W: Write, E: Write>(
     alloc: Global,
     refusal: Refusal,
     out: &mut W,
     err: &mut E,
 ) -> Result<Outcome, JobFault>
-    ensures ok { IfOk result (λ told. (told ≡ Outcome.Refused) × Appends (W.contents out.old) (W.contents out.new) (printed (Refused refusal))) }
+    ensures ok { IfOk result (λ stated. (stated ≡ Outcome.Refused) × Appends (W.contents out.old) (W.contents out.new) (printed (Refused refusal))) }
     ensures reader { result ≢ Err JobFault.Read }
     ensures device { result ≢ Err JobFault.Device }
 {
-    let told = tell_refusal(alloc, refusal, out);
+    let stated = print_refusal(alloc, refusal, out);
     let _ = writeln!(err, "{UNREACHED}");
-    told
+    stated
 }
 
 /// What is said of a moment after the vault's last change.
@@ -85,7 +85,7 @@ const UNREACHED: &str =
 
 /// Prints the seal of what was before a moment; or the refusal of a moment after the vault's last change, and says in
 /// words on `err` which one it may be.
-pub fn tell_seal<K: Keeper, W: Write, E: Write>(
+pub fn answer_seal<K: Keeper, W: Write, E: Write>(
     alloc: Global,
     keeper: &mut K,
     asked: &AskedSeal,
@@ -93,9 +93,9 @@ pub fn tell_seal<K: Keeper, W: Write, E: Write>(
     err: &mut E,
 ) -> Result<Outcome, JobFault>
     // What is printed is the seal of the moment that is asked for, or of the last one; refused is one after that alone.
-    ensures ok { K.is_honest keeper.new → IfOk result (λ told. spec.IsSealed asked.now.before (K.vault keeper.old) told (W.contents out.old) (W.contents out.new)) }
+    ensures ok { K.is_honest keeper.new → IfOk result (λ stated. spec.IsSealed asked.now.before (K.vault keeper.old) stated (W.contents out.old) (W.contents out.new)) }
     // Whatever the device does, what is answered is what was printed.
-    ensures printed { IfOk result (λ told. spec.TellsSeal told (W.contents out.old) (W.contents out.new)) }
+    ensures printed { IfOk result (λ stated. spec.PrintsSeal stated (W.contents out.old) (W.contents out.new)) }
     ensures leaves { LeavesSame K.Kept keeper.old keeper.new (reports_device result) }
     ensures reader { result ≢ Err JobFault.Read }
 {
@@ -103,7 +103,7 @@ pub fn tell_seal<K: Keeper, W: Write, E: Write>(
         Ok(seal) => print_seal(alloc, &seal, out),
         Err(Halt::Fault(Fault::Memory)) => Err(JobFault::Memory),
         Err(Halt::Fault(Fault::Device)) => Err(JobFault::Device),
-        Err(Halt::Refused(refusal)) => tell_unreached(alloc, refusal, out, err),
+        Err(Halt::Refused(refusal)) => print_unreached(alloc, refusal, out, err),
     }
 }
 
@@ -123,7 +123,7 @@ fn breach_line(alloc: Global, breach: &Breach) -> Result<String, AllocError>
 
 /// Prints that each setting and each removal keeps the rules.
 fn print_lawful<W: Write>(out: &mut W) -> Result<Outcome, JobFault>
-    ensures ok { IfOk result (λ told. (told ≡ Outcome.Done) × Appends (W.contents out.old) (W.contents out.new) spec.lawful_line) }
+    ensures ok { IfOk result (λ stated. (stated ≡ Outcome.Done) × Appends (W.contents out.old) (W.contents out.new) spec.lawful_line) }
     ensures reader { result ≢ Err JobFault.Read }
     ensures device { result ≢ Err JobFault.Device }
 {
@@ -133,7 +133,7 @@ fn print_lawful<W: Write>(out: &mut W) -> Result<Outcome, JobFault>
 
 /// Prints which entry breaks which rule.
 fn print_breach<W: Write>(alloc: Global, breach: &Breach, out: &mut W) -> Result<Outcome, JobFault>
-    ensures ok { IfOk result (λ told. (told ≡ Outcome.Refused) × Appends (W.contents out.old) (W.contents out.new) (spec.unlawful_line breach.now)) }
+    ensures ok { IfOk result (λ stated. (stated ≡ Outcome.Refused) × Appends (W.contents out.old) (W.contents out.new) (spec.unlawful_line breach.now)) }
     ensures reader { result ≢ Err JobFault.Read }
     ensures device { result ≢ Err JobFault.Device }
 {
@@ -178,15 +178,15 @@ fn say_breach<E: Write>(breach: &Breach, err: &mut E) {
 
 /// Prints `lawful` of a vault of which each setting and each removal keeps the rules; else `unlawful` with the first entry
 /// that breaks one and which, and says on `err` in words what the entry shows.
-pub fn tell_lawful<K: Keeper, W: Write, E: Write>(
+pub fn answer_lawful<K: Keeper, W: Write, E: Write>(
     alloc: Global,
     keeper: &mut K,
     out: &mut W,
     err: &mut E,
 ) -> Result<Outcome, JobFault>
-    ensures ok { K.is_honest keeper.new → IfOk result (λ told. spec.IsJudged (first_breach (K.vault keeper.old)) told (W.contents out.old) (W.contents out.new)) }
+    ensures ok { K.is_honest keeper.new → IfOk result (λ stated. spec.IsJudged (first_breach (K.vault keeper.old)) stated (W.contents out.old) (W.contents out.new)) }
     // Whatever the device does, what is answered is what was printed.
-    ensures printed { IfOk result (λ told. spec.TellsLawful told (W.contents out.old) (W.contents out.new)) }
+    ensures printed { IfOk result (λ stated. spec.PrintsLawful stated (W.contents out.old) (W.contents out.new)) }
     ensures leaves { LeavesSame K.Kept keeper.old keeper.new (reports_device result) }
     ensures reader { result ≢ Err JobFault.Read }
 {

@@ -4,7 +4,7 @@ ghost use Rattle.std.specs.Io.KnownBytes.{Appends};
 ghost use Rattle.vault_base.specs.declared.refusal.Refusal.TheVariants.{Device as DeviceFailed};
 ghost use Rattle.vault_core_model.specs.Step.{Reached};
 ghost use Rattle.vault_files.specs.Lines.{lines, stopped_line as stop_line};
-ghost use Rattle.vaultctl_commands.specs.Told as spec;
+ghost use Rattle.vaultctl_commands.specs.PrintedIntake as spec;
 
 use crate::fault::JobFault;
 use crate::outcome::Outcome;
@@ -32,7 +32,11 @@ fn outcome(report: &IntakeReport) -> Outcome
 }
 
 /// Prints the lines of an intake, and returns what came of it.
-fn tell<W: Write>(alloc: Global, report: &IntakeReport, out: &mut W) -> Result<Outcome, JobFault>
+fn print_report<W: Write>(
+    alloc: Global,
+    report: &IntakeReport,
+    out: &mut W,
+) -> Result<Outcome, JobFault>
     ensures ok { IfOk result (λ outcome. (outcome ≡ spec.intake_outcome report.now.rows.items report.now.stopped) × Appends (W.contents out.old) (W.contents out.new) (lines report.now.rows.items report.now.stopped)) }
     ensures reader { result ≢ Err JobFault.Read }
     ensures device { result ≢ Err JobFault.Device }
@@ -49,7 +53,7 @@ fn tell<W: Write>(alloc: Global, report: &IntakeReport, out: &mut W) -> Result<O
 ///
 /// `Write` comes where the lines can't be written, and `Memory` where there is no room for them; the files
 /// were taken in all the same.
-pub fn take_in_and_tell<K: Keeper, F: Folder, W: Write>(
+pub fn take_in_and_print<K: Keeper, F: Folder, W: Write>(
     alloc: Global,
     keeper: &mut K,
     at: Moment,
@@ -60,27 +64,27 @@ pub fn take_in_and_tell<K: Keeper, F: Folder, W: Write>(
     folder: &mut F,
     out: &mut W,
 ) -> (Result<Outcome, JobFault>, IntakeReport)
-    ensures ok { K.is_honest keeper.new → IfOk result.0 (λ outcome. spec.ToldIntake (F.files folder.old) at who.now bucket.now batch.now list.now (K.vault keeper.old) (K.vault keeper.new) outcome (W.contents out.old) (W.contents out.new)) }
+    ensures ok { K.is_honest keeper.new → IfOk result.0 (λ outcome. spec.IntakePrinted (F.files folder.old) at who.now bucket.now batch.now list.now (K.vault keeper.old) (K.vault keeper.new) outcome (W.contents out.old) (W.contents out.new)) }
     // Whatever the device does, what is answered is what the printed lines say.
-    ensures printed { IfOk result.0 (λ outcome. spec.TellsIntake outcome (W.contents out.old) (W.contents out.new)) }
+    ensures printed { IfOk result.0 (λ outcome. spec.PrintsIntake outcome (W.contents out.old) (W.contents out.new)) }
     // The intake was made whole before its lines were tried.
     ensures err { K.is_honest keeper.new → OnErr result.0 (spec.IsTakenIn (F.files folder.old) at who.now bucket.now batch.now list.now (K.vault keeper.old) (K.vault keeper.new)) }
     ensures reached { K.is_honest keeper.new → Reached (K.vault keeper.old) → Reached (K.vault keeper.new) }
     ensures honest { K.is_honest keeper.new → K.is_honest keeper.old }
     ensures counted { K.count keeper.old ≤ K.count keeper.new }
     ensures counted_there { F.count folder.old ≤ F.count folder.new }
-    // That a device failed is told where it did.
+    // That a device failed is reported where it did.
     ensures steady { spec.SteadyIntake (K.is_honest keeper.new) (F.files folder.old) at who.now bucket.now batch.now list.now (K.vault keeper.old) (K.vault keeper.new) (K.count keeper.old) (K.count keeper.new) (F.count folder.old) (F.count folder.new) result.0 (W.contents out.old) (W.contents out.new) }
     ensures reader { result.0 ≢ Err JobFault.Read }
     ensures device { result.0 ≢ Err JobFault.Device }
 {
     let report = take_in(alloc, keeper, at, who, bucket, batch, list, folder);
-    let told = tell(alloc, &report, out);
-    (told, report)
+    let stated = print_report(alloc, &report, out);
+    (stated, report)
 }
 
 /// Prints `stopped Device`, as for a list that can't be read.
-pub fn tell_unread_list<W: Write>(alloc: Global, out: &mut W) -> Result<Outcome, JobFault>
+pub fn print_unread_list<W: Write>(alloc: Global, out: &mut W) -> Result<Outcome, JobFault>
     ensures ok { IfOk result (λ outcome. (outcome ≡ Outcome.Refused) × Appends (W.contents out.old) (W.contents out.new) (stop_line DeviceFailed)) }
     ensures reader { result ≢ Err JobFault.Read }
     ensures device { result ≢ Err JobFault.Device }

@@ -6,7 +6,7 @@ ghost use Rattle.vaultctl_job.specs.Forms.{app_for, shape_for};
 ghost use Rattle.vaultctl_job.specs.Words as spec;
 
 /// What stands below the words of a subcommand: notes and an example, what its exit status says and how it refuses,
-/// and where more is told of it.
+/// and where more is said of it.
 macro_rules! below {
     ($name:literal, $notes:literal, $status:literal) => {
         concat!(
@@ -28,7 +28,7 @@ use crate::arguments::{Argument, with_arguments};
 use clap::Command;
 use std::alloc::{AllocError, Global};
 
-/// A subcommand, as it is told to clap.
+/// A subcommand, as it is reported to clap.
 #[derive(Clone, Copy)]
 pub(crate) struct Subcommand {
     name: &'static str,

@@ -37,15 +37,15 @@ numbered_back First = refl
 numbered_back Second = refl
 numbered_back Third = refl
 
-number_told : (n : Edition) (trees : Trees) (v : Vault) → AreTreesAs n v trees → map (λ r. column r 2) (trees meta_tree) ≡ number (number_of n) ∷ []
-number_told n trees v is =
+number_stated : (n : Edition) (trees : Trees) (v : Vault) → AreTreesAs n v trees → map (λ r. column r 2) (trees meta_tree) ≡ number (number_of n) ∷ []
+number_stated n trees v is =
     one_permutation (number (number_of n)) _
     (subst (IsPermutation (number (number_of n) ∷ [])) (map-map (λ row. column row 1) (meta_columns_as n) (trees meta_tree)) (IsPermutation-map (λ row. column row 1) _ _ is.spells.meta))
 
 one_edition : (n m : Edition) (trees : Trees) (v w : Vault) → AreTreesAs n v trees → AreTreesAs m w trees → n ≡ m
 one_edition n m trees v w first second =
-    let told = sym (number_told n trees v first) ∙ number_told m trees w second in
-    let same : number_of n ≡ number_of m = cc told in
+    let stated = sym (number_stated n trees v first) ∙ number_stated m trees w second in
+    let same : number_of n ≡ number_of m = cc stated in
     sym (numbered_back n) ∙ ap edition_at same ∙ numbered_back m
 
 module _ (n : Edition) (image : Image) (s : State) (v : Vault) (opens : Opens s) (found : FindsIn image s) (sound : AreSoundAs n s.now v) where

@@ -21,7 +21,7 @@ module _ {V K E : Type 0} (Clean : Type 0) (IsClean : K → Type 0) (Spells : V 
       subst Spells (sym (same old new it.0 it.1)) it.1
   kept_is_spelled (Err e) some same = tt
 
--- ---- of which edition tables are told to be
+-- ---- of which edition tables are reported to be
 
 module _ (n : Edition) (db : Database) where
   sound_as : (v : Vault) → (n ≡ First) ⊎ (n ≡ Second) → AreSoundAs n db v → AreSoundEarlier db v
@@ -34,12 +34,12 @@ module _ (n : Edition) (db : Database) where
   kept_is_earlier Clean IsClean kept (Ok k) earlier is = λ old new. sound_as (kept k) earlier (is old new)
   kept_is_earlier Clean IsClean kept (Err e) earlier is = tt
 
--- where the edition is told by the schema, tables that are sound as those of an earlier one are sound as those of that one
-pub sound_as_told : (n : Edition) (db : Database) (v : Vault) → (db.schema ≡ schema_of First → n ≡ First) → (db.schema ≡ schema_of Second → n ≡ Second) → AreSoundEarlier db v → AreSoundAs n db v
-sound_as_told n db v first second (inl sound) = subst (λ m. AreSoundAs m db v) (sym (first sound.spells.schema)) sound
-sound_as_told n db v first second (inr sound) = subst (λ m. AreSoundAs m db v) (sym (second sound.spells.schema)) sound
+-- where the edition is reported by the schema, tables that are sound as those of an earlier one are sound as those of that one
+pub sound_as_stated : (n : Edition) (db : Database) (v : Vault) → (db.schema ≡ schema_of First → n ≡ First) → (db.schema ≡ schema_of Second → n ≡ Second) → AreSoundEarlier db v → AreSoundAs n db v
+sound_as_stated n db v first second (inl sound) = subst (λ m. AreSoundAs m db v) (sym (first sound.spells.schema)) sound
+sound_as_stated n db v first second (inr sound) = subst (λ m. AreSoundAs m db v) (sym (second sound.spells.schema)) sound
 
--- so none of them is told as damaged
+-- so none of them is reported as damaged
 pub never_damaged : {K C : Type 0} (n : Edition) (db : Database) (Clean : Type 0) (v : Vault) (r : Result K (Refusal × C)) → AreSoundAs n db v
     → IfErr r (λ e. Clean → (t : Table) → e.0 ≡ Damaged t → (w : Vault) → ¬ AreSoundAs n db w) → IfErr r (λ e. Clean → (t : Table) → ¬ (e.0 ≡ Damaged t))
 never_damaged n db Clean v (Ok k) sound is = tt

@@ -29,7 +29,7 @@ use Rattle.vaultctl_machine.specs.declared.unopened.Unopened.{Unopened}
 
 module _ (P : Refusal → Type 0) (x : Unopened) where
   pub reports_as : (r : Refusal) → refusal_of x ≡ r → ReportsFailure x → P r → Reports P x
-  reports_as r is failure holds = record { told = subst P (sym is) holds; failure = failure }
+  reports_as r is failure holds = record { stated = subst P (sym is) holds; failure = failure }
 
   -- one of two
   pub reports_either : (a r : Refusal) → (refusal_of x ≡ a) ⊎ (refusal_of x ≡ r) → ReportsFailure x → P a → P r → Reports P x
@@ -38,11 +38,11 @@ module _ (P : Refusal → Type 0) (x : Unopened) where
 
   -- as another cause, of which more is seen
   pub reports_after : (e : Unopened) → refusal_of x ≡ refusal_of e → (ReportsFailure e → ReportsFailure x) → Reports P e → Reports P x
-  reports_after e same failure reports = reports_as (refusal_of e) same (failure reports.failure) reports.told
+  reports_after e same failure reports = reports_as (refusal_of e) same (failure reports.failure) reports.stated
 
 -- of more refusals
 pub reports_weaker : (P Q : Refusal → Type 0) (x : Unopened) → ((r : Refusal) → P r → Q r) → Reports P x → Reports Q x
-reports_weaker P Q x weaker reports = record { told = weaker (refusal_of x) reports.told; failure = reports.failure }
+reports_weaker P Q x weaker reports = record { stated = weaker (refusal_of x) reports.stated; failure = reports.failure }
 
 -- one connection more, of which it holds, where what is reported is that
 pub closes_as : {C : Type 0} (old new : List (C × Bool)) (conn : C) (P : C → Refusal → Type 0) (x r : Refusal) → x ≡ r → new ≡ old ++ (conn, true) ∷ [] → P conn r → Closes old new (λ c. P c x)

@@ -29,10 +29,10 @@ unmade_of _ = Device
 
 -- another program has it, the disk has no room or failed, or none of these is known; it is reported as this
 abbrev pub cause_of : Error → Refusal → Unopened
-cause_of (SqliteFailure code.DatabaseBusy) told = Held
-cause_of (SqliteFailure code.DiskFull) told = Seen Full told
-cause_of (SqliteFailure code.SystemIoFailure) told = Seen Failed told
-cause_of _ told = Refused told
+cause_of (SqliteFailure code.DatabaseBusy) stated = Held
+cause_of (SqliteFailure code.DiskFull) stated = Seen Full stated
+cause_of (SqliteFailure code.SystemIoFailure) stated = Seen Failed stated
+cause_of _ stated = Refused stated
 
 -- the disk has no room, or reading or writing failed
 abbrev pub is_failure : Cause → Bool

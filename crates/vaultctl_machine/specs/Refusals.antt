@@ -7,7 +7,7 @@ use Rattle.vault_base.specs.declared.refusal.Refusal.TheVariants.{Damaged, Devic
 use Rattle.vault_base.specs.declared.refusal.Table.{Table}
 use Rattle.vault_core_model.specs.Vault.{Vault}
 use Rattle.vault_audit.specs.Health.{IsHealthy}
-use Rattle.vault_audit.specs.Whole.{IsTold}
+use Rattle.vault_audit.specs.Whole.{IsReported}
 use Rattle.vault_audit_model.specs.declared.schema.Edition.TheVariants.{First, Second}
 use Rattle.vault_audit_model.specs.Editions.{newest}
 use Rattle.vault_audit_model.specs.Tables.{no_schema}
@@ -23,11 +23,11 @@ IsUnmade r = r ≢ NameTaken → IsFault r
 
 -- a copying also where a table is damaged
 abbrev pub IsUncopied : Refusal → Type 0
-IsUncopied r = r ≢ NameTaken → IsTold r
+IsUncopied r = r ≢ NameTaken → IsReported r
 
 -- what is reported is a refusal of these, and a failure of the disk is reported as one
-pub record Reports (Told : Refusal → Type 0) (cause : Unopened) : Type 0 where
-  pub told : Told (refusal_of cause)
+pub record Reports (Reported : Refusal → Type 0) (cause : Unopened) : Type 0 where
+  pub stated : Reported (refusal_of cause)
   pub failure : ReportsFailure cause
 
 -- no connection was let go of, or one was, of which this holds

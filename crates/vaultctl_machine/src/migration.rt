@@ -70,7 +70,7 @@ fn copy<O: Alter, S: Alter>(
     Copied { source, outcome }
 }
 
-/// The same of tables of one of the two earlier editions, which their columns tell.
+/// The same of tables of one of the two earlier editions, which their columns say.
 fn copy_earlier<O: Alter, S: Alter>(
     alloc: Global,
     source: Connection<O>,

@@ -8,7 +8,7 @@ ghost use Rattle.sqlite.specs.State.{HasCleanDisk, IsUnchanged, Survives};
 ghost use Rattle.sqlite_wal.specs.Files.{image_at};
 ghost use Rattle.sqlite_wal.specs.Reads.{AreClean};
 ghost use Rattle.vault_audit.specs.Health.{IsHealthy};
-ghost use Rattle.vault_audit.specs.Whole.{IsTold};
+ghost use Rattle.vault_audit.specs.Whole.{IsReported};
 ghost use Rattle.vault_audit_model.specs.Spells.{AreSound};
 ghost use Rattle.vault_audit_model.specs.Tables.{no_schema};
 ghost use Rattle.vault_base.specs.declared.refusal.Table.{Table as AnyTable};
@@ -79,7 +79,7 @@ pub type FileMachine<'a, A, B> = Machine<'a, VaultStore<A>, VaultStore<B>>;
 /// What a failure to open a file is reported as, where a vault should be in it.
 fn unopened(error: Error) -> Refusal
     ensures exact { result ≡ spec.unopened_of error }
-    ensures reported { IsTold result }
+    ensures reported { IsReported result }
 {
     match error {
         Error::SqliteFailure(ErrorCode::OutOfMemory) => Refusal::Memory,
@@ -102,16 +102,16 @@ pub(crate) fn unmade(error: Error) -> Refusal
 }
 
 /// Why the files at a path aren't opened, where the failure is reported as that unless another program has them.
-pub(crate) fn cause(error: Error, told: Refusal) -> Unopened
-    ensures exact { result ≡ spec.cause_of error told }
-    ensures refusal { (refusal_of result ≡ Refusal.Device) ⊎ (refusal_of result ≡ told) }
-    ensures failure { (told ≡ spec.unopened_of error) ⊎ (told ≡ spec.unmade_of error) → ReportsFailure result }
+pub(crate) fn cause(error: Error, stated: Refusal) -> Unopened
+    ensures exact { result ≡ spec.cause_of error stated }
+    ensures refusal { (refusal_of result ≡ Refusal.Device) ⊎ (refusal_of result ≡ stated) }
+    ensures failure { (stated ≡ spec.unopened_of error) ⊎ (stated ≡ spec.unmade_of error) → ReportsFailure result }
 {
     match error {
         Error::SqliteFailure(ErrorCode::DatabaseBusy) => Unopened::Held,
-        Error::SqliteFailure(ErrorCode::DiskFull) => Unopened::Seen(Cause::Full, told),
-        Error::SqliteFailure(ErrorCode::SystemIoFailure) => Unopened::Seen(Cause::Failed, told),
-        _ => Unopened::Refused(told),
+        Error::SqliteFailure(ErrorCode::DiskFull) => Unopened::Seen(Cause::Full, stated),
+        Error::SqliteFailure(ErrorCode::SystemIoFailure) => Unopened::Seen(Cause::Failed, stated),
+        _ => Unopened::Refused(stated),
     }
 }
 
@@ -140,7 +140,7 @@ fn unmakable(error: io::Error) -> Unopened
 
 /// The files at a path where tables may be, or why none can be there.
 pub(crate) fn site_there<'a>(rt: &'a HostRuntime, path: &'a str) -> Result<Site<'a>, Unopened>
-    ensures { IfErr result (Reports IsTold) }
+    ensures { IfErr result (Reports IsReported) }
 {
     match place_at(rt, path) {
         Ok(place) if place.may_hold_tables() => Ok(Site::new(rt, path, place)),
@@ -171,7 +171,7 @@ pub(crate) fn connect_there<S: Start>(
 ) -> Result<Opened<VaultStore<S>>, Unopened>
     ensures opened { IfOk result (λ it. HasCleanDisk (file_state it.conn) → IsOpened it.conn) }
     ensures found { IfOk result (λ it. HasCleanDisk (file_state it.conn) → FindsIn (image_at S.Start) (file_state it.conn)) }
-    ensures reported { IfErr result (Reports IsTold) }
+    ensures reported { IfErr result (Reports IsReported) }
 {
     match connect::connect_there(site, start) {
         Ok(opened) => Ok(opened),
@@ -277,7 +277,7 @@ fn open_in<S: Alter>(
     ensures same { IfOk result (λ k. HasCleanDisk (state S.Store k.conn) → IsUnchanged (state S.Store conn) (state S.Store k.conn)) }
     ensures crash { IfOk result (λ k. Survives (state S.Store conn) (state S.Store k.conn) (λ _. ⊥)) }
     ensures alone { IfOk result (λ k. HasCleanDisk (state S.Store k.conn) → LeavesAlone (state S.Store k.conn) (vault_of S.Store k)) }
-    ensures reported { IfErr result (λ e. IsTold e.0) }
+    ensures reported { IfErr result (λ e. IsReported e.0) }
     ensures healthy { conn.in_transaction ≡ false → IfErr result (λ e. IsHealthy (state S.Store e.1) → e.0 ≢ Refusal.Device) }
     ensures damaged { IfErr result (λ e. HasCleanDisk (state S.Store e.1) → (t : AnyTable) → e.0 ≡ Refusal.Damaged t → (v : Vault) → ¬ AreSound (state S.Store conn).now v) }
     ensures harmless { IfErr result (λ e. Survives (state S.Store conn) (state S.Store e.1) (λ _. ⊥)) }
@@ -298,7 +298,7 @@ fn found_in<S: Start>(
     ensures held { (v : Vault) → IsHeldIn (image_at S.Start) v → IfOk result (λ vault. HasCleanDisk (file_state vault.conn) → vault_of over_files vault ≡ v) }
     ensures opened { IfOk result (λ vault. HasCleanDisk (file_state vault.conn) → IsOpenedFrom (image_at S.Start) (file_state vault.conn)) }
     ensures alone { IfOk result (λ vault. HasCleanDisk (file_state vault.conn) → LeavesAlone (file_state vault.conn) (vault_of over_files vault)) }
-    ensures reported { IfErr result (Reports IsTold) }
+    ensures reported { IfErr result (Reports IsReported) }
     ensures lost { IfErr result (λ e. Closes lost.old.items lost.new.items (λ conn. IsRefusedOver (image_at S.Start) (file_state conn) (refusal_of e))) }
     ensures kept { OnOk result (lost.new ≡ lost.old) }
 {
@@ -367,7 +367,7 @@ fn opened_at<S: Start>(
     ensures held { (v : Vault) → IsHeldIn (image_at S.Start) v → IfOk result (λ vault. HasCleanDisk (file_state vault.conn) → vault_of over_files vault ≡ v) }
     ensures opened { IfOk result (λ vault. HasCleanDisk (file_state vault.conn) → IsOpenedFrom (image_at S.Start) (file_state vault.conn)) }
     ensures alone { IfOk result (λ vault. HasCleanDisk (file_state vault.conn) → LeavesAlone (file_state vault.conn) (vault_of over_files vault)) }
-    ensures reported { IfErr result (Reports IsTold) }
+    ensures reported { IfErr result (Reports IsReported) }
     ensures lost { IfErr result (λ e. LetsGo lost.old.items lost.new.items (λ conn. IsRefusedOver (image_at S.Start) (file_state conn) (refusal_of e))) }
     ensures kept { OnOk result (lost.new ≡ lost.old) }
 {
@@ -455,7 +455,7 @@ impl<'a, A: Start, B: Start> Machine<'a, VaultStore<A>, VaultStore<B>> {
         // A crash leaves that vault after that, and nothing else.
         ensures alone { IfOk result (λ vault. HasCleanDisk (file_state vault.conn) → LeavesAlone (file_state vault.conn) (vault_of over_files vault)) }
         // A failure of the disk that is seen is reported as one.
-        ensures reported { IfErr result (Reports IsTold) }
+        ensures reported { IfErr result (Reports IsReported) }
         // A store that was opened and works isn't reported as a failed device, nor one that holds a sound vault as damaged.
         ensures refused { IfErr result (λ e. LetsGo self.old.refused.items self.new.refused.items (λ conn. IsRefusedOver (image_at A.Start) (file_state conn) (refusal_of e))) }
     {

@@ -1,3 +1,3 @@
 mod DoneLemmas
 mod StatusLemmas
-mod TellingLemmas
+mod PrintingLemmas

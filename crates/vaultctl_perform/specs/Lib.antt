@@ -2,5 +2,5 @@ pub mod Done
 pub mod Named
 pub mod Replay
 pub mod Status
-pub mod Told
+pub mod Printed
 pub mod Values

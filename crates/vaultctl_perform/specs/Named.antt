@@ -8,7 +8,7 @@ use Rattle.vaultctl_commands.specs.Faults.{fault_name, fault_words}
 use Rattle.vaultctl_commands.specs.declared.fault.JobFault.{JobFault}
 use Rattle.vaultctl_commands.specs.declared.outcome.Outcome.{Outcome}
 
--- the line that tells what of a subcommand or of an opening
+-- the line that says what of a subcommand or of an opening
 abbrev pub line : List ℕ → List ℕ → List ℕ
 line deed what = deed ++ codes ": " ++ (what ++ 10 ∷ [])
 

@@ -3,8 +3,8 @@ ghost use Rattle.std.specs.Prelude.{◌≡◌, ◌≢◌, ℕ, List, Option, IsO
 ghost use Rattle.sqlite_wal.specs.Files.{image_at};
 ghost use Rattle.vault_base.specs.declared.refusal.Refusal.{Refusal as AnyRefusal};
 ghost use Rattle.vault_values.specs.Fault.{Gives};
-ghost use Rattle.vaultctl_commands.specs.Printed.{TellsReply};
-ghost use Rattle.vaultctl_commands.specs.Told.{TellsIntake};
+ghost use Rattle.vaultctl_commands.specs.Printed.{PrintsReply};
+ghost use Rattle.vaultctl_commands.specs.PrintedIntake.{PrintsIntake};
 ghost use Rattle.vaultctl_commands.specs.declared.asked.Asked.{Asked as AskedOf};
 ghost use Rattle.vaultctl_commands.specs.declared.asked.AskedIntake.{AskedIntake as IntakeOf};
 ghost use Rattle.vaultctl_machine.specs.Closings.{Carries};
@@ -12,7 +12,7 @@ ghost use Rattle.vaultctl_machine.specs.Given.{with_opened};
 ghost use Rattle.vaultctl_work.specs.Done.{IsIntakeDone, IsStepDone};
 ghost use Rattle.vaultctl_work.specs.Scene.{scene};
 
-use crate::telling::{tell_fault, tell_value};
+use crate::messages::{print_fault, print_value};
 use crate::vaults::in_vault;
 use sqlite::Start;
 use std::io::{self, Write};
@@ -45,7 +45,7 @@ pub fn ask_read<A: Start, B: Start, T: Work, W: Write, E: Write>(
     err: &mut E,
 ) -> u8
     ensures values { (said : Result T AnyRefusal) (r : AnyRefusal) → Gives (λ x. x) asked.now said → said ≡ Err r → (machine.new ≡ machine.old) × (result ≡ 1) }
-    ensures printed { result ≡ 0 → T.tells (Ok Outcome.Done) (W.contents out.old) (W.contents out.new) }
+    ensures printed { result ≡ 0 → T.prints (Ok Outcome.Done) (W.contents out.old) (W.contents out.new) }
     ensures given { result ≡ 0 → machine.new.given ≡ with_opened machine.old.given }
     ensures done { result ≡ 0 → IsOkAnd asked.now (λ work. Carries (image_at A.Start) machine.old.closed.items machine.new.closed.items
         (λ v w. (from : Option (List ℕ)) × (to : Option (List ℕ)) × T.does work (scene v from (W.contents out.old)) (scene w to (W.contents out.new)) (Ok Outcome.Done))) }
@@ -63,10 +63,10 @@ pub fn ask_read<A: Start, B: Start, T: Work, W: Write, E: Write>(
             out,
             err,
         ),
-        Err(LineFault::Memory) => tell_fault(err, call.subcommand, JobFault::Memory),
+        Err(LineFault::Memory) => print_fault(err, call.subcommand, JobFault::Memory),
         Err(LineFault::Refused(refusal)) => {
             let slip = first_slip(alloc, call.job).unwrap_or(None);
-            tell_value(alloc, call.subcommand, *refusal, slip, out, err)
+            print_value(alloc, call.subcommand, *refusal, slip, out, err)
         }
     }
 }
@@ -82,7 +82,7 @@ pub fn ask<A: Start, B: Start, W: Write, E: Write>(
 ) -> u8
     ensures values { (said : Result AskedOf AnyRefusal) (r : AnyRefusal) → Gives (λ x. x) asked said → said ≡ Err r → (machine.new ≡ machine.old) × (result ≡ 1) }
     // Status 0 says that it was done, and that the reply which says so was printed.
-    ensures printed { result ≡ 0 → TellsReply Outcome.Done (W.contents out.old) (W.contents out.new) }
+    ensures printed { result ≡ 0 → PrintsReply Outcome.Done (W.contents out.old) (W.contents out.new) }
     ensures given { result ≡ 0 → machine.new.given ≡ with_opened machine.old.given }
     ensures done { (said : Result AskedOf AnyRefusal) → Gives (λ x. x) asked said → result ≡ 0
         → IsOkAnd said (λ it. Carries (image_at A.Start) machine.old.closed.items machine.new.closed.items (λ v w. IsStepDone it Outcome.Done v w (W.contents out.old) (W.contents out.new))) }
@@ -103,7 +103,7 @@ pub fn take_in<A: Start, B: Start, W: Write, E: Write>(
 ) -> u8
     ensures values { (said : Result IntakeOf AnyRefusal) (r : AnyRefusal) → Gives (λ i. i.asked) asked.entry said → said ≡ Err r → (machine.new ≡ machine.old) × (result ≡ 1) }
     // Status 0 says that each row was taken in, and that the lines which say so were printed.
-    ensures printed { result ≡ 0 → TellsIntake Outcome.Done (W.contents out.old) (W.contents out.new) }
+    ensures printed { result ≡ 0 → PrintsIntake Outcome.Done (W.contents out.old) (W.contents out.new) }
     ensures given { result ≡ 0 → machine.new.given ≡ with_opened machine.old.given }
     ensures done { (said : Result IntakeOf AnyRefusal) → Gives (λ i. i.asked) asked.entry said → result ≡ 0
         → IsOkAnd said (λ it. Carries (image_at A.Start) machine.old.closed.items machine.new.closed.items (λ v w. IsIntakeDone it Outcome.Done v w (W.contents out.old) (W.contents out.new))) }

@@ -9,7 +9,7 @@ ghost use Rattle.vaultctl_machine.specs.Closings.{Closes};
 ghost use Rattle.vaultctl_machine.specs.Given.{with_made};
 ghost use Rattle.vaultctl_perform.specs.Status as spec;
 
-use crate::telling::tell_cause;
+use crate::messages::print_cause;
 use sqlite::Start;
 use std::io::Write;
 use vaultctl_machine::unopened::Unopened;
@@ -38,13 +38,13 @@ fn make<A: Start, B: Start>(
     Ok(())
 }
 
-/// Tells why a vault wasn't made, and answers the status.
-fn tell_made<E: Write>(err: &mut E, made: Result<(), Unopened>) -> u8
+/// Says why a vault wasn't made, and answers the status.
+fn print_made<E: Write>(err: &mut E, made: Result<(), Unopened>) -> u8
     ensures { result ≡ spec.made_status made }
 {
     match made {
         Ok(()) => 0,
-        Err(cause) => tell_cause(err, "init", cause),
+        Err(cause) => print_cause(err, "init", cause),
     }
 }
 
@@ -61,5 +61,5 @@ pub fn init<A: Start, B: Start, E: Write>(
     ensures done { result ≡ 0 → Closes machine.old.closed.items machine.new.closed.items (λ conn. HasCleanDisk (file_state conn) → ∥ StandsFor (file_state conn) opening ∥₁) }
 {
     let made = make(machine, file, start);
-    tell_made(err, made)
+    print_made(err, made)
 }

@@ -9,19 +9,19 @@ ghost use Rattle.vault_base.specs.declared.refusal.Refusal.{Refusal};
 ghost use Rattle.sqlite_wal.specs.Files.{image_at};
 ghost use Rattle.vaultctl_perform.specs.Done.{IsDoneInFiles, IsReplayed, given_by};
 ghost use Rattle.vaultctl_perform.specs.Replay.{AnswersFromNew};
-ghost use Rattle.vaultctl_perform.specs.Told.{IsTold};
+ghost use Rattle.vaultctl_perform.specs.Printed.{IsPrinted};
 ghost use Rattle.vaultctl_perform.specs.Values.{IsValueFault};
 
 mod asking;
 mod init;
+mod messages;
 mod migrate;
 mod replay;
-mod telling;
 mod vaults;
 mod verify;
 
 use crate::asking::Call;
-use crate::telling::{status, tell_fault};
+use crate::messages::{print_fault, status};
 use crate::vaults::in_vault;
 use sqlite::Start;
 use std::alloc::{AllocError, Global};
@@ -96,7 +96,7 @@ pub fn perform<A: Start, B: Start, R: Read, W: Write, E: Write>(
     // A value that isn't allowed is never reported as done, and no file is looked for.
     ensures values { (r : Refusal) → IsValueFault job.now r → (machine.new ≡ machine.old) × (result ≡ 1) }
     // Status 0 says that what the job prints when it is done was printed.
-    ensures printed { result ≡ 0 → IsTold job.now (W.contents out.old) (W.contents out.new) }
+    ensures printed { result ≡ 0 → IsPrinted job.now (W.contents out.old) (W.contents out.new) }
     // It says that one vault was opened, made or copied, as the job asks, and no other.
     ensures given { result ≡ 0 → machine.new.given ≡ given_by job.now machine.old.given }
     // It says that what the job asks was done with the vault that was found in the file, and that the connection which was
@@ -291,10 +291,10 @@ fn print_version<W: Write>(alloc: Global, version: &str, out: &mut W) -> Result<
 }
 
 /// Writes why words are refused, and where they are often meant otherwise, how; the status is 2.
-fn tell_refused<E: Write>(words: &[String], text: &str, err: &mut E) -> u8
+fn print_refused<E: Write>(words: &[String], text: &str, err: &mut E) -> u8
     ensures { result ≡ 2 }
 {
-    // Where even this can't be written, the status tells alone.
+    // Where even this can't be written, the status states alone.
     let _ = write!(err, "{text}");
     if let Some(hint) = hint(words) {
         say(err, hint);
@@ -316,7 +316,7 @@ fn answer_job<A: Start, B: Start, R: Read, W: Write, E: Write>(
     // Words that ask for nothing, and values that aren't such, are never reported as done.
     ensures words { job_for (map string_bytes words.now) ≡ None → result ≢ 0 }
     ensures values { (job : AnyJob) (r : Refusal) → job_for (map string_bytes words.now) ≡ Some job → IsValueFault job r → result ≢ 0 }
-    ensures printed { (job : AnyJob) → job_for (map string_bytes words.now) ≡ Some job → result ≡ 0 → IsTold job (W.contents out.old) (W.contents out.new) }
+    ensures printed { (job : AnyJob) → job_for (map string_bytes words.now) ≡ Some job → result ≡ 0 → IsPrinted job (W.contents out.old) (W.contents out.new) }
     ensures given { (job : AnyJob) → job_for (map string_bytes words.now) ≡ Some job → result ≡ 0 → machine.new.given ≡ given_by job machine.old.given }
     ensures done { (job : AnyJob) → job_for (map string_bytes words.now) ≡ Some job → result ≡ 0
         → IsDoneInFiles (image_at A.Start) job machine.old.closed.items machine.new.closed.items machine.old.copies.items machine.new.copies.items
@@ -324,8 +324,8 @@ fn answer_job<A: Start, B: Start, R: Read, W: Write, E: Write>(
 {
     match job_of(machine.runtime().alloc(), words) {
         Ok(job) => perform(machine, starts, &job, reader, out, err),
-        Err(WordsFault::Refused(text)) => tell_refused(words, text.as_str(), err),
-        Err(WordsFault::Memory) => tell_fault(err, "words", JobFault::Memory),
+        Err(WordsFault::Refused(text)) => print_refused(words, text.as_str(), err),
+        Err(WordsFault::Memory) => print_fault(err, "words", JobFault::Memory),
     }
 }
 
@@ -348,7 +348,7 @@ pub fn answer_words<A: Start, B: Start, R: Read, W: Write, E: Write>(
     // are no job.
     ensures words { job_for (map string_bytes words.now) ≡ None → asks_version (map string_bytes words.now) ≡ false → result ≢ 0 }
     ensures values { (job : AnyJob) (r : Refusal) → job_for (map string_bytes words.now) ≡ Some job → IsValueFault job r → result ≢ 0 }
-    ensures printed { (job : AnyJob) → job_for (map string_bytes words.now) ≡ Some job → result ≡ 0 → IsTold job (W.contents out.old) (W.contents out.new) }
+    ensures printed { (job : AnyJob) → job_for (map string_bytes words.now) ≡ Some job → result ≡ 0 → IsPrinted job (W.contents out.old) (W.contents out.new) }
     ensures given { (job : AnyJob) → job_for (map string_bytes words.now) ≡ Some job → result ≡ 0 → machine.new.given ≡ given_by job machine.old.given }
     ensures done { (job : AnyJob) → job_for (map string_bytes words.now) ≡ Some job → result ≡ 0
         → IsDoneInFiles (image_at A.Start) job machine.old.closed.items machine.new.closed.items machine.old.copies.items machine.new.copies.items

@@ -5,9 +5,9 @@ ghost use Rattle.sqlite_wal.specs.Files.{image_at};
 ghost use Rattle.vaultctl_machine.specs.Closings.{Copies};
 ghost use Rattle.vaultctl_machine.specs.Given.{with_copied};
 ghost use Rattle.vaultctl_machine.specs.Places.{after_a_look};
-ghost use Rattle.vaultctl_perform.specs.Told as spec;
+ghost use Rattle.vaultctl_perform.specs.Printed as spec;
 
-use crate::telling::{status, tell_cause};
+use crate::messages::{print_cause, status};
 use sqlite::Start;
 use std::io::Write;
 use vaultctl_commands::fault::JobFault;
@@ -34,21 +34,21 @@ fn copy<A: Start, B: Start>(
 }
 
 /// Prints that a vault was copied.
-fn tell_done<W: Write>(out: &mut W) -> Result<Outcome, JobFault>
-    ensures { IfOk result (λ told. (told ≡ Outcome.Done) × Appends (W.contents out.old) (W.contents out.new) spec.migrated_line) }
+fn print_done<W: Write>(out: &mut W) -> Result<Outcome, JobFault>
+    ensures { IfOk result (λ stated. (stated ≡ Outcome.Done) × Appends (W.contents out.old) (W.contents out.new) spec.migrated_line) }
 {
     print(out, "migrated\n")?;
     Ok(Outcome::Done)
 }
 
 /// Prints `migrated` of a vault that was copied, or names on `err` why it wasn't.
-fn tell_copied<W: Write, E: Write>(copied: Result<(), Unopened>, out: &mut W, err: &mut E) -> u8
+fn print_copied<W: Write, E: Write>(copied: Result<(), Unopened>, out: &mut W, err: &mut E) -> u8
     ensures migrated { result ≡ 0 → (copied ≡ Ok tt) × Appends (W.contents out.old) (W.contents out.new) spec.migrated_line }
     ensures status { result ≢ 2 }
 {
     match copied {
-        Ok(()) => status(err, "migrate", tell_done(out)),
-        Err(cause) => tell_cause(err, "migrate", cause),
+        Ok(()) => status(err, "migrate", print_done(out)),
+        Err(cause) => print_cause(err, "migrate", cause),
     }
 }
 
@@ -70,5 +70,5 @@ pub fn migrate<A: Start, B: Start, W: Write, E: Write>(
     ensures status { result ≢ 2 }
 {
     let copied = copy(machine, old, new, starts);
-    tell_copied(copied, out, err)
+    print_copied(copied, out, err)
 }

@@ -2,7 +2,7 @@
 ghost use Rattle.std.specs.Prelude.{◌≡◌, ◌≢◌, OnOk};
 ghost use Rattle.vaultctl_perform.specs.Replay.{AnswersFromNew};
 
-use crate::telling::tell_fault;
+use crate::messages::print_fault;
 use std::alloc::Global;
 use std::io::{Read, Write};
 use vault_core_list::list_keeper::ListKeeper;
@@ -37,6 +37,6 @@ pub fn from_new<R: Read, W: Write, E: Write>(
 {
     match answer_all(alloc, reader, out, err) {
         Ok(()) => 0,
-        Err(fault) => tell_fault(err, "replay", fault_of(fault)),
+        Err(fault) => print_fault(err, "replay", fault_of(fault)),
     }
 }

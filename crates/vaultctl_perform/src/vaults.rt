@@ -9,7 +9,7 @@ ghost use Rattle.vaultctl_machine.specs.Files.{IsFoundIn};
 ghost use Rattle.vaultctl_machine.specs.Given.{with_opened};
 ghost use Rattle.vaultctl_work.specs.Scene.{scene};
 
-use crate::telling::{say_device, status, tell_cause};
+use crate::messages::{print_cause, say_device, status};
 use sqlite::Start;
 use std::io::{Read, Write};
 use vault_core_model::keeper::Keeper;
@@ -69,7 +69,7 @@ fn work_watched<K: Keeper, V: Watch + Drop, T: Work, R: Read, W: Write, E: Write
     out: &mut W,
     err: &mut E,
 ) -> (K, Result<Outcome, JobFault>)
-    ensures printed { T.tells result.1 (W.contents out.old) (W.contents out.new) }
+    ensures printed { T.prints result.1 (W.contents out.old) (W.contents out.new) }
     ensures done { K.is_honest result.0 → K.is_honest watched.keeper
         × T.does work.now (scene (K.vault watched.keeper) (R.remaining reader.old) (W.contents out.old))
         (scene (K.vault result.0) (R.remaining reader.new) (W.contents out.new)) result.1 }
@@ -88,7 +88,7 @@ fn with_vault<A: Start, B: Start, T: Work, R: Read, W: Write, E: Write>(
     err: &mut E,
 ) -> Result<Outcome, JobFault>
     requires found { HasCleanDisk (file_state vault.keeper.conn) → IsFoundIn (image_at A.Start) (vault_of over_files vault.keeper) }
-    ensures printed { T.tells result (W.contents out.old) (W.contents out.new) }
+    ensures printed { T.prints result (W.contents out.old) (W.contents out.new) }
     ensures given { machine.new.given ≡ machine.old.given }
     ensures done { Carries (image_at A.Start) machine.old.closed.items machine.new.closed.items
         (λ v w. T.does work.now (scene v (R.remaining reader.old) (W.contents out.old)) (scene w (R.remaining reader.new) (W.contents out.new)) result) }
@@ -109,7 +109,7 @@ pub fn in_vault<A: Start, B: Start, T: Work, R: Read, W: Write, E: Write>(
     out: &mut W,
     err: &mut E,
 ) -> u8
-    ensures printed { result ≡ 0 → T.tells (Ok Outcome.Done) (W.contents out.old) (W.contents out.new) }
+    ensures printed { result ≡ 0 → T.prints (Ok Outcome.Done) (W.contents out.old) (W.contents out.new) }
     // Status 0 says that a vault was opened, no other was made or copied, and of the vault that was found in the file it
     // was done.
     ensures given { result ≡ 0 → machine.new.given ≡ with_opened machine.old.given }
@@ -124,6 +124,6 @@ pub fn in_vault<A: Start, B: Start, T: Work, R: Read, W: Write, E: Write>(
             say_device(err, subcommand, outcome);
             ended
         }
-        Err(cause) => tell_cause(err, "open", cause),
+        Err(cause) => print_cause(err, "open", cause),
     }
 }

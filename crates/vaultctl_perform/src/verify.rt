@@ -8,9 +8,9 @@ ghost use Rattle.vault_store.specs.VaultOf.{vault_of};
 ghost use Rattle.vaultctl_machine.specs.Closings.{Carries};
 ghost use Rattle.vaultctl_machine.specs.Files.{IsFoundIn};
 ghost use Rattle.vaultctl_machine.specs.Given.{with_opened};
-ghost use Rattle.vaultctl_perform.specs.Told as spec;
+ghost use Rattle.vaultctl_perform.specs.Printed as spec;
 
-use crate::telling::{status, tell_cause, tell_words};
+use crate::messages::{print_cause, print_words, status};
 use sqlite::Start;
 use std::alloc::{AllocError, Global};
 use std::io::Write;
@@ -33,8 +33,8 @@ fn damaged_line(alloc: Global, table: Table) -> Result<String, AllocError>
 }
 
 /// Prints that a table isn't sound.
-fn tell_damaged<W: Write>(alloc: Global, table: Table, out: &mut W) -> Result<Outcome, JobFault>
-    ensures { IfOk result (λ told. (told ≡ Outcome.Refused) × Appends (W.contents out.old) (W.contents out.new) (spec.damaged_line table)) }
+fn print_damaged<W: Write>(alloc: Global, table: Table, out: &mut W) -> Result<Outcome, JobFault>
+    ensures { IfOk result (λ stated. (stated ≡ Outcome.Refused) × Appends (W.contents out.old) (W.contents out.new) (spec.damaged_line table)) }
 {
     let Ok(line) = damaged_line(alloc, table) else {
         return Err(JobFault::Memory);
@@ -44,15 +44,15 @@ fn tell_damaged<W: Write>(alloc: Global, table: Table, out: &mut W) -> Result<Ou
 }
 
 /// Prints that a vault is sound.
-fn tell_sound<W: Write>(out: &mut W) -> Result<Outcome, JobFault>
-    ensures { IfOk result (λ told. (told ≡ Outcome.Done) × Appends (W.contents out.old) (W.contents out.new) spec.sound_line) }
+fn print_sound<W: Write>(out: &mut W) -> Result<Outcome, JobFault>
+    ensures { IfOk result (λ stated. (stated ≡ Outcome.Done) × Appends (W.contents out.old) (W.contents out.new) spec.sound_line) }
 {
     print(out, "sound\n")?;
     Ok(Outcome::Done)
 }
 
 /// Prints that a table isn't sound, and says in words on `err` why.
-fn tell_unsound<W: Write, E: Write>(
+fn print_unsound<W: Write, E: Write>(
     alloc: Global,
     table: Table,
     cause: Unopened,
@@ -61,24 +61,24 @@ fn tell_unsound<W: Write, E: Write>(
 ) -> u8
     ensures { result ≡ 1 }
 {
-    let printed = tell_damaged(alloc, table, out);
+    let printed = print_damaged(alloc, table, out);
     let exit = status(err, "verify", printed);
-    tell_words(err, cause);
+    print_words(err, cause);
     exit
 }
 
 /// Prints `damaged` and the table that isn't sound, or names on `err` why else a vault wasn't opened.
-fn tell_refused<W: Write, E: Write>(alloc: Global, cause: Unopened, out: &mut W, err: &mut E) -> u8
+fn print_refused<W: Write, E: Write>(alloc: Global, cause: Unopened, out: &mut W, err: &mut E) -> u8
     ensures { result ≡ 1 }
 {
     match cause.refusal() {
-        Refusal::Damaged(table) => tell_unsound(alloc, table, cause, out, err),
-        _ => tell_cause(err, "open", cause),
+        Refusal::Damaged(table) => print_unsound(alloc, table, cause, out, err),
+        _ => print_cause(err, "open", cause),
     }
 }
 
 /// Prints `sound` of a vault that was opened, `damaged` and the table that isn't, or why else it wasn't opened.
-fn tell_opened<W: Write, E: Write>(
+fn print_opened<W: Write, E: Write>(
     alloc: Global,
     opened: Result<(), Unopened>,
     out: &mut W,
@@ -88,8 +88,8 @@ fn tell_opened<W: Write, E: Write>(
     ensures status { result ≢ 2 }
 {
     match opened {
-        Ok(()) => status(err, "verify", tell_sound(out)),
-        Err(cause) => tell_refused(alloc, cause, out, err),
+        Ok(()) => status(err, "verify", print_sound(out)),
+        Err(cause) => print_refused(alloc, cause, out, err),
     }
 }
 
@@ -132,5 +132,5 @@ pub fn verify<A: Start, B: Start, W: Write, E: Write>(
     ensures status { result ≢ 2 }
 {
     let opened = look(machine, file, start);
-    tell_opened(machine.runtime().alloc(), opened, out, err)
+    print_opened(machine.runtime().alloc(), opened, out, err)
 }

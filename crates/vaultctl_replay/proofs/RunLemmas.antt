@@ -76,10 +76,10 @@ unwritten_begun H v v' n n' w asked u =
 
 -- a line that is refused
 pub refusal_replied : (H : Type 0) (v : Vault) (n : ℕ) (r : Refusal) (text : Result (String Global) AllocError) → IfOk text (λ t. string_bytes t ≡ reply_text (reply.Refused r)) → IfOk text (λ t. Replied H v n (Refused r) (string_bytes t) v n)
-refusal_replied H v n r (Ok t) told = (reply.Refused r ∷ [], (refl, refl, refl), told ∙ lines_of-one (reply.Refused r))
-refusal_replied H v n r (Err e) told = told
+refusal_replied H v n r (Ok t) stated = (reply.Refused r ∷ [], (refl, refl, refl), stated ∙ lines_of-one (reply.Refused r))
+refusal_replied H v n r (Err e) stated = stated
 
--- a step that was made, with what its reply tells of the count of failures
+-- a step that was made, with what its reply says of the count of failures
 module _ (H : Type 0) (v v' : Vault) (n n' : ℕ) (c : Timed) (r : Reply) (made : H → IsStep v c.at c.who c.command r v') (counted : n' ≡ count_after n (is_device_reply r)) where
   answered : Answers H v n (Command c) (r ∷ []) v' n'
   answered = (r, made, refl, counted)
@@ -90,8 +90,8 @@ module _ (H : Type 0) (v v' : Vault) (n n' : ℕ) (c : Timed) (r : Reply) (made 
 
   -- its reply was made
   pub command_replied : (text : Result (String Global) AllocError) → IfOk text (λ t. string_bytes t ≡ reply_text r) → IfOk text (λ t. Replied H v n (Command c) (string_bytes t) v' n')
-  command_replied (Ok t) told = (r ∷ [], answered, told ∙ lines_of-one r)
-  command_replied (Err e) told = told
+  command_replied (Ok t) stated = (r ∷ [], answered, stated ∙ lines_of-one r)
+  command_replied (Err e) stated = stated
 
 -- a run may be joined to one that follows it
 Runs-then : (H : Type 0) (a b c : Vault) (i j k : ℕ) (ls ms : List Line) (x y : List Reply) → Runs H a i ls x b j → Runs H b j ms y c k → Runs H a i (ls ++ ms) (x ++ y) c k
@@ -195,24 +195,24 @@ module _ (H G : Type 0) (back : G → H) (a b c : Vault) (i j k : ℕ) (u v w : 
   answers_some_last E at_end s =
       (asked_in 4_194_305 [] bytes ++ last_of (advance 4_194_305 [] bytes).1, inr (at_end, asked_all bytes), rw (← e) (later_began H G back a b c i j k u v w (asked_in 4_194_305 [] bytes) (last_of part) r s))
 
--- ---- what the replies tell of the count of failures
+-- ---- what the replies say of the count of failures
 
 neither : (b c : Bool) → (b || c) ≡ false → (b ≡ false) × (c ≡ false)
 neither true c e = absurd (cc)
 neither false c e = (refl, e)
 
--- what isn't told leaves the count
-still : (n n' : ℕ) (told : Bool) → n' ≡ count_after n told → (told || false) ≡ false → n' ≡ n
+-- what isn't reported leaves the count
+still : (n n' : ℕ) (stated : Bool) → n' ≡ count_after n stated → (stated || false) ≡ false → n' ≡ n
 still n n' true t e = absurd (cc)
 still n n' false t e = t
 
-told_by : (n n' : ℕ) (r : Reply) (replies : List Reply) → replies ≡ r ∷ [] → n' ≡ count_after n (is_device_reply r) → list_any is_device_reply replies ≡ false → n' ≡ n
-told_by n n' r replies e t none = still n n' (is_device_reply r) t (subst (λ (rs : List Reply). list_any is_device_reply rs ≡ false) e none)
+stated_by : (n n' : ℕ) (r : Reply) (replies : List Reply) → replies ≡ r ∷ [] → n' ≡ count_after n (is_device_reply r) → list_any is_device_reply replies ≡ false → n' ≡ n
+stated_by n n' r replies e t none = still n n' (is_device_reply r) t (subst (λ (rs : List Reply). list_any is_device_reply rs ≡ false) e none)
 
 answer_steady : (H : Type 0) (v v' : Vault) (n n' : ℕ) (asked : Line) (replies : List Reply) → Answers H v n asked replies v' n' → list_any is_device_reply replies ≡ false → n' ≡ n
 answer_steady H v v' n n' Skip replies a none = a.2
 answer_steady H v v' n n' (Refused r) replies a none = a.2
-answer_steady H v v' n n' (Command c) replies a none = told_by n n' a.0 replies a.2 a.3 none
+answer_steady H v v' n n' (Command c) replies a none = stated_by n n' a.0 replies a.2 a.3 none
 
 run_steady : (H : Type 0) (v v' : Vault) (n n' : ℕ) (asked : List Line) (replies : List Reply) → Runs H v n asked replies v' n' → list_any is_device_reply replies ≡ false → n' ≡ n
 run_steady H v v' n n' [] replies r none = r.2

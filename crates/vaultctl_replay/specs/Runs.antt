@@ -62,7 +62,7 @@ AnswersEnded Honest v n w taken v' n' w' = (asked : List Line) × EndedAskFor ta
 abbrev pub AnswersSome : Type 0 → Type 0 → Vault → ℕ → Option (List ℕ) → List ℕ → Vault → ℕ → Option (List ℕ) → Type 0
 AnswersSome Honest AtEnd v n w taken v' n' w' = (asked : List Line) × AskSoFar AtEnd taken asked × Began Honest v n w asked v' n' w'
 
--- The first lines were carried out, and these are their replies, whatever is known of the writer; what is written is their lines, or a beginning of those. Where none of them tells that the device failed, the count of failures is as it was.
+-- The first lines were carried out, and these are their replies, whatever is known of the writer; what is written is their lines, or a beginning of those. Where none of them says that the device failed, the count of failures is as it was.
 abbrev pub Steady : Type 0 → Type 0 → Vault → ℕ → Option (List ℕ) → List ℕ → Vault → ℕ → Option (List ℕ) → Type 0
 Steady Honest AtEnd v n w taken v' n' w' =
     (made : List Line) × (later : List Line) × (replies : List Reply) × AskSoFar AtEnd taken (made ++ later) × Runs Honest v n made replies v' n'

@@ -21,7 +21,7 @@ use vault_http::read_line::{Line, read_line};
 use vault_http::reply_line::reply_line;
 
 /// The line of a reply, which is dropped.
-fn told(alloc: Global, reply: Reply) -> Result<String, AllocError>
+fn stated(alloc: Global, reply: Reply) -> Result<String, AllocError>
     ensures { IfOk result (λ text. string_bytes text ≡ reply_text reply) }
 {
     let line = reply_line(alloc, &reply);
@@ -44,7 +44,7 @@ fn carried_out<K: Keeper, O: Observer>(
     let reply = step(alloc, keeper, timed.at, &timed.who, &timed.command);
     observer.reply(&timed.command, &reply);
     drop(timed);
-    told(alloc, reply)
+    stated(alloc, reply)
 }
 
 /// Carries out what a line asks for. Its reply is a line, or nothing where the line is empty.
@@ -60,7 +60,7 @@ fn reply_to<K: Keeper, O: Observer>(
 {
     match asked {
         Line::Skip => Ok(String::new(alloc)),
-        Line::Refused(refusal) => told(alloc, Reply::Refused(refusal)),
+        Line::Refused(refusal) => stated(alloc, Reply::Refused(refusal)),
         Line::Command(timed) => carried_out(alloc, keeper, observer, timed),
     }
 }

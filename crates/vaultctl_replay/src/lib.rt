@@ -40,7 +40,7 @@ pub fn replay_observed<R: Read, W: Write, K: Keeper, O: Observer>(
     keeper: &mut K,
     observer: &mut O,
 ) -> Result<(), ReplayFault>
-    // What is read is the whole input, and what is written is the replies to its lines. The reply to a command tells
+    // What is read is the whole input, and what is written is the replies to its lines. The reply to a command says
     // that the device failed just where its count of failures rose, or stands at its greatest value.
     ensures ok { OnOk result ((input : List ℕ) × Consumes (R.remaining reader.old) (R.remaining reader.new) input
         × IsAtEnd (R.remaining reader.new)
@@ -53,8 +53,8 @@ pub fn replay_observed<R: Read, W: Write, K: Keeper, O: Observer>(
     ensures read { result ≡ Err ReplayFault.Read → (taken : List ℕ) × Consumes (R.remaining reader.old) (R.remaining reader.new) taken
         × AnswersEnded (K.is_honest keeper.new) (K.vault keeper.old) (K.count keeper.old) (W.contents writer.old) taken (K.vault keeper.new) (K.count keeper.new) (W.contents writer.new) }
     // Whatever comes of the input, of the device and of the writer: there is a reply to each command that was carried
-    // out, which tells that the device failed just where the count of its failures rose, or stands at its greatest
-    // value. What is written is the lines of those replies, or a beginning of them; where none tells that the device
+    // out, which says that the device failed just where the count of its failures rose, or stands at its greatest
+    // value. What is written is the lines of those replies, or a beginning of them; where none says that the device
     // failed, the count is as it was.
     ensures steady { (taken : List ℕ) × Consumes (R.remaining reader.old) (R.remaining reader.new) taken
         × Steady (K.is_honest keeper.new) (IsAtEnd (R.remaining reader.new)) (K.vault keeper.old) (K.count keeper.old) (W.contents writer.old) taken (K.vault keeper.new) (K.count keeper.new) (W.contents writer.new) }
@@ -89,7 +89,7 @@ pub fn replay<R: Read, W: Write, K: Keeper>(
     writer: &mut W,
     keeper: &mut K,
 ) -> Result<(), ReplayFault>
-    // What is read is the whole input, and what is written is the replies to its lines. The reply to a command tells
+    // What is read is the whole input, and what is written is the replies to its lines. The reply to a command says
     // that the device failed just where its count of failures rose, or stands at its greatest value.
     ensures ok { OnOk result ((input : List ℕ) × Consumes (R.remaining reader.old) (R.remaining reader.new) input
         × IsAtEnd (R.remaining reader.new)
@@ -102,8 +102,8 @@ pub fn replay<R: Read, W: Write, K: Keeper>(
     ensures read { result ≡ Err ReplayFault.Read → (taken : List ℕ) × Consumes (R.remaining reader.old) (R.remaining reader.new) taken
         × AnswersEnded (K.is_honest keeper.new) (K.vault keeper.old) (K.count keeper.old) (W.contents writer.old) taken (K.vault keeper.new) (K.count keeper.new) (W.contents writer.new) }
     // Whatever comes of the input, of the device and of the writer: there is a reply to each command that was carried
-    // out, which tells that the device failed just where the count of its failures rose, or stands at its greatest
-    // value. What is written is the lines of those replies, or a beginning of them; where none tells that the device
+    // out, which says that the device failed just where the count of its failures rose, or stands at its greatest
+    // value. What is written is the lines of those replies, or a beginning of them; where none says that the device
     // failed, the count is as it was.
     ensures steady { (taken : List ℕ) × Consumes (R.remaining reader.old) (R.remaining reader.new) taken
         × Steady (K.is_honest keeper.new) (IsAtEnd (R.remaining reader.new)) (K.vault keeper.old) (K.count keeper.old) (W.contents writer.old) taken (K.vault keeper.new) (K.count keeper.new) (W.contents writer.new) }

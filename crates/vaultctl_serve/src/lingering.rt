@@ -7,7 +7,7 @@ use std::time::{Clock, Duration, Instant};
 /// How many reads are made at most: of 16,384 bytes each, they take a gibibyte.
 const READS: u32 = 65_536;
 
-/// Tells the peer that its answer is whole, and throws away what it still sends.
+/// States the peer that its answer is whole, and throws away what it still sends.
 ///
 /// A connection that is closed before all was read from it is reset, and then the client may lose its answer. So
 /// one reads up to the peer's end, but for no more than 5 seconds, half a second in which nothing comes, or a

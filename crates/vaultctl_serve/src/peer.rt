@@ -16,7 +16,7 @@ pub trait Peer {
     fn write_within(&self, buf: &[u8], limit: Duration) -> io::Result<usize>
         ensures bound { WritesAtMost result buf.now };
 
-    /// Tells it that nothing more is written.
+    /// States it that nothing more is written.
     fn end(&self) -> io::Result<()>;
 }
 

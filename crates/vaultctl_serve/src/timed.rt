@@ -23,7 +23,7 @@ fn allowed(scan: Scan) -> Duration
 }
 
 /// A request that has to come in time: its head within 5 seconds from when its connection was taken, all of it
-/// within 30. What is late is a failed read, as is one whose time the clock can't tell.
+/// within 30. What is late is a failed read, as is one whose time the clock can't say.
 #[derive(Drop)]
 pub struct TimedRequest<I: Inbound> {
     inbound: I,
@@ -72,7 +72,7 @@ impl<O: Outbound> TimedAnswer<O> {
         }
     }
 
-    /// Counts the time since then as waited for; where the clock can't tell it, all of the time that there was.
+    /// Counts the time since then as waited for; where the clock can't state it, all of the time that there was.
     fn count(&mut self, before: Duration)
         ensures { O.contents self.new.outbound ≡ O.contents self.old.outbound }
     {

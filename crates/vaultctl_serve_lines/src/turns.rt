@@ -33,7 +33,7 @@ pub enum Turn {
 
 /// Answers a line on its connection.
 ///
-/// The faults are those of `serve_line`; and `Read` comes where the clock can't tell how long one waits for the client.
+/// The faults are those of `serve_line`; and `Read` comes where the clock can't say how long one waits for the client.
 /// Then nothing was carried out.
 fn answer_talker<C: Clock, P: Peer, K: Keeper>(
     clock: &C,

@@ -5,7 +5,7 @@ use Rattle.vault_core_evidence.specs.Breaches.{first_breach}
 use Rattle.vault_core_model.specs.Vault.{Vault}
 use Rattle.vault_files.specs.File.{File}
 use Rattle.vaultctl_commands.specs.Evidence.{IsJudged, IsSealed}
-use Rattle.vaultctl_commands.specs.Told.{ToldIntake}
+use Rattle.vaultctl_commands.specs.PrintedIntake.{IntakePrinted}
 use Rattle.vaultctl_commands.specs.declared.asked.Asked.{Asked}
 use Rattle.vaultctl_commands.specs.declared.asked.AskedIntake.{AskedIntake}
 use Rattle.vaultctl_commands.specs.declared.asked.AskedSeal.{AskedSeal}
@@ -17,31 +17,31 @@ use Rattle.vaultctl_serve.specs.Serving.{Stepped}
 use Rattle.vaultctl_work.specs.Asked.{IsDoneAt}
 use Rattle.vaultctl_work.specs.Scene.{Scene}
 
--- one step by the caller who asks, at the reading that is given or else at one of the clock's, and its reply printed; or, without a reading, that told
+-- one step by the caller who asks, at the reading that is given or else at one of the clock's, and its reply printed; or, without a reading, that reported
 abbrev pub IsStepDone : Asked → Outcome → Vault → Vault → Option (List ℕ) → Option (List ℕ) → Type 0
-IsStepDone asked told v v' before after = IsDoneAt ⊤ asked.at asked v v' told before after
+IsStepDone asked stated v v' before after = IsDoneAt ⊤ asked.at asked v v' stated before after
 
 -- a list's files were taken in at that reading, and its lines printed
 abbrev pub IsTakenInAt : ℕ → AskedIntake → Outcome → Vault → Vault → Option (List ℕ) → Option (List ℕ) → Type 0
-IsTakenInAt at asked told v v' before after =
-    (files : Option (List File)) × (list : List ℕ) × ToldIntake files at asked.who asked.bucket asked.batch list v v' told before after
+IsTakenInAt at asked stated v v' before after =
+    (files : Option (List File)) × (list : List ℕ) × IntakePrinted files at asked.who asked.bucket asked.batch list v v' stated before after
 
 -- at the reading that is given, or else at one of the clock's
 abbrev pub IsTakenInThen : Option ℕ → AskedIntake → Outcome → Vault → Vault → Option (List ℕ) → Option (List ℕ) → Type 0
-IsTakenInThen (Some at) asked told v v' before after = IsTakenInAt at asked told v v' before after
-IsTakenInThen None asked told v v' before after = (at : ℕ) × IsTakenInAt at asked told v v' before after
+IsTakenInThen (Some at) asked stated v v' before after = IsTakenInAt at asked stated v v' before after
+IsTakenInThen None asked stated v v' before after = (at : ℕ) × IsTakenInAt at asked stated v v' before after
 
 -- so it was; or nothing was begun, which is no intake that is done, and the vault is as it was
 abbrev pub IsIntakeDone : AskedIntake → Outcome → Vault → Vault → Option (List ℕ) → Option (List ℕ) → Type 0
-IsIntakeDone asked told v v' before after = IsTakenInThen asked.at asked told v v' before after ⊎ ((told ≡ Refused) × (v' ≡ v))
+IsIntakeDone asked stated v v' before after = IsTakenInThen asked.at asked stated v v' before after ⊎ ((stated ≡ Refused) × (v' ≡ v))
 
 -- the vault is as it was, and the seal that is asked for is printed, or its refusal
 abbrev pub IsSealDone : AskedSeal → Outcome → Vault → Vault → Option (List ℕ) → Option (List ℕ) → Type 0
-IsSealDone asked told v v' before after = (v' ≡ v) × IsSealed asked.before v told before after
+IsSealDone asked stated v v' before after = (v' ≡ v) × IsSealed asked.before v stated before after
 
 -- the vault is as it was, and whether it is lawful is printed
 abbrev pub IsJudgedDone : Outcome → Vault → Vault → Option (List ℕ) → Option (List ℕ) → Type 0
-IsJudgedDone told v v' before after = (v' ≡ v) × IsJudged (first_breach v) told before after
+IsJudgedDone stated v v' before after = (v' ≡ v) × IsJudged (first_breach v) stated before after
 
 -- the whole input was read and carried out, and the replies to its lines are printed
 abbrev pub IsAnswered : Scene → Scene → Type 0

@@ -2,4 +2,4 @@ pub mod Asked
 pub mod Done
 pub mod Outcomes
 pub mod Scene
-pub mod Told
+pub mod Printed

@@ -13,7 +13,7 @@ use Rattle.vaultctl_serve.specs.declared.fault.PortFault.TheVariants as port
 use Rattle.vaultctl_serve_lines.specs.declared.fault.DoorFault.{DoorFault}
 use Rattle.vaultctl_serve_lines.specs.declared.line.Next.{Next}
 
--- a register is written or a fault is told, by its name
+-- a register is written or a fault is reported, by its name
 abbrev pub exported : Result (Unit {0}) ExportFault → Result Outcome JobFault
 exported (Ok t) = Ok Done
 exported (Err export.Write) = Err fault.Write
@@ -26,7 +26,7 @@ replay_fault replay.Read = fault.Read
 replay_fault replay.Write = fault.Write
 replay_fault replay.Memory = fault.Memory
 
--- a script is answered or a fault is told, by its name
+-- a script is answered or a fault is reported, by its name
 abbrev pub replayed : Result (Unit {0}) ReplayFault → Result Outcome JobFault
 replayed (Ok t) = Ok Done
 replayed (Err fault) = Err (replay_fault fault)

@@ -2,7 +2,7 @@
 use Rattle.std.specs.Prelude.{ℕ, List, Option}
 use Rattle.vault_core_model.specs.Vault.{Vault}
 
--- a vault, what is left of an input, and what an output has got; none where the input or the output doesn't tell
+-- a vault, what is left of an input, and what an output has got; none where the input or the output doesn't say
 pub record Scene : Type 0 where
   pub vault : Vault
   pub input : Option (List ℕ)

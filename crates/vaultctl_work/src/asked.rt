@@ -2,10 +2,10 @@
 ghost use Rattle.std.specs.Prelude.{◌≡◌, ◌≢◌, ◌≤◌, ℕ, IfOk, Err, Some, ⊤};
 ghost use Rattle.vault_core_model.specs.Leaves.{RoseOrIsFull};
 ghost use Rattle.vault_core_model.specs.Step.{Reached};
-ghost use Rattle.vaultctl_commands.specs.Printed.{TellsReply};
+ghost use Rattle.vaultctl_commands.specs.Printed.{PrintsReply};
 ghost use Rattle.vaultctl_work.specs.Asked as spec;
 ghost use Rattle.vaultctl_work.specs.Done.{IsStepDone};
-ghost use Rattle.vaultctl_work.specs.Told.{TellsAsked};
+ghost use Rattle.vaultctl_work.specs.Printed.{PrintsAsked};
 
 use crate::saying::say;
 use crate::terminal::terminal;
@@ -17,7 +17,7 @@ use vault_base::moment::Moment;
 use vault_base::refusal::Refusal;
 use vault_core_model::keeper::Keeper;
 use vaultctl_commands::asked::Asked;
-use vaultctl_commands::carrying::{carry_out, tell_refusal};
+use vaultctl_commands::carrying::{carry_out, print_refusal};
 use vaultctl_commands::fault::JobFault;
 use vaultctl_commands::outcome::Outcome;
 use vaultctl_remedies::remedies::remedy;
@@ -68,10 +68,10 @@ fn carry_out_asked<C: Clock, K: Keeper, W: Write, E: Write>(
     err: &mut E,
 ) -> Result<Outcome, JobFault>
     // It is one step, by the caller who asks and at the reading that is given, and what is printed is the reply to it.
-    ensures done { K.is_honest keeper.new → IfOk result (λ told. spec.IsDoneAt (RoseOrIsFull (K.count keeper.old) (K.count keeper.new)) asked.now.at asked.now (K.vault keeper.old) (K.vault keeper.new) told (W.contents out.old) (W.contents out.new)) }
+    ensures done { K.is_honest keeper.new → IfOk result (λ stated. spec.IsDoneAt (RoseOrIsFull (K.count keeper.old) (K.count keeper.new)) asked.now.at asked.now (K.vault keeper.old) (K.vault keeper.new) stated (W.contents out.old) (W.contents out.new)) }
     // Whatever the device does, what is answered is what the printed reply says.
-    ensures printed { IfOk result (λ told. TellsReply told (W.contents out.old) (W.contents out.new)) }
-    // And that the device failed is told just where it did, whatever it does.
+    ensures printed { IfOk result (λ stated. PrintsReply stated (W.contents out.old) (W.contents out.new)) }
+    // And that the device failed is reported just where it did, whatever it does.
     ensures steady { spec.IsSteadyAt (K.is_honest keeper.new) asked.now.at asked.now (K.vault keeper.old) (K.vault keeper.new) (K.count keeper.old) (K.count keeper.new) result (W.contents out.old) (W.contents out.new) }
     ensures reached { K.is_honest keeper.new → Reached (K.vault keeper.old) → Reached (K.vault keeper.new) }
     ensures honest { K.is_honest keeper.new → K.is_honest keeper.old }
@@ -80,7 +80,7 @@ fn carry_out_asked<C: Clock, K: Keeper, W: Write, E: Write>(
     ensures device { result ≢ Err JobFault.Device }
 {
     let Some(at) = reading(clock, asked.at) else {
-        let refused = tell_refusal(alloc, Refusal::ClockOutOfRange, out);
+        let refused = print_refusal(alloc, Refusal::ClockOutOfRange, out);
         say(err, remedy(Refusal::ClockOutOfRange));
         return refused;
     };
@@ -89,11 +89,11 @@ fn carry_out_asked<C: Clock, K: Keeper, W: Write, E: Write>(
 }
 
 impl Work for Asked {
-    ghost tells = { TellsAsked };
+    ghost prints = { PrintsAsked };
 
-    ghost does = { λ asked old new result. IfOk result (λ told. IsStepDone asked told old.vault new.vault old.output new.output) };
+    ghost does = { λ asked old new result. IfOk result (λ stated. IsStepDone asked stated old.vault new.vault old.output new.output) };
 
-    /// On a terminal a run tells how far it has come.
+    /// On a terminal a run says how far it has come.
     fn terminal(&self, rt: &HostRuntime) -> Option<Stderr> {
         terminal(rt)
     }

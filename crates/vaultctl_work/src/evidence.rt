@@ -2,21 +2,21 @@
 //! lawful.
 ghost use Rattle.std.specs.Prelude.{◌≡◌, ⊤, IfOk};
 ghost use Rattle.vaultctl_work.specs.Done.{IsJudgedDone, IsSealDone};
-ghost use Rattle.vaultctl_work.specs.Told.{TellsSealed, TellsJudged};
+ghost use Rattle.vaultctl_work.specs.Printed.{PrintsSealed, PrintsJudged};
 
 use crate::terminal::{terminal, terminal_beside};
 use crate::work::Work;
 use std::io::{Read, Stderr, Write};
 use vault_core_model::keeper::Keeper;
 use vaultctl_commands::asked::{AskedEvents, AskedSeal};
-use vaultctl_commands::evidence::{tell_events, tell_lawful, tell_seal};
+use vaultctl_commands::evidence::{answer_lawful, answer_seal, print_events};
 use vaultctl_commands::fault::JobFault;
 use vaultctl_commands::outcome::Outcome;
-use vaultctl_commands::told_writer::ToldWriter;
+use vaultctl_commands::progress_writer::ProgressWriter;
 use vaultctl_job::job::LawfulJob;
 
 impl Work for AskedEvents {
-    ghost tells = { λ outcome before after. ⊤ };
+    ghost prints = { λ outcome before after. ⊤ };
 
     ghost does = { λ asked old new result. new.vault ≡ old.vault };
 
@@ -24,7 +24,7 @@ impl Work for AskedEvents {
         None
     }
 
-    /// On a terminal it tells how many rows it has written, unless these are shown there.
+    /// On a terminal it says how many rows it has written, unless these are shown there.
     fn carry_out<K: Keeper, R: Read, W: Write, E: Write>(
         &self,
         rt: &HostRuntime,
@@ -33,15 +33,15 @@ impl Work for AskedEvents {
         out: &mut W,
         _err: &mut E,
     ) -> Result<Outcome, JobFault> {
-        let mut told = ToldWriter::new(out, terminal_beside(rt));
-        tell_events(rt.alloc(), keeper, self, &mut told)
+        let mut stated = ProgressWriter::new(out, terminal_beside(rt));
+        print_events(rt.alloc(), keeper, self, &mut stated)
     }
 }
 
 impl Work for AskedSeal {
-    ghost tells = { TellsSealed };
+    ghost prints = { PrintsSealed };
 
-    ghost does = { λ asked old new result. IfOk result (λ told. IsSealDone asked told old.vault new.vault old.output new.output) };
+    ghost does = { λ asked old new result. IfOk result (λ stated. IsSealDone asked stated old.vault new.vault old.output new.output) };
 
     fn terminal(&self, rt: &HostRuntime) -> Option<Stderr> {
         terminal(rt)
@@ -55,14 +55,14 @@ impl Work for AskedSeal {
         out: &mut W,
         err: &mut E,
     ) -> Result<Outcome, JobFault> {
-        tell_seal(rt.alloc(), keeper, self, out, err)
+        answer_seal(rt.alloc(), keeper, self, out, err)
     }
 }
 
 impl Work for LawfulJob {
-    ghost tells = { TellsJudged };
+    ghost prints = { PrintsJudged };
 
-    ghost does = { λ job old new result. IfOk result (λ told. IsJudgedDone told old.vault new.vault old.output new.output) };
+    ghost does = { λ job old new result. IfOk result (λ stated. IsJudgedDone stated old.vault new.vault old.output new.output) };
 
     fn terminal(&self, rt: &HostRuntime) -> Option<Stderr> {
         terminal(rt)
@@ -76,6 +76,6 @@ impl Work for LawfulJob {
         out: &mut W,
         err: &mut E,
     ) -> Result<Outcome, JobFault> {
-        tell_lawful(rt.alloc(), keeper, out, err)
+        answer_lawful(rt.alloc(), keeper, out, err)
     }
 }

@@ -3,9 +3,9 @@ ghost use Rattle.std.specs.Prelude.{◌≡◌, ◌≢◌, IfOk, Err};
 ghost use Rattle.vault_core_model.specs.Step.{Reached};
 ghost use Rattle.vault_values.specs.Fault.{Gives};
 ghost use Rattle.vaultctl_commands.specs.Asked.{intake_of};
-ghost use Rattle.vaultctl_commands.specs.Told.{IsIntakeSteady};
+ghost use Rattle.vaultctl_commands.specs.PrintedIntake.{IsIntakeSteady};
 ghost use Rattle.vaultctl_work.specs.Done.{IsIntakeDone, IsTakenInAt};
-ghost use Rattle.vaultctl_work.specs.Told.{TellsRows, TellsTakenIn};
+ghost use Rattle.vaultctl_work.specs.Printed.{PrintsRows, PrintsTakenIn};
 
 use crate::asked::{reading, say_ahead};
 use crate::saying::say;
@@ -20,13 +20,13 @@ use vault_core_model::keeper::Keeper;
 use vault_files::disk_folder::DiskFolder;
 use vault_files::folder::Folder;
 use vault_files::list_file::{explain_unread_list, read_list};
-use vault_files::progress::ToldFolder;
+use vault_files::progress::ProgressFolder;
 use vault_files::second_look::{TakenList, explain};
 use vault_values::fault::LineFault;
 use vaultctl_commands::asked::{AskedIntake, intake};
-use vaultctl_commands::carrying::tell_refusal;
+use vaultctl_commands::carrying::print_refusal;
 use vaultctl_commands::fault::JobFault;
-use vaultctl_commands::intake::{take_in_and_tell, tell_unread_list};
+use vaultctl_commands::intake::{print_unread_list, take_in_and_print};
 use vaultctl_commands::outcome::Outcome;
 use vaultctl_job::job::IntakeJob;
 use vaultctl_remedies::remedies::remedy;
@@ -48,9 +48,9 @@ fn take_in_at<K: Keeper, W: Write, E: Write>(
     out: &mut W,
     err: &mut E,
 ) -> Result<Outcome, JobFault>
-    ensures printed { IfOk result (λ told. TellsRows told (W.contents out.old) (W.contents out.new)) }
+    ensures printed { IfOk result (λ stated. PrintsRows stated (W.contents out.old) (W.contents out.new)) }
     ensures steady { IsIntakeSteady (K.count keeper.old) (K.count keeper.new) result (W.contents out.old) (W.contents out.new) }
-    ensures done { K.is_honest keeper.new → IfOk result (λ told. IsTakenInAt at asked.now told (K.vault keeper.old) (K.vault keeper.new) (W.contents out.old) (W.contents out.new)) }
+    ensures done { K.is_honest keeper.new → IfOk result (λ stated. IsTakenInAt at asked.now stated (K.vault keeper.old) (K.vault keeper.new) (W.contents out.old) (W.contents out.new)) }
     ensures reached { K.is_honest keeper.new → Reached (K.vault keeper.old) → Reached (K.vault keeper.new) }
     ensures honest { K.is_honest keeper.new → K.is_honest keeper.old }
     ensures reader { result ≢ Err JobFault.Read }
@@ -58,8 +58,8 @@ fn take_in_at<K: Keeper, W: Write, E: Write>(
 {
     let alloc = rt.alloc();
     let Delivery { list, folder: path } = delivery;
-    let mut folder = ToldFolder::new(DiskFolder::new(alloc, rt, path), terminal(rt));
-    let (told, report) = take_in_and_tell(
+    let mut folder = ProgressFolder::new(DiskFolder::new(alloc, rt, path), terminal(rt));
+    let (stated, report) = take_in_and_print(
         alloc,
         keeper,
         at,
@@ -79,7 +79,7 @@ fn take_in_at<K: Keeper, W: Write, E: Write>(
     };
     explain(&taken, &report, folder.faults() != 0, err);
     drop(report);
-    told
+    stated
 }
 
 /// Takes in a list whose bytes were read, at the reading that is given or else at the clock's.
@@ -92,17 +92,17 @@ fn take_in_read<K: Keeper, W: Write, E: Write>(
     err: &mut E,
 ) -> Result<Outcome, JobFault>
     // Done and refused are answered only behind the lines that say so.
-    ensures printed { IfOk result (λ told. TellsRows told (W.contents out.old) (W.contents out.new)) }
-    // That the vault's device failed is told where it did.
+    ensures printed { IfOk result (λ stated. PrintsRows stated (W.contents out.old) (W.contents out.new)) }
+    // That the vault's device failed is reported where it did.
     ensures steady { IsIntakeSteady (K.count keeper.old) (K.count keeper.new) result (W.contents out.old) (W.contents out.new) }
-    ensures done { K.is_honest keeper.new → IfOk result (λ told. IsIntakeDone asked.now told (K.vault keeper.old) (K.vault keeper.new) (W.contents out.old) (W.contents out.new)) }
+    ensures done { K.is_honest keeper.new → IfOk result (λ stated. IsIntakeDone asked.now stated (K.vault keeper.old) (K.vault keeper.new) (W.contents out.old) (W.contents out.new)) }
     ensures reached { K.is_honest keeper.new → Reached (K.vault keeper.old) → Reached (K.vault keeper.new) }
     ensures honest { K.is_honest keeper.new → K.is_honest keeper.old }
     ensures reader { result ≢ Err JobFault.Read }
     ensures device { result ≢ Err JobFault.Device }
 {
     let Some(at) = reading(rt, asked.at) else {
-        let refused = tell_refusal(rt.alloc(), Refusal::ClockOutOfRange, out);
+        let refused = print_refusal(rt.alloc(), Refusal::ClockOutOfRange, out);
         say(err, remedy(Refusal::ClockOutOfRange));
         return refused;
     };
@@ -110,20 +110,20 @@ fn take_in_read<K: Keeper, W: Write, E: Write>(
 }
 
 /// Says that a list couldn't be read: on `out` by the line of a failed device, and on `err` why.
-fn tell_unread<W: Write, E: Write>(
+fn print_unread<W: Write, E: Write>(
     rt: &HostRuntime,
     job: &IntakeJob,
     out: &mut W,
     err: &mut E,
 ) -> Result<Outcome, JobFault>
-    ensures printed { IfOk result (λ told. TellsRows told (W.contents out.old) (W.contents out.new)) }
-    ensures refused { IfOk result (λ told. told ≡ Outcome.Refused) }
+    ensures printed { IfOk result (λ stated. PrintsRows stated (W.contents out.old) (W.contents out.new)) }
+    ensures refused { IfOk result (λ stated. stated ≡ Outcome.Refused) }
     ensures reader { result ≢ Err JobFault.Read }
     ensures device { result ≢ Err JobFault.Device }
 {
-    let told = tell_unread_list(rt.alloc(), out);
+    let stated = print_unread_list(rt.alloc(), out);
     explain_unread_list(rt, job.list.as_str(), job.folder.as_str(), err);
-    told
+    stated
 }
 
 /// Takes in the list of that file.
@@ -135,9 +135,9 @@ fn take_in_list<K: Keeper, W: Write, E: Write>(
     out: &mut W,
     err: &mut E,
 ) -> Result<Outcome, JobFault>
-    ensures printed { IfOk result (λ told. TellsRows told (W.contents out.old) (W.contents out.new)) }
+    ensures printed { IfOk result (λ stated. PrintsRows stated (W.contents out.old) (W.contents out.new)) }
     ensures steady { IsIntakeSteady (K.count keeper.old) (K.count keeper.new) result (W.contents out.old) (W.contents out.new) }
-    ensures done { K.is_honest keeper.new → IfOk result (λ told. IsIntakeDone asked.now told (K.vault keeper.old) (K.vault keeper.new) (W.contents out.old) (W.contents out.new)) }
+    ensures done { K.is_honest keeper.new → IfOk result (λ stated. IsIntakeDone asked.now stated (K.vault keeper.old) (K.vault keeper.new) (W.contents out.old) (W.contents out.new)) }
     ensures reached { K.is_honest keeper.new → Reached (K.vault keeper.old) → Reached (K.vault keeper.new) }
     ensures honest { K.is_honest keeper.new → K.is_honest keeper.old }
     ensures reader { result ≢ Err JobFault.Read }
@@ -152,7 +152,7 @@ fn take_in_list<K: Keeper, W: Write, E: Write>(
             take_in_read(rt, keeper, asked, delivery, out, err)
         }
         Err(Fault::Memory) => Err(JobFault::Memory),
-        Err(Fault::Device) => tell_unread(rt, job, out, err),
+        Err(Fault::Device) => print_unread(rt, job, out, err),
     }
 }
 
@@ -164,9 +164,9 @@ pub struct Intake<'a> {
 }
 
 impl Work for Intake<'_> {
-    ghost tells = { TellsTakenIn };
+    ghost prints = { PrintsTakenIn };
 
-    ghost does = { λ intake old new result. IfOk result (λ told. IsIntakeDone intake.asked told old.vault new.vault old.output new.output) };
+    ghost does = { λ intake old new result. IfOk result (λ stated. IsIntakeDone intake.asked stated old.vault new.vault old.output new.output) };
 
     fn terminal(&self, _rt: &HostRuntime) -> Option<Stderr> {
         None

@@ -13,7 +13,7 @@ use vault_files::ExportFault;
 use vault_files::register::export_register;
 use vaultctl_commands::fault::JobFault;
 use vaultctl_commands::outcome::Outcome;
-use vaultctl_commands::told_writer::ToldWriter;
+use vaultctl_commands::progress_writer::ProgressWriter;
 use vaultctl_job::job::{RegisterJob, ReplayJob, ServeJob};
 use vaultctl_remedies::explaining::Explainer;
 use vaultctl_replay::{ReplayFault, replay_observed};
@@ -21,7 +21,7 @@ use vaultctl_serve::{PortFault, serve};
 use vaultctl_serve_lines::line::Next;
 use vaultctl_serve_lines::{DoorFault, LinePlace, Places, serve_with_lines};
 
-/// What a fault of a script is told as.
+/// What a fault of a script is reported as.
 pub fn fault_of(fault: ReplayFault) -> JobFault
     ensures { result ≡ spec.replay_fault fault }
 {
@@ -45,7 +45,7 @@ fn done_or_fault(written: Result<(), ExportFault>) -> Result<Outcome, JobFault>
 
 /// The register of a vault's removals.
 impl Work for RegisterJob {
-    ghost tells = { λ outcome before after. ⊤ };
+    ghost prints = { λ outcome before after. ⊤ };
 
     ghost does = { λ job old new result. new.vault ≡ old.vault };
 
@@ -53,7 +53,7 @@ impl Work for RegisterJob {
         None
     }
 
-    /// On a terminal it tells how many rows it has written, unless these are shown there.
+    /// On a terminal it says how many rows it has written, unless these are shown there.
     fn carry_out<K: Keeper, R: Read, W: Write, E: Write>(
         &self,
         rt: &HostRuntime,
@@ -62,8 +62,8 @@ impl Work for RegisterJob {
         out: &mut W,
         _err: &mut E,
     ) -> Result<Outcome, JobFault> {
-        let mut told = ToldWriter::new(out, terminal_beside(rt));
-        done_or_fault(export_register(rt.alloc(), keeper, &mut told))
+        let mut stated = ProgressWriter::new(out, terminal_beside(rt));
+        done_or_fault(export_register(rt.alloc(), keeper, &mut stated))
     }
 }
 
@@ -78,7 +78,7 @@ fn replayed(answered: Result<(), ReplayFault>) -> Result<Outcome, JobFault>
 
 /// The replies to a script.
 impl Work for ReplayJob {
-    ghost tells = { λ outcome before after. ⊤ };
+    ghost prints = { λ outcome before after. ⊤ };
 
     ghost does = { λ job old new result. OnOk result (IsAnswered old new) };
 
@@ -175,7 +175,7 @@ fn serve_both<K: Keeper, E: Write>(
 
 /// The answers to requests at a port of 127.0.0.1, and to lines at a second door where one is asked for.
 impl Work for ServeJob {
-    ghost tells = { λ outcome before after. ⊤ };
+    ghost prints = { λ outcome before after. ⊤ };
 
     ghost does = { λ job old new result. IsServed job old.vault new.vault };
 
@@ -183,7 +183,7 @@ impl Work for ServeJob {
         None
     }
 
-    /// It is told once it listens.
+    /// It is reported once it listens.
     fn carry_out<K: Keeper, R: Read, W: Write, E: Write>(
         &self,
         rt: &HostRuntime,

@@ -8,12 +8,12 @@ use std::io::{Read, Stderr, Write};
 use vault_core_model::keeper::Keeper;
 use vaultctl_commands::fault::JobFault;
 use vaultctl_commands::outcome::Outcome;
-use vaultctl_commands::told_keeper::ToldKeeper;
+use vaultctl_commands::progress_keeper::ProgressKeeper;
 
 /// What a job does with a vault.
 pub trait Work {
     /// What it has reported of what came of it.
-    ghost tells: { AnyResult AnyOutcome AnyFault → Option (List ℕ) → Option (List ℕ) → Type 0 };
+    ghost prints: { AnyResult AnyOutcome AnyFault → Option (List ℕ) → Option (List ℕ) → Type 0 };
 
     /// What it did: the job, the vault with what is left of the input and what was printed, the same after it, and what came
     /// of it. It is said where the device has returned what was written.
@@ -33,7 +33,7 @@ pub trait Work {
         out: &mut W,
         err: &mut E,
     ) -> Result<Outcome, JobFault>
-        ensures printed { tells result (W.contents out.old) (W.contents out.new) }
+        ensures printed { prints result (W.contents out.old) (W.contents out.new) }
         ensures done { K.is_honest keeper.new → K.is_honest keeper.old
             × does self.now (scene (K.vault keeper.old) (R.remaining reader.old) (W.contents out.old))
             (scene (K.vault keeper.new) (R.remaining reader.new) (W.contents out.new)) result };
@@ -50,12 +50,12 @@ pub fn work_with<K: Keeper, T: Work, R: Read, W: Write, E: Write>(
     out: &mut W,
     err: &mut E,
 ) -> (K, Result<Outcome, JobFault>)
-    ensures printed { T.tells result.1 (W.contents out.old) (W.contents out.new) }
+    ensures printed { T.prints result.1 (W.contents out.old) (W.contents out.new) }
     ensures done { K.is_honest result.0 → K.is_honest keeper
         × T.does work.now (scene (K.vault keeper) (R.remaining reader.old) (W.contents out.old))
         (scene (K.vault result.0) (R.remaining reader.new) (W.contents out.new)) result.1 }
 {
-    let mut told = ToldKeeper::new(keeper, work.terminal(rt));
-    let outcome = work.carry_out(rt, &mut told, reader, out, err);
-    (told.into_keeper(), outcome)
+    let mut stated = ProgressKeeper::new(keeper, work.terminal(rt));
+    let outcome = work.carry_out(rt, &mut stated, reader, out, err);
+    (stated.into_keeper(), outcome)
 }

@@ -6,9 +6,9 @@ ghost use Rattle.vault_base.specs.declared.refusal.Table.TheVariants as table;
 ghost use Rattle.vault_core_model.specs.Vault.{Vault};
 ghost use Rattle.vault_audit_model.specs.Spells.{AreSoundAs};
 ghost use Rattle.vault_audit_model.specs.Tables.{schema_of};
-ghost use Rattle.vault_audit_schema.specs.Places.{BeginTo, IsToldIn};
+ghost use Rattle.vault_audit_schema.specs.Places.{BeginTo, IsReportedIn};
 ghost use Rattle.vault_audit_records.specs.Meta.{IsMetaOf};
-ghost use Rattle.vault_audit.specs.InOrder.{AreRowsRight, ToldInOrder};
+ghost use Rattle.vault_audit.specs.InOrder.{AreRowsRight, ReportedInOrder};
 ghost use Rattle.vault_audit_walk.specs.Health.{IsHealthy, IsMemory, OnlyLooks};
 
 use crate::first_pass::entries::check_entries;
@@ -43,7 +43,7 @@ pub fn is_at(difference: Option<Table>, table: Table) -> bool
     difference == Some(table)
 }
 
-/// Whether the rows of a table tell records in their limits, each by itself, where this is the row of `meta`.
+/// Whether the rows of a table state records in their limits, each by itself, where this is the row of `meta`.
 fn check_rows_of<S: Alter>(
     conn: &mut Connection<S>,
     edition: Edition,
@@ -84,11 +84,11 @@ pub fn look_at_tables<S: Alter>(
     difference: Option<Table>,
     meta: &MetaRow,
 ) -> Result<Option<Table>, Error>
-    requires difference { HasCleanDisk (state S.Store conn.old) → MatchOption difference ((state S.Store conn.old).now.schema ≡ schema_of edition) (IsToldIn edition (state S.Store conn.old).now.schema) }
+    requires difference { HasCleanDisk (state S.Store conn.old) → MatchOption difference ((state S.Store conn.old).now.schema ≡ schema_of edition) (IsReportedIn edition (state S.Store conn.old).now.schema) }
     requires behind { difference ≢ Some table.Meta }
     requires meta { HasCleanDisk (state S.Store conn.old) → IsMetaOf edition (state S.Store conn.old).now (Some meta.now) }
     requires open { HasCleanDisk (state S.Store conn.old) → IsTrue (state S.Store conn.old).is_open }
-    ensures reported { HasCleanDisk (state S.Store conn.new) → IfOk result (ToldInOrder edition (state S.Store conn.new).now) }
+    ensures reported { HasCleanDisk (state S.Store conn.new) → IfOk result (ReportedInOrder edition (state S.Store conn.new).now) }
     ensures look { OnlyLooks S.Store conn.old conn.new result }
     ensures err { IsHealthy (state S.Store conn.new) → IfErr result IsMemory }
 {

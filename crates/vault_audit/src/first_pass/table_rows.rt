@@ -29,7 +29,7 @@ pub fn check_departments<S: Alter>(
 ) -> Result<bool, Error>
     requires { HasCleanDisk (state S.Store conn.old) → BeginTo edition (state S.Store conn.old).now.schema.tables table.Departments }
     ensures reported { HasCleanDisk (state S.Store conn.new) → IfOk result (AreRecords department_row IsDepartmentRow (map (department_columns_as edition) ((state S.Store conn.new).now.trees departments_tree))) }
-    ensures damaged { HasCleanDisk (state S.Store conn.new) → IfOk result (λ told. told ≡ false → (v : Vault) → ¬ AreSoundAs edition (state S.Store conn.new).now v) }
+    ensures damaged { HasCleanDisk (state S.Store conn.new) → IfOk result (λ stated. stated ≡ false → (v : Vault) → ¬ AreSoundAs edition (state S.Store conn.new).now v) }
     ensures look { OnlyLooks S.Store conn.old conn.new result }
     ensures err { IsHealthy (state S.Store conn.new) → IfErr result IsMemory }
 {
@@ -40,7 +40,7 @@ pub fn check_departments<S: Alter>(
 pub fn check_callers<S: Alter>(conn: &mut Connection<S>, edition: Edition) -> Result<bool, Error>
     requires { HasCleanDisk (state S.Store conn.old) → BeginTo edition (state S.Store conn.old).now.schema.tables table.Callers }
     ensures reported { HasCleanDisk (state S.Store conn.new) → IfOk result (AreRecords caller_row IsCaller (map caller_columns ((state S.Store conn.new).now.trees callers_tree))) }
-    ensures damaged { HasCleanDisk (state S.Store conn.new) → IfOk result (λ told. told ≡ false → (v : Vault) → ¬ AreSoundAs edition (state S.Store conn.new).now v) }
+    ensures damaged { HasCleanDisk (state S.Store conn.new) → IfOk result (λ stated. stated ≡ false → (v : Vault) → ¬ AreSoundAs edition (state S.Store conn.new).now v) }
     ensures look { OnlyLooks S.Store conn.old conn.new result }
     ensures err { IsHealthy (state S.Store conn.new) → IfErr result IsMemory }
 {
@@ -55,7 +55,7 @@ pub fn check_callers<S: Alter>(conn: &mut Connection<S>, edition: Edition) -> Re
 pub fn check_buckets<S: Alter>(conn: &mut Connection<S>, edition: Edition) -> Result<bool, Error>
     requires { HasCleanDisk (state S.Store conn.old) → BeginTo edition (state S.Store conn.old).now.schema.tables table.Buckets }
     ensures reported { HasCleanDisk (state S.Store conn.new) → IfOk result (AreRecords bucket_row IsBucketRow (map bucket_columns ((state S.Store conn.new).now.trees buckets_tree))) }
-    ensures damaged { HasCleanDisk (state S.Store conn.new) → IfOk result (λ told. told ≡ false → (v : Vault) → ¬ AreSoundAs edition (state S.Store conn.new).now v) }
+    ensures damaged { HasCleanDisk (state S.Store conn.new) → IfOk result (λ stated. stated ≡ false → (v : Vault) → ¬ AreSoundAs edition (state S.Store conn.new).now v) }
     ensures look { OnlyLooks S.Store conn.old conn.new result }
     ensures err { IsHealthy (state S.Store conn.new) → IfErr result IsMemory }
 {
@@ -84,7 +84,7 @@ fn rules_text(edition: Edition) -> &'static str
 pub fn check_rules<S: Alter>(conn: &mut Connection<S>, edition: Edition) -> Result<bool, Error>
     requires { HasCleanDisk (state S.Store conn.old) → BeginTo edition (state S.Store conn.old).now.schema.tables table.Rules }
     ensures reported { HasCleanDisk (state S.Store conn.new) → IfOk result (AreRecords rule_row IsRuleRow (map (rule_columns_as edition) ((state S.Store conn.new).now.trees rules_tree))) }
-    ensures damaged { HasCleanDisk (state S.Store conn.new) → IfOk result (λ told. told ≡ false → (v : Vault) → ¬ AreSoundAs edition (state S.Store conn.new).now v) }
+    ensures damaged { HasCleanDisk (state S.Store conn.new) → IfOk result (λ stated. stated ≡ false → (v : Vault) → ¬ AreSoundAs edition (state S.Store conn.new).now v) }
     ensures look { OnlyLooks S.Store conn.old conn.new result }
     ensures err { IsHealthy (state S.Store conn.new) → IfErr result IsMemory }
 {
@@ -95,7 +95,7 @@ pub fn check_rules<S: Alter>(conn: &mut Connection<S>, edition: Edition) -> Resu
 pub fn check_contents<S: Alter>(conn: &mut Connection<S>, edition: Edition) -> Result<bool, Error>
     requires { HasCleanDisk (state S.Store conn.old) → BeginTo edition (state S.Store conn.old).now.schema.tables table.Contents }
     ensures reported { HasCleanDisk (state S.Store conn.new) → IfOk result (AreRecords content_row IsContentRow (map content_columns ((state S.Store conn.new).now.trees contents_tree))) }
-    ensures damaged { HasCleanDisk (state S.Store conn.new) → IfOk result (λ told. told ≡ false → (v : Vault) → ¬ AreSoundAs edition (state S.Store conn.new).now v) }
+    ensures damaged { HasCleanDisk (state S.Store conn.new) → IfOk result (λ stated. stated ≡ false → (v : Vault) → ¬ AreSoundAs edition (state S.Store conn.new).now v) }
     ensures look { OnlyLooks S.Store conn.old conn.new result }
     ensures err { IsHealthy (state S.Store conn.new) → IfErr result IsMemory }
 {
@@ -106,7 +106,7 @@ pub fn check_contents<S: Alter>(conn: &mut Connection<S>, edition: Edition) -> R
 pub fn check_settings<S: Alter>(conn: &mut Connection<S>, edition: Edition) -> Result<bool, Error>
     requires { HasCleanDisk (state S.Store conn.old) → BeginTo edition (state S.Store conn.old).now.schema.tables table.Settings }
     ensures reported { HasCleanDisk (state S.Store conn.new) → IfOk result (AreRecords setting_row IsSettingRow (map setting_columns ((state S.Store conn.new).now.trees settings_tree))) }
-    ensures damaged { HasCleanDisk (state S.Store conn.new) → IfOk result (λ told. told ≡ false → (v : Vault) → ¬ AreSoundAs edition (state S.Store conn.new).now v) }
+    ensures damaged { HasCleanDisk (state S.Store conn.new) → IfOk result (λ stated. stated ≡ false → (v : Vault) → ¬ AreSoundAs edition (state S.Store conn.new).now v) }
     ensures look { OnlyLooks S.Store conn.old conn.new result }
     ensures err { IsHealthy (state S.Store conn.new) → IfErr result IsMemory }
 {
@@ -121,7 +121,7 @@ pub fn check_settings<S: Alter>(conn: &mut Connection<S>, edition: Edition) -> R
 pub fn check_intake<S: Alter>(conn: &mut Connection<S>, edition: Edition) -> Result<bool, Error>
     requires { HasCleanDisk (state S.Store conn.old) → BeginTo edition (state S.Store conn.old).now.schema.tables table.Intake }
     ensures reported { HasCleanDisk (state S.Store conn.new) → IfOk result (AreRecords note_row IsNote (map note_columns ((state S.Store conn.new).now.trees intake_tree))) }
-    ensures damaged { HasCleanDisk (state S.Store conn.new) → IfOk result (λ told. told ≡ false → (v : Vault) → ¬ AreSoundAs edition (state S.Store conn.new).now v) }
+    ensures damaged { HasCleanDisk (state S.Store conn.new) → IfOk result (λ stated. stated ≡ false → (v : Vault) → ¬ AreSoundAs edition (state S.Store conn.new).now v) }
     ensures look { OnlyLooks S.Store conn.old conn.new result }
     ensures err { IsHealthy (state S.Store conn.new) → IfErr result IsMemory }
 {
@@ -136,7 +136,7 @@ pub fn check_intake<S: Alter>(conn: &mut Connection<S>, edition: Edition) -> Res
 pub fn check_heads<S: Alter>(conn: &mut Connection<S>, edition: Edition) -> Result<bool, Error>
     requires { HasCleanDisk (state S.Store conn.old) → BeginTo edition (state S.Store conn.old).now.schema.tables table.Heads }
     ensures reported { HasCleanDisk (state S.Store conn.new) → IfOk result (AreRecords head_row IsHeadRow (map head_columns ((state S.Store conn.new).now.trees heads_tree))) }
-    ensures damaged { HasCleanDisk (state S.Store conn.new) → IfOk result (λ told. told ≡ false → (v : Vault) → ¬ AreSoundAs edition (state S.Store conn.new).now v) }
+    ensures damaged { HasCleanDisk (state S.Store conn.new) → IfOk result (λ stated. stated ≡ false → (v : Vault) → ¬ AreSoundAs edition (state S.Store conn.new).now v) }
     ensures look { OnlyLooks S.Store conn.old conn.new result }
     ensures err { IsHealthy (state S.Store conn.new) → IfErr result IsMemory }
 {
@@ -152,7 +152,7 @@ pub fn check_tenures<S: Alter>(conn: &mut Connection<S>, edition: Edition) -> Re
     requires begin { HasCleanDisk (state S.Store conn.old) → BeginTo edition (state S.Store conn.old).now.schema.tables table.Tenures }
     requires open { HasCleanDisk (state S.Store conn.old) → IsTrue (state S.Store conn.old).is_open }
     ensures reported { HasCleanDisk (state S.Store conn.new) → IfOk result (AreRecords tenure_row IsTenureRow (tenure_rows_in edition (state S.Store conn.new).now)) }
-    ensures damaged { HasCleanDisk (state S.Store conn.new) → IfOk result (λ told. told ≡ false → (v : Vault) → ¬ AreSoundAs edition (state S.Store conn.new).now v) }
+    ensures damaged { HasCleanDisk (state S.Store conn.new) → IfOk result (λ stated. stated ≡ false → (v : Vault) → ¬ AreSoundAs edition (state S.Store conn.new).now v) }
     ensures look { OnlyLooks S.Store conn.old conn.new result }
     ensures err { IsHealthy (state S.Store conn.new) → IfErr result IsMemory }
 {

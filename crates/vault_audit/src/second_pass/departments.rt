@@ -2,7 +2,7 @@
 ghost use Rattle.std.specs.Prelude.{IfOk, IfErr};
 ghost use Rattle.sqlite.specs.State.{HasCleanDisk};
 ghost use Rattle.sqlite.specs.Held.{state};
-ghost use Rattle.vault_audit.specs.Looks.{ToldOf, DepartmentsFound};
+ghost use Rattle.vault_audit.specs.Looks.{ReportedOf, DepartmentsFound};
 ghost use Rattle.vault_audit_walk.specs.Health.{IsHealthy, IsMemory, IsOfEdition, OnlyLooks};
 
 use sqlite::{Alter, Connection, Error};
@@ -23,7 +23,7 @@ pub fn look_at_departments<S: Alter>(
     meta: &MetaRow,
 ) -> Result<Option<Table>, Error>
     requires { IsOfEdition S.Store conn.old edition }
-    ensures reported { HasCleanDisk (state S.Store conn.new) → IfOk result (ToldOf edition (state S.Store conn.new).now meta.now (DepartmentsFound edition (state S.Store conn.new).now meta.now)) }
+    ensures reported { HasCleanDisk (state S.Store conn.new) → IfOk result (ReportedOf edition (state S.Store conn.new).now meta.now (DepartmentsFound edition (state S.Store conn.new).now meta.now)) }
     ensures look { OnlyLooks S.Store conn.old conn.new result }
     ensures err { IsHealthy (state S.Store conn.new) → IfErr result IsMemory }
 {

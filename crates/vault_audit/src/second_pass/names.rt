@@ -2,7 +2,7 @@
 ghost use Rattle.std.specs.Prelude.{IfOk, IfErr};
 ghost use Rattle.sqlite.specs.State.{HasCleanDisk};
 ghost use Rattle.sqlite.specs.Held.{state};
-ghost use Rattle.vault_audit.specs.Looks.{Told, NamesFound};
+ghost use Rattle.vault_audit.specs.Looks.{Reported, NamesFound};
 ghost use Rattle.vault_audit_walk.specs.Health.{IsHealthy, IsMemory, IsOfEdition, OnlyLooks};
 
 use sqlite::{Alter, Connection, Error};
@@ -20,7 +20,7 @@ pub fn look_at_names<S: Alter>(
     edition: Edition,
 ) -> Result<Option<Table>, Error>
     requires { IsOfEdition S.Store conn.old edition }
-    ensures reported { HasCleanDisk (state S.Store conn.new) → IfOk result (Told edition (state S.Store conn.new).now (NamesFound edition (state S.Store conn.new).now)) }
+    ensures reported { HasCleanDisk (state S.Store conn.new) → IfOk result (Reported edition (state S.Store conn.new).now (NamesFound edition (state S.Store conn.new).now)) }
     ensures look { OnlyLooks S.Store conn.old conn.new result }
     ensures err { IsHealthy (state S.Store conn.new) → IfErr result IsMemory }
 {

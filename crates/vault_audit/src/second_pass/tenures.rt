@@ -2,7 +2,7 @@
 ghost use Rattle.std.specs.Prelude.{IsTrue, IfOk, IfErr};
 ghost use Rattle.sqlite.specs.State.{HasCleanDisk};
 ghost use Rattle.sqlite.specs.Held.{state};
-ghost use Rattle.vault_audit.specs.Looks.{ToldOf, TenuresFound};
+ghost use Rattle.vault_audit.specs.Looks.{ReportedOf, TenuresFound};
 ghost use Rattle.vault_audit_walk.specs.Health.{IsHealthy, IsMemory, IsOfEdition, OnlyLooks};
 
 use sqlite::{Alter, Connection, Error};
@@ -19,7 +19,7 @@ pub fn look_at_tenures<S: Alter>(
 ) -> Result<Option<Table>, Error>
     requires schema { IsOfEdition S.Store conn.old edition }
     requires open { HasCleanDisk (state S.Store conn.old) → IsTrue (state S.Store conn.old).is_open }
-    ensures reported { HasCleanDisk (state S.Store conn.new) → IfOk result (ToldOf edition (state S.Store conn.new).now meta (TenuresFound edition (state S.Store conn.new).now meta)) }
+    ensures reported { HasCleanDisk (state S.Store conn.new) → IfOk result (ReportedOf edition (state S.Store conn.new).now meta (TenuresFound edition (state S.Store conn.new).now meta)) }
     ensures look { OnlyLooks S.Store conn.old conn.new result }
     ensures err { IsHealthy (state S.Store conn.new) → IfErr result IsMemory }
 {

@@ -4,7 +4,7 @@ ghost use Rattle.sqlite.specs.State.{HasCleanDisk};
 ghost use Rattle.sqlite.specs.Held.{state};
 ghost use Rattle.vault_core_model.specs.declared.records.Entry.{Entry};
 ghost use Rattle.vault_audit_model.specs.Relations.{AreEntries};
-ghost use Rattle.vault_audit.specs.Looks.{Told, VersionsFound};
+ghost use Rattle.vault_audit.specs.Looks.{Reported, VersionsFound};
 ghost use Rattle.vault_audit_walk.specs.Health.{IsHealthy, IsMemory, IsOfEdition, OnlyLooks};
 
 use sqlite::{Alter, Connection, Error};
@@ -21,7 +21,7 @@ pub fn look_at_versions<S: Alter>(
     edition: Edition,
 ) -> Result<Option<Table>, Error>
     requires { IsOfEdition S.Store conn.old edition }
-    ensures reported { HasCleanDisk (state S.Store conn.new) → IfOk result (Told edition (state S.Store conn.new).now
+    ensures reported { HasCleanDisk (state S.Store conn.new) → IfOk result (Reported edition (state S.Store conn.new).now
         ((es : List Entry) → AreEntries (state S.Store conn.new).now es → VersionsFound (state S.Store conn.new).now es)) }
     ensures look { OnlyLooks S.Store conn.old conn.new result }
     ensures err { IsHealthy (state S.Store conn.new) → IfErr result IsMemory }

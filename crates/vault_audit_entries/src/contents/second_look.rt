@@ -4,7 +4,7 @@ ghost use Rattle.sqlite.specs.State.{HasCleanDisk};
 ghost use Rattle.sqlite.specs.Held.{state};
 ghost use Rattle.vault_core_model.specs.declared.records.Entry.{Entry};
 ghost use Rattle.vault_core_model.specs.Vault.{Vault};
-ghost use Rattle.vault_audit_model.specs.Relations.{AreEntries, TellContents};
+ghost use Rattle.vault_audit_model.specs.Relations.{AreEntries, DecidesContents};
 ghost use Rattle.vault_audit_model.specs.Spells.{AreSoundAs};
 ghost use Rattle.vault_audit_walk.specs.Health.{IsHealthy, IsMemory, IsOfEdition, OnlyLooks};
 
@@ -21,7 +21,7 @@ pub fn check_held_contents<S: Alter>(
 ) -> Result<bool, Error>
     requires { IsOfEdition S.Store conn.old edition }
     ensures reported { HasCleanDisk (state S.Store conn.new) → IfOk result (λ found. (es : List Entry) →
-        AreEntries (state S.Store conn.new).now es → TellContents (state S.Store conn.new).now es found) }
+        AreEntries (state S.Store conn.new).now es → DecidesContents (state S.Store conn.new).now es found) }
     ensures damaged { HasCleanDisk (state S.Store conn.new) → IfOk result (λ found. found ≡ false → (v : Vault) → ¬ AreSoundAs edition (state S.Store conn.new).now v) }
     ensures look { OnlyLooks S.Store conn.old conn.new result }
     ensures err { IsHealthy (state S.Store conn.new) → IfErr result IsMemory }

@@ -6,12 +6,12 @@ ghost use Rattle.sqlite.specs.State.{HasCleanDisk};
 ghost use Rattle.sqlite.specs.Held.{state};
 ghost use Rattle.vault_core_model.specs.declared.records.Entry.{Entry};
 ghost use Rattle.vault_core_model.specs.Vault.{Vault};
-ghost use Rattle.vault_audit_model.specs.declared.rows.HeadRow.{HeadRow as Told};
+ghost use Rattle.vault_audit_model.specs.declared.rows.HeadRow.{HeadRow as Reported};
 ghost use Rattle.vault_audit_model.specs.Limits.{IsHeadRow};
 ghost use Rattle.vault_audit_model.specs.Relations.{AreEntries};
 ghost use Rattle.vault_audit_model.specs.Spells.{AreSoundAs};
 ghost use Rattle.vault_audit_model.specs.Values.{number as value};
-ghost use Rattle.vault_audit_entries.specs.Heads.{headed_row, head_cmp, IsAfter, TellHeadsByKey};
+ghost use Rattle.vault_audit_entries.specs.Heads.{headed_row, head_cmp, IsAfter, DecidesHeadsByKey};
 ghost use Rattle.vault_audit_walk.specs.Health.{IsHealthy, IsMemory, IsOfEdition, OnlyLooks};
 
 use sqlite::{Alter, Connection, Error, ErrorCode, Row};
@@ -33,12 +33,12 @@ pub struct HeadPass {
     pub total: u64,
 }
 
-/// The head that the first four columns tell.
+/// The head that the first four columns state.
 fn head_in(row: &Row) -> Result<HeadRow, Misread>
     ensures names { IfOk result (λ h. (column row.now 0 ≡ Text h.bucket) × (column row.now 1 ≡ Text h.key)) }
     ensures numbers { IfOk result (λ h. (column row.now 2 ≡ value h.head.newest) × (column row.now 3 ≡ value h.head.count)) }
     ensures fits { IfOk result IsHeadRow }
-    ensures wrong { IfErr result (λ e. e ≡ Misread.Wrong → (h : Told) → IsHeadRow h → row.now ≢ headed_row h) }
+    ensures wrong { IfErr result (λ e. e ≡ Misread.Wrong → (h : Reported) → IsHeadRow h → row.now ≢ headed_row h) }
 {
     let newest = version_id(row, 2).ok_or(Misread::Wrong)?;
     let count = number(row, 3).ok_or(Misread::Wrong)?;
@@ -55,7 +55,7 @@ fn head_in(row: &Row) -> Result<HeadRow, Misread>
 fn read_headed(row: &Row) -> Result<HeadRow, Misread>
     ensures row { IfOk result (λ h. row.now ≡ headed_row h) }
     ensures fits { IfOk result IsHeadRow }
-    ensures wrong { IfErr result (λ e. e ≡ Misread.Wrong → (h : Told) → IsHeadRow h → row.now ≢ headed_row h) }
+    ensures wrong { IfErr result (λ e. e ≡ Misread.Wrong → (h : Reported) → IsHeadRow h → row.now ≢ headed_row h) }
 {
     if row.column_count() != 7 {
         return Err(Misread::Wrong);
@@ -121,7 +121,7 @@ impl Pass for HeadPass {
     }
 }
 
-/// How many entries the rows of `heads` count together, up to 2^64 - 1; or none where not each tells a head in its
+/// How many entries the rows of `heads` count together, up to 2^64 - 1; or none where not each states a head in its
 /// limits whose newest is a held entry of its bucket and key, or two are of one key. It is meant for entries whose ids
 /// are 1, 2, 3 and so on.
 pub fn check_heads_by_key<S: Alter>(
@@ -129,7 +129,7 @@ pub fn check_heads_by_key<S: Alter>(
     edition: Edition,
 ) -> Result<Option<u64>, Error>
     requires { IsOfEdition S.Store conn.old edition }
-    ensures reported { HasCleanDisk (state S.Store conn.new) → IfOk result (λ total. (es : List Entry) → AreEntries (state S.Store conn.new).now es → TellHeadsByKey (state S.Store conn.new).now es total) }
+    ensures reported { HasCleanDisk (state S.Store conn.new) → IfOk result (λ total. (es : List Entry) → AreEntries (state S.Store conn.new).now es → DecidesHeadsByKey (state S.Store conn.new).now es total) }
     ensures damaged { HasCleanDisk (state S.Store conn.new) → IfOk result (λ total. total ≡ None → (v : Vault) → ¬ AreSoundAs edition (state S.Store conn.new).now v) }
     ensures look { OnlyLooks S.Store conn.old conn.new result }
     ensures err { IsHealthy (state S.Store conn.new) → IfErr result IsMemory }

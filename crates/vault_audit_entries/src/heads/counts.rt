@@ -8,7 +8,7 @@ ghost use Rattle.vault_audit_model.specs.declared.rows.HeadRow.{HeadRow};
 ghost use Rattle.vault_audit_model.specs.Relations.{AreEntries};
 ghost use Rattle.vault_audit_model.specs.Rows.{head_row, head_columns};
 ghost use Rattle.vault_audit_model.specs.Tables.{heads_tree};
-ghost use Rattle.vault_audit_entries.specs.HeadCounts.{TellCounts};
+ghost use Rattle.vault_audit_entries.specs.HeadCounts.{DecidesCounts};
 ghost use Rattle.vault_audit_walk.specs.Health.{IsHealthy, IsMemory, IsOfEdition, OnlyLooks};
 
 use sqlite::{Alter, Connection, Error, Row};
@@ -40,7 +40,7 @@ impl Check for CountCheck {
 /// it names. It is meant for entries whose ids are 1, 2, 3 and so on, and of heads that the rows hold.
 pub fn check_counts<S: Alter>(conn: &mut Connection<S>, edition: Edition) -> Result<bool, Error>
     requires { IsOfEdition S.Store conn.old edition }
-    ensures reported { HasCleanDisk (state S.Store conn.new) → IfOk result (λ found. (es : List Entry) (hs : List HeadRow) → AreEntries (state S.Store conn.new).now es → IsPermutation (map head_row hs) (map head_columns ((state S.Store conn.new).now.trees heads_tree)) → TellCounts es hs found) }
+    ensures reported { HasCleanDisk (state S.Store conn.new) → IfOk result (λ found. (es : List Entry) (hs : List HeadRow) → AreEntries (state S.Store conn.new).now es → IsPermutation (map head_row hs) (map head_columns ((state S.Store conn.new).now.trees heads_tree)) → DecidesCounts es hs found) }
     ensures look { OnlyLooks S.Store conn.old conn.new result }
     ensures err { IsHealthy (state S.Store conn.new) → IfErr result IsMemory }
 {

@@ -1,4 +1,4 @@
-//! The check of rows of `entries`: they tell entries, none after the last moment.
+//! The check of rows of `entries`: they state entries, none after the last moment.
 ghost use Rattle.std.specs.Prelude.{◌↔◌, IsTrue};
 ghost use Rattle.vault_core_model.specs.Sound.{LiesBetween};
 ghost use Rattle.vault_audit_model.specs.Relations.{IsPast};
@@ -36,10 +36,10 @@ fn is_past(last: Moment, entry: &Entry) -> bool
 
 impl Check for EntryCheck {
     ghost use Rattle.vault_audit_model.specs.Rows.{entry_row};
-    ghost use Rattle.vault_audit_walk.specs.Records.{TellsOne};
+    ghost use Rattle.vault_audit_walk.specs.Records.{ReportsOne};
     ghost use Rattle.vault_audit_records.specs.Entries.{IsEntryBy};
 
-    ghost takes = { λ c. TellsOne entry_row (IsEntryBy c.last) };
+    ghost takes = { λ c. ReportsOne entry_row (IsEntryBy c.last) };
 
     #[tactic(auto, using(crate::proofs::EntryLemmas::as_past))]
     fn is_passed_by(&self, row: &Row) -> Result<bool, Error> {

@@ -7,7 +7,7 @@ ghost use Rattle.vault_core_model.specs.Vault.{Vault};
 ghost use Rattle.vault_audit_model.specs.declared.rows.MetaRow.{MetaRow};
 ghost use Rattle.vault_audit_model.specs.Spells.{AreSoundAs};
 ghost use Rattle.vault_audit_records.specs.Meta.{IsMetaOf};
-ghost use Rattle.vault_audit_records.specs.MetaCount.{TellNext};
+ghost use Rattle.vault_audit_records.specs.MetaCount.{DecidesNext};
 ghost use Rattle.vault_audit_walk.specs.Health.{IsHealthy, IsMemory, IsOfEdition, OnlyLooks};
 
 use sqlite::{Alter, Connection, Error, ErrorCode, Row};
@@ -44,7 +44,7 @@ pub fn check_next<S: Alter>(
     next: u64,
 ) -> Result<bool, Error>
     requires { IsOfEdition S.Store conn.old edition }
-    ensures reported { HasCleanDisk (state S.Store conn.new) → IfOk result (TellNext (state S.Store conn.new).now next) }
+    ensures reported { HasCleanDisk (state S.Store conn.new) → IfOk result (DecidesNext (state S.Store conn.new).now next) }
     ensures damaged { HasCleanDisk (state S.Store conn.new) → IfOk result (λ hold. hold ≡ false →
         (m : MetaRow) → IsMetaOf edition (state S.Store conn.new).now (Some m) → m.next ≡ next → (v : Vault) → ¬ AreSoundAs edition (state S.Store conn.new).now v) }
     ensures look { OnlyLooks S.Store conn.old conn.new result }

@@ -2,7 +2,7 @@
 ghost use Rattle.std.specs.Prelude.{IfOk, IfErr};
 ghost use Rattle.sqlite.specs.State.{HasCleanDisk};
 ghost use Rattle.sqlite.specs.Held.{state};
-ghost use Rattle.vault_audit_records.specs.RulesByPlace.{TellOwners};
+ghost use Rattle.vault_audit_records.specs.RulesByPlace.{DecidesOwners};
 ghost use Rattle.vault_audit_walk.specs.Health.{IsHealthy, IsMemory, IsOfEdition, OnlyLooks};
 
 use sqlite::{Alter, Connection, Error};
@@ -16,7 +16,7 @@ pub(crate) fn have_buckets<S: Alter>(
     edition: Edition,
 ) -> Result<bool, Error>
     requires { IsOfEdition S.Store conn.old edition }
-    ensures reported { HasCleanDisk (state S.Store conn.new) → IfOk result (TellOwners edition (state S.Store conn.new).now) }
+    ensures reported { HasCleanDisk (state S.Store conn.new) → IfOk result (DecidesOwners edition (state S.Store conn.new).now) }
     ensures look { OnlyLooks S.Store conn.old conn.new result }
     ensures err { IsHealthy (state S.Store conn.new) → IfErr result IsMemory }
 {

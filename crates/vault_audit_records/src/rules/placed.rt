@@ -2,7 +2,7 @@
 ghost use Rattle.std.specs.Prelude.{◌≡◌, ◌↔◌, ◌+◌, Some, [], length, IsTrue, IfOk, IfErr};
 ghost use Rattle.sqlite.specs.State.{HasCleanDisk};
 ghost use Rattle.sqlite.specs.Held.{state};
-ghost use Rattle.vault_audit_records.specs.RulesByPlace.{IsWhole, TellRuns};
+ghost use Rattle.vault_audit_records.specs.RulesByPlace.{IsWhole, DecidesRuns};
 ghost use Rattle.vault_audit_records.specs.RulesWalk.{rules_walk};
 ghost use Rattle.vault_audit_walk.specs.Health.{IsHealthy, IsMemory, IsOfEdition, OnlyLooks};
 
@@ -121,7 +121,7 @@ pub(crate) fn are_runs<S: Alter>(
     edition: Edition,
 ) -> Result<bool, Error>
     requires { IsOfEdition S.Store conn.old edition }
-    ensures reported { HasCleanDisk (state S.Store conn.new) → IfOk result (TellRuns edition (state S.Store conn.new).now) }
+    ensures reported { HasCleanDisk (state S.Store conn.new) → IfOk result (DecidesRuns edition (state S.Store conn.new).now) }
     ensures look { OnlyLooks S.Store conn.old conn.new result }
     ensures err { IsHealthy (state S.Store conn.new) → IfErr result IsMemory }
 {

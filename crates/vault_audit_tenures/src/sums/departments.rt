@@ -37,9 +37,9 @@ fn has_total(totals: &Totals, department: &DepartmentRow) -> bool
 impl Check for SumsCheck {
     ghost use Rattle.vault_audit_model.specs.Rows.{department_row};
     ghost use Rattle.vault_audit_tenures.specs.DepartmentSums.{HasTotal};
-    ghost use Rattle.vault_audit_walk.specs.Records.{TellsOne};
+    ghost use Rattle.vault_audit_walk.specs.Records.{ReportsOne};
 
-    ghost takes = { λ c. TellsOne department_row (HasTotal c.totals) };
+    ghost takes = { λ c. ReportsOne department_row (HasTotal c.totals) };
 
     #[tactic(auto, using(crate::proofs::SumRowLemmas::one_department))]
     fn is_passed_by(&self, row: &Row) -> Result<bool, Error> {

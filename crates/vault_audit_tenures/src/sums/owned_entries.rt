@@ -1,6 +1,6 @@
 //! Entries beside the departments of their buckets.
 ghost use Rattle.std.specs.Prelude.{◌≡◌, ◌≢◌, Option, IfOk, IfErr};
-ghost use Rattle.vault_audit_tenures.specs.declared.sums.owned_entries.OwnedEntry.{OwnedEntry as Told};
+ghost use Rattle.vault_audit_tenures.specs.declared.sums.owned_entries.OwnedEntry.{OwnedEntry as Reported};
 ghost use Rattle.vault_audit_tenures.specs.OwnedEntries.{owned_row, IsOwned};
 
 use sqlite::Row;
@@ -28,7 +28,7 @@ pub struct OwnedEntry {
 #[tactic(auto, using(crate::proofs::SumRowLemmas::row_of_6))]
 pub fn read_owned(row: &Row) -> Result<OwnedEntry, Misread>
     ensures ok { IfOk result (λ e. row.now ≡ owned_row e) }
-    ensures wrong { IfErr result (λ e. e ≡ Misread.Wrong → (x : Told) → IsOwned x → row.now ≢ owned_row x) }
+    ensures wrong { IfErr result (λ e. e ≡ Misread.Wrong → (x : Reported) → IsOwned x → row.now ≢ owned_row x) }
 {
     if row.column_count() != 6 {
         return Err(Misread::Wrong);

@@ -4,7 +4,7 @@ ghost use Rattle.std.specs.List.{AllByRecursion};
 ghost use Rattle.sqlite.specs.State.{HasCleanDisk};
 ghost use Rattle.sqlite.specs.Held.{state};
 ghost use Rattle.vault_core_model.specs.Vault.{Vault};
-ghost use Rattle.vault_audit_model.specs.Relations.{AreBuckets, AreEntries, AreTenuresOf, IsPast, TellSums};
+ghost use Rattle.vault_audit_model.specs.Relations.{AreBuckets, AreEntries, AreTenuresOf, IsPast, DecidesSums};
 ghost use Rattle.vault_audit_model.specs.Spells.{AreSoundAs, entries_in};
 ghost use Rattle.vault_audit_tenures.specs.Totals.{AreTotals};
 ghost use Rattle.vault_audit_walk.specs.Health.{IsHealthy, IsMemory, IsOfEdition, OnlyLooks};
@@ -47,7 +47,7 @@ pub fn check_sums<S: Alter>(
     requires { IsOfEdition S.Store conn.old edition }
     ensures reported { HasCleanDisk (state S.Store conn.new) → IfOk result (λ hold. (v : Vault) →
         AreBuckets edition (state S.Store conn.new).now v.buckets → AreEntries (state S.Store conn.new).now (entries_in v.histories) →
-        AllByRecursion (IsPast v.last) (entries_in v.histories) → AreTenuresOf edition (state S.Store conn.new).now v → TellSums edition (state S.Store conn.new).now v.histories hold) }
+        AllByRecursion (IsPast v.last) (entries_in v.histories) → AreTenuresOf edition (state S.Store conn.new).now v → DecidesSums edition (state S.Store conn.new).now v.histories hold) }
     ensures damaged { HasCleanDisk (state S.Store conn.new) → IfOk result (λ hold. hold ≡ false → (v : Vault) → ¬ AreSoundAs edition (state S.Store conn.new).now v) }
     ensures look { OnlyLooks S.Store conn.old conn.new result }
     ensures err { IsHealthy (state S.Store conn.new) → IfErr result IsMemory }

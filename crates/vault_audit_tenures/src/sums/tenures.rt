@@ -5,8 +5,8 @@ ghost use Rattle.sqlite.specs.Held.{state};
 ghost use Rattle.vault_core_model.specs.Vault.{Vault};
 ghost use Rattle.vault_audit_model.specs.Relations.{AreEntries, AreTenuresOf};
 ghost use Rattle.vault_audit_model.specs.Spells.{entries_in};
-ghost use Rattle.vault_audit_tenures.specs.declared.sums.tenures.ToldTenure.{ToldTenure as Told};
-ghost use Rattle.vault_audit_tenures.specs.TenureSums.{told_row, IsTold, begins, share_as, last_share, share_before, CountsShare, CountsPending, CountsLast};
+ghost use Rattle.vault_audit_tenures.specs.declared.sums.tenures.StatedTenure.{StatedTenure as Reported};
+ghost use Rattle.vault_audit_tenures.specs.TenureSums.{stated_row, IsStated, begins, share_as, last_share, share_before, CountsShare, CountsPending, CountsLast};
 ghost use Rattle.vault_audit_tenures.specs.Totals.{AreTotals};
 ghost use Rattle.vault_audit_walk.specs.Health.{IsHealthy, IsMemory, IsOfEdition, OnlyLooks};
 
@@ -26,7 +26,7 @@ use vault_core_model::records::Tenure;
 
 /// A tenure, and what counts of its version.
 #[derive(Drop)]
-pub struct ToldTenure {
+pub struct StatedTenure {
     pub id: VersionId,
     pub tenure: Tenure,
     /// The size of the version.
@@ -38,7 +38,7 @@ pub struct ToldTenure {
 /// A tenure that isn't counted yet, since the row after it has its end.
 #[derive(Drop)]
 pub struct Pending {
-    pub told: ToldTenure,
+    pub stated: StatedTenure,
     /// Whether it is its version's first, whatever its number is.
     pub first: bool,
 }
@@ -53,9 +53,9 @@ pub struct TenurePass {
 
 /// The tenure that a row holds.
 #[tactic(auto, using(crate::proofs::SumRowLemmas::row_of_6))]
-pub fn read_told(row: &Row) -> Result<ToldTenure, Misread>
-    ensures ok { IfOk result (λ t. row.now ≡ told_row t) }
-    ensures wrong { IfErr result (λ e. e ≡ Misread.Wrong → (x : Told) → IsTold x → row.now ≢ told_row x) }
+pub fn read_stated(row: &Row) -> Result<StatedTenure, Misread>
+    ensures ok { IfOk result (λ t. row.now ≡ stated_row t) }
+    ensures wrong { IfErr result (λ e. e ≡ Misread.Wrong → (x : Reported) → IsStated x → row.now ≢ stated_row x) }
 {
     if row.column_count() != 6 {
         return Err(Misread::Wrong);
@@ -66,7 +66,7 @@ pub fn read_told(row: &Row) -> Result<ToldTenure, Misread>
     let from = moment(row, 3).ok_or(Misread::Wrong)?;
     let removed = moment_or_null(row, 5).ok_or(Misread::Wrong)?;
     let dept = dept_name(row, 2)?;
-    Ok(ToldTenure {
+    Ok(StatedTenure {
         id,
         tenure: Tenure { dept, from, number },
         size,
@@ -75,27 +75,27 @@ pub fn read_told(row: &Row) -> Result<ToldTenure, Misread>
 }
 
 /// Whether a tenure is its version's first: the one before it, if there is one, is of another version.
-fn begins_version(pending: &Option<Pending>, told: &ToldTenure) -> bool
-    ensures { result ≡ begins pending.now told.now }
+fn begins_version(pending: &Option<Pending>, stated: &StatedTenure) -> bool
+    ensures { result ≡ begins pending.now stated.now }
 {
     match pending {
         None => true,
-        Some(before) => before.told.id != told.id,
+        Some(before) => before.stated.id != stated.id,
     }
 }
 
 /// Counts a tenure in, with the moment of its end and whether it is its version's first and last.
 fn count_as(
     totals: &mut Totals,
-    told: ToldTenure,
+    stated: StatedTenure,
     first: bool,
     ended: Option<Moment>,
     last: bool,
 ) -> Result<(), Error>
-    ensures ok { OnOk result (CountsShare totals.old (share_as first told ended last) totals.new) }
+    ensures ok { OnOk result (CountsShare totals.old (share_as first stated ended last) totals.new) }
     ensures err { IfErr result IsMemory }
 {
-    let ToldTenure { tenure, size, .. } = told;
+    let StatedTenure { tenure, size, .. } = stated;
     let Tenure { dept, from, .. } = tenure;
     let span = Span {
         size,
@@ -108,35 +108,35 @@ fn count_as(
 }
 
 /// Counts a version's last tenure in: it ends with the removal.
-fn count_last(totals: &mut Totals, told: ToldTenure, first: bool) -> Result<(), Error>
-    ensures ok { OnOk result (CountsShare totals.old (last_share first told) totals.new) }
+fn count_last(totals: &mut Totals, stated: StatedTenure, first: bool) -> Result<(), Error>
+    ensures ok { OnOk result (CountsShare totals.old (last_share first stated) totals.new) }
     ensures err { IfErr result IsMemory }
 {
-    let removed = told.removed;
-    count_as(totals, told, first, removed, true)
+    let removed = stated.removed;
+    count_as(totals, stated, first, removed, true)
 }
 
 /// Counts a tenure in as the next row is met: one of the same version ends it.
 fn count_before(
     totals: &mut Totals,
-    told: ToldTenure,
+    stated: StatedTenure,
     first: bool,
-    next: &ToldTenure,
+    next: &StatedTenure,
 ) -> Result<(), Error>
-    ensures ok { OnOk result (CountsShare totals.old (share_before first told next.now) totals.new) }
+    ensures ok { OnOk result (CountsShare totals.old (share_before first stated next.now) totals.new) }
     ensures err { IfErr result IsMemory }
 {
-    if told.id == next.id {
-        return count_as(totals, told, first, Some(next.tenure.from), false);
+    if stated.id == next.id {
+        return count_as(totals, stated, first, Some(next.tenure.from), false);
     }
-    count_last(totals, told, first)
+    count_last(totals, stated, first)
 }
 
 /// Counts the pending tenure in as the next row is met.
 fn count_pending(
     totals: &mut Totals,
     pending: Option<Pending>,
-    next: &ToldTenure,
+    next: &StatedTenure,
 ) -> Result<(), Error>
     ensures ok { OnOk result (CountsPending totals.old pending next.now totals.new) }
     ensures err { IfErr result IsMemory }
@@ -144,8 +144,8 @@ fn count_pending(
     let Some(before) = pending else {
         return Ok(());
     };
-    let Pending { told, first } = before;
-    count_before(totals, told, first, next)
+    let Pending { stated, first } = before;
+    count_before(totals, stated, first, next)
 }
 
 /// Counts the pending tenure in as no row is left.
@@ -156,24 +156,24 @@ fn count_left(totals: &mut Totals, pending: Option<Pending>) -> Result<(), Error
     let Some(last) = pending else {
         return Ok(());
     };
-    let Pending { told, first } = last;
-    count_last(totals, told, first)
+    let Pending { stated, first } = last;
+    count_last(totals, stated, first)
 }
 
 impl Pass for TenurePass {
-    ghost use Rattle.vault_audit_tenures.specs.TenureSums.{GoesIn, TellsNone};
+    ghost use Rattle.vault_audit_tenures.specs.TenureSums.{GoesIn, ReportsNone};
 
     ghost goes = { λ p row q. GoesIn p row q };
 
-    ghost stops = { λ p row. TellsNone p row };
+    ghost stops = { λ p row. ReportsNone p row };
 
     fn take(&mut self, row: &Row) -> Result<bool, Error> {
-        match read_told(row) {
-            Ok(told) => {
-                let first = begins_version(&self.pending, &told);
+        match read_stated(row) {
+            Ok(stated) => {
+                let first = begins_version(&self.pending, &stated);
                 let before = self.pending.take();
-                count_pending(&mut self.totals, before, &told)?;
-                self.pending = Some(Pending { told, first });
+                count_pending(&mut self.totals, before, &stated)?;
+                self.pending = Some(Pending { stated, first });
                 Ok(true)
             }
             Err(misread) => refused(misread),

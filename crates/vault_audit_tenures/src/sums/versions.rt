@@ -56,11 +56,11 @@ fn count_entry(totals: &mut Totals, entry: OwnedEntry) -> Result<(), Error>
 }
 
 impl Pass for SumPass {
-    ghost use Rattle.vault_audit_tenures.specs.VersionSums.{GoesIn, TellsNone};
+    ghost use Rattle.vault_audit_tenures.specs.VersionSums.{GoesIn, ReportsNone};
 
     ghost goes = { λ p row q. GoesIn p row q };
 
-    ghost stops = { λ p row. TellsNone p row };
+    ghost stops = { λ p row. ReportsNone p row };
 
     fn take(&mut self, row: &Row) -> Result<bool, Error> {
         match read_owned(row) {

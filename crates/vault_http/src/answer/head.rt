@@ -18,7 +18,7 @@ pub enum Status {
     ServiceUnavailable,
 }
 
-/// Which methods are told to be allowed (RFC 9110, section 10.2.1).
+/// Which methods are reported to be allowed (RFC 9110, section 10.2.1).
 #[derive(Clone, Copy, PartialEq, Eq, Debug)]
 pub enum Allow {
     /// An object, without a subresource.
@@ -54,7 +54,7 @@ pub struct Head {
     pub status: Status,
     pub kind: Kind,
     pub allow: Option<Allow>,
-    /// Whether it tells of a delete marker.
+    /// Whether it says that a delete marker is on top.
     pub marker: bool,
     pub version: Option<VersionId>,
     pub retention: Option<Retention>,

@@ -42,8 +42,8 @@ fn refusal_status(refusal: Refusal) -> Status
 }
 
 /// Whether a refusal is about a delete marker: on top of its key, or named by its id.
-fn tells_marker(refusal: Refusal, allow: Option<Allow>) -> bool
-    ensures { result ≡ spec.tells_marker refusal allow }
+fn names_marker(refusal: Refusal, allow: Option<Allow>) -> bool
+    ensures { result ≡ spec.names_marker refusal allow }
 {
     match refusal {
         Refusal::NoSuchKey(marker) => marker,
@@ -61,7 +61,7 @@ fn refusal_head(refusal: Refusal, allow: Option<Allow>, length: u64) -> Head
         status: refusal_status(refusal),
         kind: Kind::Json(length),
         allow,
-        marker: tells_marker(refusal, allow),
+        marker: names_marker(refusal, allow),
         version: None,
         retention: None,
         hold: None,

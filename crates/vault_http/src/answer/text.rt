@@ -25,7 +25,7 @@ fn line_of(alloc: Global, reply: Reply) -> Result<String, AllocError>
     line
 }
 
-/// A refusal as JSON: its name, its number, and what else it tells. The error is want of memory.
+/// A refusal as JSON: its name, its number, and what else it says. The error is want of memory.
 pub fn refusal_text(alloc: Global, refusal: Refusal) -> Result<Vec<u8>, AllocError>
     ensures { IfOk result (λ text. text.items ≡ spec.refusal_text refusal) }
 {

@@ -20,7 +20,7 @@ pub enum ReadFault {
 }
 
 /// The next bytes, at the front of a buffer, and how many; none only at the end. A read that a signal interrupts is
-/// tried again, and never told.
+/// tried again, and never reported.
 pub fn next_bytes<R: Read>(reader: &mut R, buf: &mut [u8]) -> Result<usize>
     requires { 0 < length buf.old }
     ensures bound { ReadsAtMost result buf.new }

@@ -27,7 +27,7 @@ fn holds_no_other(head: Option<Head>, id: VersionId) -> bool
     }
 }
 
-/// The newest held entry of a key besides the one of that id; where its head tells of no other, nothing is asked.
+/// The newest held entry of a key besides the one of that id; where its head names no other, nothing is asked.
 fn find_newest_but<S: Alter>(
     conn: &mut Connection<S>,
     entry: &Entry,

@@ -25,7 +25,7 @@ fn values_of(alloc: Global, row: &Row) -> Result<Vec<ValueRef<'_>>, Error>
     Ok(values)
 }
 
-/// Puts a row into its table, as it is where it tells a record of the table.
+/// Puts a row into its table, as it is where it states a record of the table.
 pub(crate) fn put_row<S: Alter>(
     alloc: Global,
     tx: &mut Transaction<'_, S>,

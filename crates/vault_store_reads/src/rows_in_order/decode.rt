@@ -1,4 +1,4 @@
-//! All rows of an ordered read, as what they tell.
+//! All rows of an ordered read, as what they say.
 ghost use Rattle.std.specs.Prelude.{◌≡◌, List, map, IfOk};
 ghost use Rattle.vault_audit_model.specs.declared.rows.RuleRow.{RuleRow};
 ghost use Rattle.vault_audit_model.specs.declared.rows.SettingRow.{SettingRow};

@@ -1,4 +1,4 @@
-//! Rows of the ordered reads, each read as what it tells.
+//! Rows of the ordered reads, each read as what it says.
 ghost use Rattle.std.specs.Prelude.{◌≡◌, IfSome, IfOk};
 ghost use Rattle.vault_store_reads.specs.Shown.{last_row, held_row, sized_row, key_row, id_row};
 
@@ -12,7 +12,7 @@ use vault_base::name::{ObjectKey, VersionId};
 use vault_core_model::records::LastSetting;
 use vault_lock::lock::Lock;
 
-/// What is told of a row that tells nothing of a vault.
+/// What is said of a row that says nothing of a vault.
 pub const UNREADABLE: Error = Error::SqliteFailure(ErrorCode::DatabaseCorrupt);
 
 /// The last setting of a version.

@@ -1,6 +1,6 @@
 //! An intake with ample memory, and with a growth refused.
 use crate::batch::Batch;
-use crate::faults::intakes::tells_as_behind;
+use crate::faults::intakes::answers_as_after;
 use crate::faults::taking::{folder, list_of, resumed, stopped_behind, take};
 use std::alloc::Global;
 use std::io::Write;
@@ -39,7 +39,7 @@ impl Given {
     }
 
     /// The same, and prints its lines.
-    fn take_and_tell<K: Keeper, W: Write>(
+    fn take_and_print<K: Keeper, W: Write>(
         &mut self,
         alloc: Global,
         keeper: &mut K,
@@ -47,12 +47,12 @@ impl Given {
     ) -> (Result<Outcome, JobFault>, IntakeReport) {
         let list = self.list.as_bytes();
         self.batch
-            .take_and_tell(alloc, keeper, list, &mut self.folder, out)
+            .take_and_print(alloc, keeper, list, &mut self.folder, out)
     }
 }
 
-/// Fails unless so many rows are told of the list, and what stopped the intake behind them.
-fn tells_rows(alloc: Global, report: &IntakeReport, count: usize, stop: &str) -> Result<(), Fail> {
+/// Fails unless so many rows are said of the list, and what stopped the intake behind them.
+fn lists_rows(alloc: Global, report: &IntakeReport, count: usize, stop: &str) -> Result<(), Fail> {
     let wanted = stopped_behind(alloc, count, stop)?;
     compare(
         "the list",
@@ -69,7 +69,7 @@ impl Trial for Whole {
     fn carry_out<K: Keeper>(&self, alloc: Global, keeper: &mut K) -> Result<(), Fail> {
         let mut given = Given::new(alloc)?;
         let report = given.take(alloc, keeper);
-        let judged = tells_rows(alloc, &report, 3, "");
+        let judged = lists_rows(alloc, &report, 3, "");
         drop(report);
         judged
     }
@@ -80,20 +80,20 @@ fn a_list_is_taken_in(rt: HostRuntime) -> Result<(), Fail> {
     try_on_new(rt.alloc(), &Whole)
 }
 
-/// The rows that are told are those of the untroubled intake, and only want of memory stops it.
+/// The rows that are reported are those of the untroubled intake, and only want of memory stops it.
 fn judge_report(alloc: Global, report: &IntakeReport) -> Result<(), Fail> {
     match report.stopped {
-        None => tells_rows(alloc, report, 3, ""),
+        None => lists_rows(alloc, report, 3, ""),
         Some(Refusal::Memory) => {
-            tells_rows(alloc, report, report.rows.len(), "stopped Memory\n")
+            lists_rows(alloc, report, report.rows.len(), "stopped Memory\n")
         }
         Some(_) => Err(Fail::new("another fault stopped the intake")),
     }
 }
 
-/// The rows that were told stand, and no other; given again the list is taken in to its end.
+/// The rows that were reported stand, and no other; given again the list is taken in to its end.
 fn judge_vault<K: Keeper>(alloc: Global, keeper: &mut K, count: usize) -> Result<(), Fail> {
-    tells_as_behind(alloc, keeper, count)?;
+    answers_as_after(alloc, keeper, count)?;
     take(alloc, keeper, None, resumed(alloc, count)?.as_str())
 }
 
@@ -140,14 +140,14 @@ const ROOM: usize = 256;
 /// The lines that are printed are those of the rows in the report. Where there was no memory for them, none is.
 fn judge_printed(
     alloc: Global,
-    told: Result<Outcome, JobFault>,
+    stated: Result<Outcome, JobFault>,
     report: &IntakeReport,
     printed: &[u8],
 ) -> Result<(), Fail> {
     judge_report(alloc, report)?;
     let lines = intake_lines(alloc, report)?;
     let printed = str::from_utf8(printed)?;
-    match told {
+    match stated {
         // The second row is always refused, or the intake is stopped.
         Ok(Outcome::Refused) => compare("what is printed", printed, lines.as_str()),
         Err(JobFault::Memory) if printed == "" => Ok(()),
@@ -166,10 +166,10 @@ impl Trial for Printed<'_> {
         let mut given = Given::new(alloc)?;
         let mut printed = Vec::with_capacity(alloc, ROOM)?;
         println!(self.rt; "begun")?;
-        let (told, report) = given.take_and_tell(alloc, keeper, &mut printed);
+        let (stated, report) = given.take_and_print(alloc, keeper, &mut printed);
         let count = report.rows.len();
-        println!(self.rt; "{count} rows, {told:?}")?;
-        let judged = judge_printed(alloc, told, &report, printed.as_slice());
+        println!(self.rt; "{count} rows, {stated:?}")?;
+        let judged = judge_printed(alloc, stated, &report, printed.as_slice());
         drop(report);
         judged?;
         judge_vault(alloc, keeper, count)

@@ -3,41 +3,45 @@ use crate::faults::taking::{list_of, resumed, stopped_behind, take, take_first, 
 use std::alloc::Global;
 use std::test::Fail;
 use vault_core_model::keeper::Keeper;
-use vault_transcript::telling::{tells_still, told};
+use vault_transcript::replies_of::{answers_still, stated};
 use vault_transcript::trial::{Trial, compare, try_on_failing, try_on_new};
 
-/// What is to be told of a vault that has taken in the first so many rows.
+/// What is to be said of a vault that has taken in the first so many rows.
 #[derive(Clone, Copy)]
 struct Behind<'a> {
     count: usize,
-    told: &'a str,
+    stated: &'a str,
 }
 
 impl Trial for Behind<'_> {
     fn carry_out<K: Keeper>(&self, alloc: Global, keeper: &mut K) -> Result<(), Fail> {
         take_first(alloc, keeper, self.count)?;
-        let wanted = told(alloc, keeper)?;
-        compare("the vault behind its intake", self.told, wanted.as_str())
+        let wanted = stated(alloc, keeper)?;
+        compare("the vault behind its intake", self.stated, wanted.as_str())
     }
 }
 
-/// Fails unless replies tell of the vault what they tell of one that has taken in the first so many rows.
-pub fn tells_as_behind<K: Keeper>(alloc: Global, keeper: &mut K, count: usize) -> Result<(), Fail> {
-    let told = told(alloc, keeper)?;
+/// Fails unless replies say of the vault what they say of one that has taken in the first so many rows.
+pub fn answers_as_after<K: Keeper>(
+    alloc: Global,
+    keeper: &mut K,
+    count: usize,
+) -> Result<(), Fail> {
+    let stated = stated(alloc, keeper)?;
     try_on_new(
         alloc,
         &Behind {
             count,
-            told: told.as_str(),
+            stated: stated.as_str(),
         },
     )
 }
 
 /// The device stopped an intake behind so many rows. They stand, and the list given again is taken in to its end.
 fn resume<K: Keeper>(alloc: Global, keeper: &mut K, count: usize) -> Result<(), Fail> {
-    tells_as_behind(alloc, keeper, count)?;
+    answers_as_after(alloc, keeper, count)?;
     take(alloc, keeper, None, resumed(alloc, count)?.as_str())?;
-    tells_as_behind(alloc, keeper, 3)
+    answers_as_after(alloc, keeper, 3)
 }
 
 /// A device stops an intake behind so many rows, that of the folder, which takes so many reads, or the vault's.
@@ -104,9 +108,9 @@ fn take_long<K: Keeper>(
 
 /// A list that is a byte too long changes nothing.
 fn refuse_too_long<K: Keeper>(alloc: Global, keeper: &mut K) -> Result<(), Fail> {
-    let before = told(alloc, keeper)?;
+    let before = stated(alloc, keeper)?;
     take_long(alloc, keeper, 16_777_217, "stopped EntityTooLarge\n")?;
-    tells_still(alloc, keeper, before.as_str())
+    answers_still(alloc, keeper, before.as_str())
 }
 
 /// A list that is too long, and then one that just isn't.

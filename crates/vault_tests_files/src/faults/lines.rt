@@ -2,7 +2,7 @@
 use std::alloc::Global;
 use std::test::Fail;
 use vault_core_model::keeper::Keeper;
-use vault_transcript::telling::{edge, tells_still, told};
+use vault_transcript::replies_of::{answers_still, edge, stated};
 use vault_transcript::transcript::replies;
 use vault_transcript::trial::{Trial, compare, try_on_new};
 
@@ -105,11 +105,11 @@ struct BadLines<'a> {
 
 impl Trial for BadLines<'_> {
     fn carry_out<K: Keeper>(&self, alloc: Global, keeper: &mut K) -> Result<(), Fail> {
-        let before = told(alloc, keeper)?;
+        let before = stated(alloc, keeper)?;
         for (name, line) in self.lines {
             refused(alloc, keeper, name, *line)?;
         }
-        tells_still(alloc, keeper, before.as_str())
+        answers_still(alloc, keeper, before.as_str())
     }
 }
 

@@ -6,7 +6,7 @@ use vaultctl_commands::fault::JobFault;
 use vaultctl_commands::printing::print;
 
 #[test]
-fn a_text_is_printed_or_the_fault_is_told(rt: HostRuntime) -> Result<(), Fail> {
+fn a_text_is_printed_or_the_fault_is_reported(rt: HostRuntime) -> Result<(), Fail> {
     let mut writer = FailingWriter {
         written: Vec::new(rt.alloc()),
         writes_left: 1,

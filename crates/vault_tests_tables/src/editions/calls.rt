@@ -18,7 +18,7 @@ pub fn batches<S: Alter>(conn: &mut Connection<S>, changes: &[&str]) -> Result<(
     Ok(())
 }
 
-/// The number that a query tells; none where it tells no number. The error is want of memory.
+/// The number that a query says; none where it states no number. The error is want of memory.
 fn number<S: Alter>(conn: &mut Connection<S>, sql: &str) -> Result<Option<i64>, AllocError> {
     match conn.query_row(sql, &[]) {
         Ok(row) => Ok(row.get(0).ok()),
@@ -27,7 +27,7 @@ fn number<S: Alter>(conn: &mut Connection<S>, sql: &str) -> Result<Option<i64>, 
     }
 }
 
-/// The first query that doesn't tell its number. The error is want of memory.
+/// The first query that doesn't state its number. The error is want of memory.
 pub fn differing<'a, S: Alter>(
     conn: &mut Connection<S>,
     numbers: &[(&'a str, i64)],

@@ -16,10 +16,10 @@ pub const OPTIONS: Options = Options {
     seed: 1,
 };
 
-/// What a store without tables tells.
+/// What a store without tables says.
 const NO_TABLES: (&str, i64) = ("SELECT count(*) FROM sqlite_schema", 0);
 
-/// What the vault that is copied goes on to tell.
+/// What the vault that is copied goes on to say.
 const STAYS: (&str, i64) = ("SELECT schema FROM meta", 1);
 
 /// What is found in the new files.
@@ -173,8 +173,8 @@ pub fn judge<O: Alter>(
 ) -> Result<bool, Fail> {
     let (log, database) = left_of(alloc, files)?;
     let is_done = refusal.is_none();
-    let is_as_told = is_done || refusal == Some(fault);
-    if !is_as_told || differing(old, &[STAYS])?.is_some() {
+    let is_as_stated = is_done || refusal == Some(fault);
+    if !is_as_stated || differing(old, &[STAYS])?.is_some() {
         return Err(Fail::new("a copy ends otherwise"));
     }
     look_at_left(alloc, old, is_done, &log, &database)?;

@@ -18,9 +18,9 @@ pub struct Copying<'a> {
     pub edition: Edition,
     /// Why nothing is copied, or none.
     pub refusal: Option<Refusal>,
-    /// What these queries tell then in the old store.
+    /// What these queries state then in the old store.
     pub in_old: &'a [(&'a str, i64)],
-    /// What these tell in the new one.
+    /// What these state in the new one.
     pub in_new: &'a [(&'a str, i64)],
 }
 
@@ -71,7 +71,7 @@ fn copied<O: Alter, S: Alter>(
 }
 
 impl Copying<'_> {
-    /// Fails where the copy ended otherwise, the new store is opened though nothing was copied, or a query tells
+    /// Fails where the copy ended otherwise, the new store is opened though nothing was copied, or a query says
     /// another number.
     fn judge(
         &self,

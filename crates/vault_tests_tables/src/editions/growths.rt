@@ -9,7 +9,7 @@ use std::test::Fail;
 use vault_base::refusal::Refusal;
 
 /// Says how a copy ended.
-fn tell(rt: &HostRuntime, refusal: Option<Refusal>) -> Result<(), Fail> {
+fn compare_ending(rt: &HostRuntime, refusal: Option<Refusal>) -> Result<(), Fail> {
     let ending = match refusal {
         None => "copied",
         Some(refusal) => refusal.name(),
@@ -26,7 +26,7 @@ fn try_copy<O: Alter>(rt: &HostRuntime, old: &mut Connection<O>) -> Result<(), F
     let files = sound(alloc, b"", b"")?;
     println!(rt; "begun")?;
     let (refusal, files) = copy_into(alloc, old, files);
-    tell(rt, refusal)?;
+    compare_ending(rt, refusal)?;
     judge(alloc, old, refusal, Refusal::Memory, files)?;
     Ok(())
 }

@@ -25,7 +25,7 @@ fn a_vault_is_copied_as_its_own_edition_alone(rt: HostRuntime) -> Result<(), Fai
     Ok(())
 }
 
-/// A store with this in it is taken, and keeps what this query tells as seven.
+/// A store with this in it is taken, and keeps what this query states as seven.
 fn is_taken<'a>(alloc: Global, filled: &'a str, query: &'a str) -> Result<(), Fail> {
     let copying = Copying {
         vault: Vault::First,
@@ -52,9 +52,9 @@ fn a_store_with_anything_in_it_is_taken(rt: HostRuntime) -> Result<(), Fail> {
     )
 }
 
-/// A damaged vault is told before a store that is taken.
+/// A damaged vault is reported before a store that is taken.
 #[test]
-fn damage_is_told_first(rt: HostRuntime) -> Result<(), Fail> {
+fn damage_is_reported_first(rt: HostRuntime) -> Result<(), Fail> {
     let copying = Copying {
         vault: Vault::First,
         changes: (

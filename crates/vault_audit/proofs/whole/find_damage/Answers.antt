@@ -4,8 +4,8 @@ use Rattle.sqlite.specs.State.{HasCleanDisk}
 use Rattle.sqlite.specs.Held.{state}
 use Rattle.vault_base.specs.declared.refusal.Table.TheVariants.{Meta, Entries}
 use Rattle.vault_audit_records.specs.Meta.{IsMetaOf}
-use Rattle.vault_audit.specs.InOrder.{ToldInOrder}
-use Rattle.vault_audit.proofs.OrderLemmas.{Differs, at_table, begin_meta, differs_as, is_not, meta_by_form, meta_by_rows, told_beside_others}
+use Rattle.vault_audit.specs.InOrder.{ReportedInOrder}
+use Rattle.vault_audit.proofs.OrderLemmas.{Differs, at_table, begin_meta, differs_as, is_not, meta_by_form, meta_by_rows, stated_beside_others}
 use Rattle.vault_audit.proofs.SoundLemmas.{sound_vault}
 use Rattle.vault_audit.proofs.whole.find_damage.Goals as goal
 
@@ -51,10 +51,10 @@ pub look_at_tables-requires-clause-open : goal.look_at_tables-requires-clause-op
 look_at_tables-requires-clause-open g c clean = (c.in_ok-meta.ensures.look.same clean).0.is_open
 
 pub returns-in-Some-2-clause-reported : goal.returns-in-Some-2-clause-reported
-returns-in-Some-2-clause-reported g c clean = let told = rw c.in-Some-2.is at (c.in_ok-table.ensures.reported clean) in told.1
+returns-in-Some-2-clause-reported g c clean = let stated = rw c.in-Some-2.is at (c.in_ok-table.ensures.reported clean) in stated.1
 
 pub returns-in-Some-2-clause-order : goal.returns-in-Some-2-clause-order
-returns-in-Some-2-clause-order g c clean = let told = rw c.in-Some-2.is at (c.in_ok-table.ensures.reported clean) in told.0
+returns-in-Some-2-clause-order g c clean = let stated = rw c.in-Some-2.is at (c.in_ok-table.ensures.reported clean) in stated.0
 
 pub look_again-requires : goal.look_again-requires
 look_again-requires g c clean =
@@ -74,7 +74,7 @@ returns-in-Some-3-clause-order g c clean =
     let later : HasCleanDisk (state g.S.Store c.look_at_tables.new.conn) = omega (arith, c.in_ok-table-2.ensures.look.crash.clean) in
     let right : c.in_ok-table.field-0 ≡ None = search rules in
     let all = rw right at (c.in_ok-table.ensures.reported later) in
-    told_beside_others c.args.edition (state g.S.Store c.look_again.new.conn).now c.in-Some-3.table (subst (λ (db : Database). ToldInOrder c.args.edition db None) (sym (c.in_ok-table-2.ensures.look.same clean).0.now_is) all)
+    stated_beside_others c.args.edition (state g.S.Store c.look_again.new.conn).now c.in-Some-3.table (subst (λ (db : Database). ReportedInOrder c.args.edition db None) (sym (c.in_ok-table-2.ensures.look.same clean).0.now_is) all)
 
 pub returns-clause-reported : goal.returns-clause-reported
 returns-clause-reported g c clean =
@@ -88,6 +88,6 @@ returns-clause-reported g c clean =
     let sound : c.in_ok-table-2.field-0 ≡ None = search rules in
     let m = c.in-Some.meta in
     let meta = subst (λ (db : Database). IsMetaOf n db (Some m)) (sym (last ∙ middle)) (rw c.in-Some.is at (c.in_ok-meta.ensures.reported early)) in
-    let all = subst (λ (db : Database). ToldInOrder n db None) (sym last) (rw right at (c.in_ok-table.ensures.reported later)) in
+    let all = subst (λ (db : Database). ReportedInOrder n db None) (sym last) (rw right at (c.in_ok-table.ensures.reported later)) in
     let found = rw sound at (c.in_ok-table-2.ensures.reported clean) in
     sound_vault n (state g.S.Store c.look_again.new.conn).now m all.0 (c.check_ties.ensures same.is_open all.0) meta ((all.1 Entries).1 m meta) found

@@ -4,7 +4,7 @@ use Rattle.sqlite.specs.State.{HasCleanDisk}
 use Rattle.vault_audit_walk.specs.Health.{Asks}
 use Rattle.sqlite.specs.Given.{IsPlain}
 use Rattle.sqlite.specs.Listing.{understood}
-use Rattle.vault_audit_records.proofs.RuleTellLemmas.{buckets_if_ok}
+use Rattle.vault_audit_records.proofs.RuleDecisionLemmas.{buckets_if_ok}
 use Rattle.vault_audit_records.proofs.RuleTextLemmas.{buckets_walk, buckets_walk_plain, buckets_walk_asks}
 use Rattle.vault_audit_records.proofs.buckets.are_buckets.Goals as goal
 

@@ -7,8 +7,8 @@ use Rattle.sqlite.specs.Listing.{understood}
 use Rattle.vault_core_model.specs.Vault.{Vault}
 use Rattle.vault_audit_model.specs.Spells.{AreSoundAs}
 use Rattle.vault_audit_records.proofs.DamageLemmas.{refused_if_ok}
-use Rattle.vault_audit_records.specs.ByName.{TellCallers}
-use Rattle.vault_audit_records.proofs.NameTellLemmas.{callers_if_ok, no_callers}
+use Rattle.vault_audit_records.specs.ByName.{DecidesCallers}
+use Rattle.vault_audit_records.proofs.NameDecisionLemmas.{callers_if_ok, no_callers}
 use Rattle.vault_audit_records.proofs.NameTextLemmas.{callers_walk, callers_walk_plain, callers_walk_asks}
 use Rattle.vault_audit_records.proofs.callers.check_callers_by_name.Goals as goal
 
@@ -23,7 +23,7 @@ returns-clause-reported g c clean =
 pub returns-clause-damaged : goal.returns-clause-damaged
 returns-clause-damaged g c clean =
     let db = (state g.S.Store c.walk.new.conn).now in
-    refused_if_ok (TellCallers db) ((v : Vault) → ¬ AreSoundAs c.args.edition db v) (λ none v. (no_callers c.args.edition) db v none) c.walk.result (returns-clause-reported g c clean)
+    refused_if_ok (DecidesCallers db) ((v : Vault) → ¬ AreSoundAs c.args.edition db v) (λ none v. (no_callers c.args.edition) db v none) c.walk.result (returns-clause-reported g c clean)
 
 pub returns-clause-err : goal.returns-clause-err
 returns-clause-err g c well = c.walk.ensures.err well (λ clean. subst (λ s. Asks s callers_walk) (sym (c.requires clean)) (callers_walk_asks c.args.edition))

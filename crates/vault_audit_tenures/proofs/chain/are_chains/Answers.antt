@@ -4,7 +4,7 @@ use Rattle.sqlite.specs.State.{HasCleanDisk}
 use Rattle.vault_audit_walk.specs.Health.{Asks, IsMemory}
 use Rattle.sqlite.specs.Given.{IsPlain}
 use Rattle.sqlite.specs.Listing.{understood}
-use Rattle.vault_audit_tenures.proofs.TellLemmas.{chains_yes, chains_no}
+use Rattle.vault_audit_tenures.proofs.DecisionLemmas.{chains_yes, chains_no}
 use Rattle.vault_audit_tenures.proofs.TenureTextLemmas.{chain_text, chain_plain, chain_asks}
 use Rattle.vault_audit_tenures.proofs.chain.are_chains.Goals as goal
 

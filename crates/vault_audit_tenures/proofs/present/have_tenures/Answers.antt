@@ -4,7 +4,7 @@ use Rattle.sqlite.specs.State.{HasCleanDisk}
 use Rattle.vault_audit_walk.specs.Health.{Asks}
 use Rattle.sqlite.specs.Given.{IsPlain}
 use Rattle.sqlite.specs.Listing.{understood}
-use Rattle.vault_audit_tenures.proofs.TellLemmas.{presence_if_ok}
+use Rattle.vault_audit_tenures.proofs.DecisionLemmas.{presence_if_ok}
 use Rattle.vault_audit_tenures.proofs.TenureTextLemmas.{tenures_beside, tenures_beside_is, tenures_beside_asks}
 use Rattle.vault_audit_tenures.proofs.present.have_tenures.Goals as goal
 

@@ -22,7 +22,7 @@ loop-timed-preserved g c = record {
       rw (take_more c.args.commands.now c.loop-timed.timed-index c.timed-item.result lt, ← c.timed-item.is, c.in_ok-push.ensures.items)
       (IsRun-push _ _ _ _ _ c.timed-item.result c.step-reply.result (c.loop-timed.invariant.so_far (c.step-reply.ensures.leaves.honest h)) (c.step-reply.ensures.step h));
   room = search rules;
-  told = search rules;
+  stated = search rules;
   counted = c.step-reply.ensures.leaves.counted ∙ (ap (λ n. count_after n (is_device_reply c.step-reply.result)) c.loop-timed.invariant.counted
       ∙ (sym (count_after_push (g.K.Kept.count c.args.keeper.now) c.loop-timed.replies.items c.step-reply.result) ∙ sym (ap (count_after_all (g.K.Kept.count c.args.keeper.now)) c.in_ok-push.ensures.items)));
 }

@@ -9,6 +9,6 @@ invariant-loop-timed g l = record {
   honest : g.K.Kept.is_honest l.keeper → g.K.Kept.is_honest l.fn.keeper;
   so_far : g.K.Kept.is_honest l.keeper → IsRun (g.K.Kept.vault l.fn.keeper) (take l.timed-index l.commands) l.replies.items (g.K.Kept.vault l.keeper);
   room : length l.commands ≤ vec_capacity l.replies;
-  told : vec_len l.replies ≡ l.timed-index;
+  stated : vec_len l.replies ≡ l.timed-index;
   counted : g.K.Kept.count l.keeper ≡ count_after_all (g.K.Kept.count l.fn.keeper) l.replies.items;
 }

@@ -21,8 +21,8 @@ loop-cells-preserved g c = record {
 
 pub returns-in-Err-clause-taken : goal.returns-in-Err-clause-taken
 returns-in-Err-clause-taken g c = λ h.
-    let told = c.in-Err.ensures.err h in
-    row-stops _ _ _ _ _ c.args.below.now c.loop-cells.cells-index c.cells-item.result _ _ _ _ _ _ c.loop-cells-test.true c.cells-item.is (c.loop-cells.invariant.so_far (c.take_next.ensures.honest h)) told.0 told.1 told.2
+    let stated = c.in-Err.ensures.err h in
+    row-stops _ _ _ _ _ c.args.below.now c.loop-cells.cells-index c.cells-item.result _ _ _ _ _ _ c.loop-cells-test.true c.cells-item.is (c.loop-cells.invariant.so_far (c.take_next.ensures.honest h)) stated.0 stated.1 stated.2
 
 pub returns-then-above-clause-taken : goal.returns-then-above-clause-taken
 returns-then-above-clause-taken g c = λ h.

@@ -11,10 +11,10 @@ returns-clause-done g c clean =
     let old = state g.S.Store c.args.conn.now in
     let new = state g.S.Store c.commit_part.new.conn in
     on_ok_then (Changes old new c.args.at (change.AddCaller c.args.caller.now)) c.commit_part.result (c.commit_part.ensures.done clean)
-    (λ told v was later allowed. told.1 v (change.AddCaller c.args.caller.now) told.0.0 told.0.1 was later allowed (λ is_open xs u. refl))
+    (λ stated v was later allowed. stated.1 v (change.AddCaller c.args.caller.now) stated.0.0 stated.0.1 was later allowed (λ is_open xs u. refl))
 
 pub returns-clause-crash : goal.returns-clause-crash
 returns-clause-crash g c =
     let old = state g.S.Store c.args.conn.now in
     let new = state g.S.Store c.commit_part.new.conn in
-    survives_weaker old new _ _ (λ late trees told v was later allowed. told.1 v (change.AddCaller c.args.caller.now) told.0.0 told.0.1 was later allowed (λ is_open xs u. refl)) c.commit_part.ensures.crash
+    survives_weaker old new _ _ (λ late trees stated v was later allowed. stated.1 v (change.AddCaller c.args.caller.now) stated.0.0 stated.0.1 was later allowed (λ is_open xs u. refl)) c.commit_part.ensures.crash

@@ -1,6 +1,6 @@
 use Rattle.sqlite.specs.Files.{file_state}
 use Rattle.sqlite_wal.specs.Files.{image_at}
-use Rattle.vault_audit.specs.Whole.{IsTold}
+use Rattle.vault_audit.specs.Whole.{IsReported}
 use Rattle.vault_audit_model.specs.Editions.{newest}
 use Rattle.vaultctl_machine.proofs.FoundLemmas.{was_clean, was_sound, found_in_files, held_in_files}
 use Rattle.vaultctl_machine.proofs.OpeningLemmas.{opened_still}
@@ -27,7 +27,7 @@ returns-in-Ok-clause-opened g c clean =
     opened_still (image_at g.S.Start) _ _ is.0 is.1 (c.requires.found before) (c.in-Ok.ensures.same clean)
 
 pub returns-clause-reported : goal.returns-clause-reported
-returns-clause-reported g c = reports_as IsTold c.refused.result c.in-Err.refusal c.refused.ensures.refusal c.refused.ensures.failure c.in-Err.ensures.reported
+returns-clause-reported g c = reports_as IsReported c.refused.result c.in-Err.refusal c.refused.ensures.refusal c.refused.ensures.failure c.in-Err.ensures.reported
 
 pub returns-clause-lost : goal.returns-clause-lost
 returns-clause-lost g c =

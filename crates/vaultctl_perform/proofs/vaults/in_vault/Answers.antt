@@ -10,7 +10,7 @@ pub returns-in-Ok-clause-printed : goal.returns-in-Ok-clause-printed
 returns-in-Ok-clause-printed g c = λ z.
     let before = g.W.Write.contents c.args.out.now in
     let after = g.W.Write.contents c.with_vault-outcome.new.out in
-    holds_at_zero (λ outcome. g.T.Work.tells outcome before after) c.with_vault-outcome.result c.with_vault-outcome.ensures.printed (sym c.status-ended.ensures.outcome ∙ z)
+    holds_at_zero (λ outcome. g.T.Work.prints outcome before after) c.with_vault-outcome.result c.with_vault-outcome.ensures.printed (sym c.status-ended.ensures.outcome ∙ z)
 
 pub returns-in-Ok-clause-done : goal.returns-in-Ok-clause-done
 returns-in-Ok-clause-done g c = λ z.

@@ -5,7 +5,7 @@ pub returns-clause-err : goal.returns-clause-err
 returns-clause-err g c =
     let before = c.args.keeper.now in
     let step = c.step-reply in
-    on_err c.told.result
+    on_err c.stated.result
     (command_unwritten _ (g.K.Kept.vault before) (g.K.Kept.vault step.new.keeper) (g.K.Kept.count before) (g.K.Kept.count step.new.keeper) c.args.timed step.result
     step.ensures.step step.ensures.leaves.counted)
 
@@ -14,4 +14,4 @@ returns-clause-ok g c =
     let before = c.args.keeper.now in
     let step = c.step-reply in
     command_replied _ (g.K.Kept.vault before) (g.K.Kept.vault step.new.keeper) (g.K.Kept.count before) (g.K.Kept.count step.new.keeper) c.args.timed step.result
-    step.ensures.step step.ensures.leaves.counted c.told.result c.told.ensures
+    step.ensures.step step.ensures.leaves.counted c.stated.result c.stated.ensures

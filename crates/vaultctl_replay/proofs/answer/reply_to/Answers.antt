@@ -8,8 +8,8 @@ use Rattle.vaultctl_replay.proofs.answer.reply_to.Goals as goal
 pub returns-in-Refused-clause-ok : goal.returns-in-Refused-clause-ok
 returns-in-Refused-clause-ok g c =
     let now = c.args.keeper.now in
-    let P : Line → Type 0 = λ a. IfOk c.told.result (λ reply. Replied (g.K.Kept.is_honest now) (g.K.Kept.vault now) (g.K.Kept.count now) a (string_bytes reply) (g.K.Kept.vault now) (g.K.Kept.count now)) in
-    subst P (sym c.in-Refused.is) (refusal_replied (g.K.Kept.is_honest now) (g.K.Kept.vault now) (g.K.Kept.count now) c.in-Refused.refusal c.told.result c.told.ensures)
+    let P : Line → Type 0 = λ a. IfOk c.stated.result (λ reply. Replied (g.K.Kept.is_honest now) (g.K.Kept.vault now) (g.K.Kept.count now) a (string_bytes reply) (g.K.Kept.vault now) (g.K.Kept.count now)) in
+    subst P (sym c.in-Refused.is) (refusal_replied (g.K.Kept.is_honest now) (g.K.Kept.vault now) (g.K.Kept.count now) c.in-Refused.refusal c.stated.result c.stated.ensures)
 
 pub returns-in-Command-clause-err : goal.returns-in-Command-clause-err
 returns-in-Command-clause-err g c =

@@ -4,10 +4,10 @@ use Rattle.vaultctl_work.proofs.IntakeLemmas.{steady_by}
 use Rattle.vaultctl_work.proofs.intake.take_in_at.Goals as goal
 
 pub returns-clause-steady : goal.returns-clause-steady
-returns-clause-steady g c = let s = c.take_in_and_tell-told.ensures.steady in steady_by _ _ _ _ _ s.0 s.1 s.3 s.5
+returns-clause-steady g c = let s = c.take_in_and_print-stated.ensures.steady in steady_by _ _ _ _ _ s.0 s.1 s.3 s.5
 
 pub returns-clause-printed : goal.returns-clause-printed
-returns-clause-printed g c = IfOk-weaker c.take_in_and_tell-told.result.0 _ _ (λ told it. inl it) c.take_in_and_tell-told.ensures.printed
+returns-clause-printed g c = IfOk-weaker c.take_in_and_print-stated.result.0 _ _ (λ stated it. inl it) c.take_in_and_print-stated.ensures.printed
 
 pub returns-clause-done : goal.returns-clause-done
-returns-clause-done g c = λ h. IfOk-weaker c.take_in_and_tell-told.result.0 _ _ (λ told it. (None, c.args.delivery.list.now, it)) (c.take_in_and_tell-told.ensures.ok h)
+returns-clause-done g c = λ h. IfOk-weaker c.take_in_and_print-stated.result.0 _ _ (λ stated it. (None, c.args.delivery.list.now, it)) (c.take_in_and_print-stated.ensures.ok h)

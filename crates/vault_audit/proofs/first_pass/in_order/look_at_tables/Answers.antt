@@ -6,7 +6,7 @@ use Rattle.sqlite.proofs.Callers.{unchanged_then}
 use Rattle.vault_base.specs.declared.refusal.Table.TheVariants.{Meta}
 use Rattle.vault_audit_model.specs.Order.{place_of}
 use Rattle.vault_audit_walk.proofs.ScanLemmas.{still}
-use Rattle.vault_audit.proofs.OrderLemmas.{AreRightTo, Differs, IsFrom, all_right, at_table, begin_at, begin_meta, behind_meta, from_behind, from_next, is_not, meta_right, no_difference, place_behind, right_more, right_row, survives_itself, survives_more, told_by_form, told_by_rows}
+use Rattle.vault_audit.proofs.OrderLemmas.{AreRightTo, Differs, IsFrom, all_right, at_table, begin_at, begin_meta, behind_meta, from_behind, from_next, is_not, meta_right, no_difference, place_behind, right_more, right_row, survives_itself, survives_more, stated_by_form, stated_by_rows}
 use Rattle.vault_audit.proofs.first_pass.in_order.look_at_tables.Goals as goal
 
 pub loop-table-init : goal.loop-table-init
@@ -73,7 +73,7 @@ returns-then-is_at-clause-reported g c clean =
     let start : HasCleanDisk old = omega (arith, was.0.clean) in
     let before = was.2 clean in
     let differs = subst (λ (db : Database). Differs n db.schema d) (sym before.0.0.now_is) (c.requires.difference start) in
-    told_by_form n mid.now t (λ u less. before.1 u (omega (arith, here, less))) (at_table n mid.now.schema d t (c.is_at.ensures.0 c.if-is_at.true) differs)
+    stated_by_form n mid.now t (λ u less. before.1 u (omega (arith, here, less))) (at_table n mid.now.schema d t (c.is_at.ensures.0 c.if-is_at.true) differs)
 
 pub returns-then-not-right-clause-reported : goal.returns-then-not-right-clause-reported
 returns-then-not-right-clause-reported g c clean =
@@ -87,7 +87,7 @@ returns-then-not-right-clause-reported g c clean =
     let one = c.in_ok-right.ensures.look.same clean in
     let wrong : c.in_ok-right.right ≡ false = c.if-not-right.true in
     let so_far = subst (λ (db : Database). AreRightTo n db place) (sym one.0.now_is) (c.loop-table.invariant.2 early).1 in
-    told_by_rows n new.now t (λ u less. so_far u (omega (arith, here, less))) (rw wrong at (c.in_ok-right.ensures.reported clean)) (c.in_ok-right.ensures.damaged clean wrong)
+    stated_by_rows n new.now t (λ u less. so_far u (omega (arith, here, less))) (rw wrong at (c.in_ok-right.ensures.reported clean)) (c.in_ok-right.ensures.damaged clean wrong)
 
 pub returns-clause-reported : goal.returns-clause-reported
 returns-clause-reported g c clean =

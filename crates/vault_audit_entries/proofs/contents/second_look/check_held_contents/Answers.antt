@@ -3,7 +3,7 @@ use Rattle.sqlite.specs.Effect.{Database}
 use Rattle.sqlite.specs.Held.{state}
 use Rattle.sqlite.specs.State.{HasCleanDisk}
 use Rattle.vault_audit_model.specs.Relations.{AreEntries}
-use Rattle.vault_audit_entries.specs.Contents.{TellOfHeld}
+use Rattle.vault_audit_entries.specs.Contents.{DecidesHeld}
 use Rattle.vault_audit_entries.proofs.ContentSoundLemmas.{decided, unsound}
 use Rattle.vault_audit_entries.proofs.contents.second_look.check_held_contents.Goals as goal
 
@@ -20,8 +20,8 @@ returns-clause-reported g c clean es are =
     let db : new ≡ old = (c.in_ok-held.ensures.look.same clean).0.now_is in
     let some : c.in_ok-count.field-0 ≡ Some c.in-Some.count = search rules in
     let before : AreEntries old es = subst (λ (d : Database). AreEntries d es) db are in
-    let told : TellOfHeld old es (Some c.in-Some.count) = rw some at (c.in_ok-count.ensures.reported early es before) in
-    decided new es are c.in_ok-held.held.versions c.in-Some.count (c.in_ok-held.ensures.reported clean es are).1 (subst (λ (d : Database). TellOfHeld d es (Some c.in-Some.count)) (sym db) told)
+    let stated : DecidesHeld old es (Some c.in-Some.count) = rw some at (c.in_ok-count.ensures.reported early es before) in
+    decided new es are c.in_ok-held.held.versions c.in-Some.count (c.in_ok-held.ensures.reported clean es are).1 (subst (λ (d : Database). DecidesHeld d es (Some c.in-Some.count)) (sym db) stated)
 
 pub returns-clause-damaged : goal.returns-clause-damaged
 returns-clause-damaged g c clean same v = (unsound c.args.edition) (state g.S.Store c.count_held.new.conn).now (λ es are. rw same at (returns-clause-reported g c clean es are)) v

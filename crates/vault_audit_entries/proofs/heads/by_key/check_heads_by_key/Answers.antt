@@ -5,7 +5,7 @@ use Rattle.vault_audit_walk.specs.Health.{Asks, IsMemory}
 use Rattle.sqlite.specs.Given.{IsPlain}
 use Rattle.sqlite.specs.Listing.{understood}
 use Rattle.vault_audit_entries.proofs.CurrentLemmas.{unsound}
-use Rattle.vault_audit_entries.proofs.HeadTellLemmas.{heads_yes, heads_no}
+use Rattle.vault_audit_entries.proofs.HeadDecisionLemmas.{heads_yes, heads_no}
 use Rattle.vault_audit_entries.proofs.HeadTextLemmas.{heads_walk, heads_walk_plain, heads_walk_asks}
 use Rattle.vault_audit_entries.proofs.heads.by_key.check_heads_by_key.Goals as goal
 

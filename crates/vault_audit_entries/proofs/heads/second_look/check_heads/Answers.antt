@@ -4,7 +4,7 @@ use Rattle.sqlite.specs.Held.{state}
 use Rattle.vault_audit_model.specs.Relations.{AreEntries}
 use Rattle.vault_audit_model.specs.Rows.{head_row, head_columns}
 use Rattle.vault_audit_model.specs.Tables.{heads_tree}
-use Rattle.vault_audit_entries.specs.Heads.{TellHeadsByKey}
+use Rattle.vault_audit_entries.specs.Heads.{DecidesHeadsByKey}
 use Rattle.vault_audit_entries.specs.Keys.{entries_of}
 use Rattle.vault_audit_entries.proofs.HeadsOfKeysLemmas.{no_by_key, no_counts, decided, unsound}
 use Rattle.vault_audit_entries.proofs.heads.second_look.check_heads.Goals as goal
@@ -17,7 +17,7 @@ returns-in_default-clause-reported g c clean v are =
 pub returns-then-not-counted-clause-reported : goal.returns-then-not-counted-clause-reported
 returns-then-not-counted-clause-reported g c clean v are =
     let missed : c.in_ok-counted.counted ≡ false = search rules in
-    no_counts (state g.S.Store c.check_counts.new.conn).now v are (λ hs tell. rw missed at (c.in_ok-counted.ensures.reported clean (entries_of v) hs are tell))
+    no_counts (state g.S.Store c.check_counts.new.conn).now v are (λ hs decides. rw missed at (c.in_ok-counted.ensures.reported clean (entries_of v) hs are decides))
 
 pub returns-then-not-counted-clause-damaged : goal.returns-then-not-counted-clause-damaged
 returns-then-not-counted-clause-damaged g c clean same v = (unsound c.args.edition) (state g.S.Store c.check_counts.new.conn).now (returns-then-not-counted-clause-reported g c clean) v
@@ -32,7 +32,7 @@ returns-clause-reported g c clean v are =
     let some : c.in_ok-total.field-0 ≡ Some c.in-Some.total = search rules in
     let counted : c.in_ok-counted.counted ≡ true = search rules in
     let first = rw some at (c.in_ok-total.ensures.reported early es (subst (λ db. AreEntries db es) (last ∙ middle) are)) in
-    let found = subst (λ db. TellHeadsByKey db es (Some c.in-Some.total)) (sym (last ∙ middle)) first in
+    let found = subst (λ db. DecidesHeadsByKey db es (Some c.in-Some.total)) (sym (last ∙ middle)) first in
     let counts = rw counted at (c.in_ok-counted.ensures.reported later es found.0 (subst (λ db. AreEntries db es) last are) (subst (λ db. IsPermutation (map head_row found.0) (map head_columns (db.trees heads_tree))) last found.1.0)) in
     decided (state g.S.Store c.count_held.new.conn).now v are c.in_ok-held.held.entries c.in-Some.total (c.in_ok-held.ensures.reported clean es are).0 found.0 (found.1, counts) found.2
 

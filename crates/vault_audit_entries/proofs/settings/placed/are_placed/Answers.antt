@@ -4,7 +4,7 @@ use Rattle.sqlite.specs.State.{HasCleanDisk}
 use Rattle.vault_audit_walk.specs.Health.{Asks}
 use Rattle.sqlite.specs.Given.{IsPlain}
 use Rattle.sqlite.specs.Listing.{understood}
-use Rattle.vault_audit_entries.proofs.SettingTellLemmas.{places_if_ok}
+use Rattle.vault_audit_entries.proofs.SettingDecisionLemmas.{places_if_ok}
 use Rattle.vault_audit_entries.proofs.SettingTextLemmas.{placed_walk, placed_walk_plain, placed_walk_asks}
 use Rattle.vault_audit_entries.proofs.settings.placed.are_placed.Goals as goal
 

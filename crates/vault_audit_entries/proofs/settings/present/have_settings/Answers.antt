@@ -4,7 +4,7 @@ use Rattle.sqlite.specs.State.{HasCleanDisk}
 use Rattle.vault_audit_walk.specs.Health.{Asks}
 use Rattle.sqlite.specs.Given.{IsPlain}
 use Rattle.sqlite.specs.Listing.{understood}
-use Rattle.vault_audit_entries.proofs.SettingTellLemmas.{presence_if_ok}
+use Rattle.vault_audit_entries.proofs.SettingDecisionLemmas.{presence_if_ok}
 use Rattle.vault_audit_entries.proofs.SettingTextLemmas.{settings_beside, settings_beside_is, settings_beside_asks}
 use Rattle.vault_audit_entries.proofs.settings.present.have_settings.Goals as goal
 

@@ -2,8 +2,8 @@ use Rattle.std.proofs.Common.{◌≡◌, true, false, ap, subst, ◌∙◌, rule
 use Rattle.sqlite.specs.Effect.{Database}
 use Rattle.sqlite.specs.Held.{state}
 use Rattle.sqlite.specs.State.{HasCleanDisk}
-use Rattle.vault_audit_entries.specs.SettingPlaces.{TellPlaces, TellPresence}
-use Rattle.vault_audit_entries.proofs.SettingTellLemmas.{not_placed, not_present, told, unsound}
+use Rattle.vault_audit_entries.specs.SettingPlaces.{DecidesPlaces, DecidesPresence}
+use Rattle.vault_audit_entries.proofs.SettingDecisionLemmas.{not_placed, not_present, stated, unsound}
 use Rattle.vault_audit_entries.proofs.SettingOwnerLemmas.{have_owners}
 use Rattle.vault_audit_entries.proofs.settings.second_look.check_history_of_settings.Goals as goal
 
@@ -11,7 +11,7 @@ pub returns-then-not-placed-clause-reported : goal.returns-then-not-placed-claus
 returns-then-not-placed-clause-reported g c clean =
     let db = (state g.S.Store c.are_placed.new.conn).now in
     let no : c.in_ok-placed.placed ≡ false = search rules in
-    λ es are. not_placed db es are (subst (TellPlaces db) no (c.in_ok-placed.ensures.reported clean))
+    λ es are. not_placed db es are (subst (DecidesPlaces db) no (c.in_ok-placed.ensures.reported clean))
 
 pub returns-then-not-placed-clause-damaged : goal.returns-then-not-placed-clause-damaged
 returns-then-not-placed-clause-damaged g c clean same = (unsound c.args.edition) (state g.S.Store c.are_placed.new.conn).now (returns-then-not-placed-clause-reported g c clean)
@@ -20,7 +20,7 @@ pub returns-then-not-present-clause-reported : goal.returns-then-not-present-cla
 returns-then-not-present-clause-reported g c clean =
     let db = (state g.S.Store c.have_settings.new.conn).now in
     let no : c.in_ok-present.present ≡ false = search rules in
-    λ es are. not_present db es are (subst (TellPresence db) no (c.in_ok-present.ensures.reported clean))
+    λ es are. not_present db es are (subst (DecidesPresence db) no (c.in_ok-present.ensures.reported clean))
 
 pub returns-then-not-present-clause-damaged : goal.returns-then-not-present-clause-damaged
 returns-then-not-present-clause-damaged g c clean same = (unsound c.args.edition) (state g.S.Store c.have_settings.new.conn).now (returns-then-not-present-clause-reported g c clean)
@@ -35,5 +35,5 @@ returns-clause-reported g c clean =
     let present : c.in_ok-present.present ≡ true = search rules in
     let same = c.in_ok-present.ensures.look.same clean in
     let schema = ap (λ (db : Database). db.schema) (same.0.now_is ∙ (c.in_ok-placed.ensures.look.same early).0.now_is) ∙ c.requires first in
-    told before after same (subst (TellPlaces before.now) placed (c.in_ok-placed.ensures.reported early)) (subst (TellPresence after.now) present (c.in_ok-present.ensures.reported clean))
+    stated before after same (subst (DecidesPlaces before.now) placed (c.in_ok-placed.ensures.reported early)) (subst (DecidesPresence after.now) present (c.in_ok-present.ensures.reported clean))
     (have_owners c.args.edition after.now (c.check_ties.ensures same.0.is_open schema))

@@ -8,8 +8,8 @@ use Rattle.vault_core_model.specs.Vault.{Vault}
 use Rattle.vault_audit_model.specs.Spells.{AreSoundAs}
 use Rattle.vault_audit_records.proofs.DamageLemmas.{refused_if_ok}
 use Rattle.vault_audit_records.specs.DepartmentsWalk.{departments_walk}
-use Rattle.vault_audit_records.specs.ByName.{TellDepartments}
-use Rattle.vault_audit_records.proofs.NameTellLemmas.{departments_if_ok, no_departments}
+use Rattle.vault_audit_records.specs.ByName.{DecidesDepartments}
+use Rattle.vault_audit_records.proofs.NameDecisionLemmas.{departments_if_ok, no_departments}
 use Rattle.vault_audit_records.proofs.NameTextLemmas.{departments_walk_plain, departments_walk_asks}
 use Rattle.vault_audit_records.proofs.departments.by_name.check_departments_by_name.Goals as goal
 
@@ -24,7 +24,7 @@ returns-clause-reported g c clean =
 pub returns-clause-damaged : goal.returns-clause-damaged
 returns-clause-damaged g c clean =
     let db = (state g.S.Store c.walk.new.conn).now in
-    refused_if_ok (TellDepartments c.args.edition db) ((v : Vault) → ¬ AreSoundAs c.args.edition db v) (λ none v. (no_departments c.args.edition) db v none) c.walk.result (returns-clause-reported g c clean)
+    refused_if_ok (DecidesDepartments c.args.edition db) ((v : Vault) → ¬ AreSoundAs c.args.edition db v) (λ none v. (no_departments c.args.edition) db v none) c.walk.result (returns-clause-reported g c clean)
 
 pub returns-clause-err : goal.returns-clause-err
 returns-clause-err g c well = c.walk.ensures.err well (λ clean. rw c.departments_walk.ensures (subst (λ s. Asks s (departments_walk c.args.edition)) (sym (c.requires clean)) (departments_walk_asks c.args.edition)))

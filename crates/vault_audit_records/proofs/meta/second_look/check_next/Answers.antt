@@ -4,8 +4,8 @@ use Rattle.vault_audit_walk.specs.Health.{Asks, IsMemory}
 use Rattle.sqlite.specs.Held.{state}
 use Rattle.sqlite.specs.Given.{IsPlain}
 use Rattle.sqlite.specs.Listing.{understood}
-use Rattle.vault_audit_records.specs.MetaCount.{TellNext}
-use Rattle.vault_audit_records.proofs.MetaCountLemmas.{ids_text, ids_scan, ids_asks, all_counted, next_of, told}
+use Rattle.vault_audit_records.specs.MetaCount.{DecidesNext}
+use Rattle.vault_audit_records.proofs.MetaCountLemmas.{ids_text, ids_scan, ids_asks, all_counted, next_of, stated}
 use Rattle.vault_audit_records.proofs.meta.second_look.check_next.Goals as goal
 
 pub walk-requires : goal.walk-requires
@@ -15,11 +15,11 @@ pub returns-clause-reported : goal.returns-clause-reported
 returns-clause-reported g c clean =
     let early : HasCleanDisk (state g.S.Store c.args.conn.now) = omega (arith, c.in_ok-_whole.ensures.look.crash.clean) in
     let all = (all_counted c.args.edition) (state g.S.Store c.args.conn.now) (state g.S.Store c.walk.new.conn) (c.requires early) (c.in_ok-_whole.ensures.look.same clean) (record { count = 0 }) c.walk.new.pass c.in_ok-_whole._whole (c.in_ok-_whole.ensures.walked clean) in
-    told (state g.S.Store c.walk.new.conn).now c.walk.new.pass.count c.args.next (omega (arith, all)) (search rules)
+    stated (state g.S.Store c.walk.new.conn).now c.walk.new.pass.count c.args.next (omega (arith, all)) (search rules)
 
 pub returns-clause-damaged : goal.returns-clause-damaged
 returns-clause-damaged g c clean missed m is next v it =
-    subst (TellNext (state g.S.Store c.walk.new.conn).now c.args.next) missed (returns-clause-reported g c clean) (sym next ∙ (next_of c.args.edition) (state g.S.Store c.walk.new.conn).now v m is it)
+    subst (DecidesNext (state g.S.Store c.walk.new.conn).now c.args.next) missed (returns-clause-reported g c clean) (sym next ∙ (next_of c.args.edition) (state g.S.Store c.walk.new.conn).now v m is it)
 
 pub returns-then-next-eq0-clause-damaged : goal.returns-then-next-eq0-clause-damaged
 returns-then-next-eq0-clause-damaged g c clean missed m is next v it =

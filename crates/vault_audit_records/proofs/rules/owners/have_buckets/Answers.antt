@@ -4,7 +4,7 @@ use Rattle.sqlite.specs.State.{HasCleanDisk}
 use Rattle.vault_audit_walk.specs.Health.{Asks}
 use Rattle.sqlite.specs.Given.{IsPlain}
 use Rattle.sqlite.specs.Listing.{understood}
-use Rattle.vault_audit_records.proofs.RuleTellLemmas.{owners_if_ok}
+use Rattle.vault_audit_records.proofs.RuleDecisionLemmas.{owners_if_ok}
 use Rattle.vault_audit_records.proofs.RuleTextLemmas.{buckets_beside, buckets_beside_is, buckets_beside_asks}
 use Rattle.vault_audit_records.proofs.rules.owners.have_buckets.Goals as goal
 

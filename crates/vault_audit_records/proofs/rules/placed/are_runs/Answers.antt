@@ -4,7 +4,7 @@ use Rattle.sqlite.specs.State.{HasCleanDisk}
 use Rattle.vault_audit_walk.specs.Health.{Asks, IsMemory}
 use Rattle.sqlite.specs.Given.{IsPlain}
 use Rattle.sqlite.specs.Listing.{understood}
-use Rattle.vault_audit_records.proofs.RuleTellLemmas.{rules_stopped, rules_closed}
+use Rattle.vault_audit_records.proofs.RuleDecisionLemmas.{rules_stopped, rules_closed}
 use Rattle.vault_audit_records.proofs.RuleTextLemmas.{rules_walk_plain, rules_walk_asks}
 use Rattle.vault_audit_records.proofs.rules.placed.are_runs.Goals as goal
 use Rattle.vault_audit_records.specs.RulesWalk.{rules_walk}

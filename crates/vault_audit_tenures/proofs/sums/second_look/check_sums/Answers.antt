@@ -4,7 +4,7 @@ use Rattle.sqlite.specs.State.{State, HasCleanDisk, IsUnchanged}
 use Rattle.sqlite.specs.Held.{state}
 use Rattle.vault_core_model.specs.Vault.{Vault}
 use Rattle.vault_audit_model.specs.declared.schema.Edition.{Edition}
-use Rattle.vault_audit_model.specs.Relations.{AreBuckets, AreEntries, AreTenuresOf, IsPast, TellSums}
+use Rattle.vault_audit_model.specs.Relations.{AreBuckets, AreEntries, AreTenuresOf, IsPast, DecidesSums}
 use Rattle.vault_audit_model.specs.Rows.{department_row, department_columns_as}
 use Rattle.vault_audit_model.specs.Spells.{AreSoundAs, entries_in}
 use Rattle.vault_audit_model.specs.Tables.{departments_tree}
@@ -13,18 +13,18 @@ use Rattle.vault_audit_walk.specs.Records.{AreRecords}
 use Rattle.vault_audit_tenures.specs.declared.sums.totals.Totals.{Totals}
 use Rattle.vault_audit_tenures.specs.DepartmentSums.{HasTotal}
 use Rattle.vault_audit_tenures.specs.Totals.{AreTotals}
-use Rattle.vault_audit_tenures.proofs.DepartmentSumLemmas.{table_told, no_sums}
+use Rattle.vault_audit_tenures.proofs.DepartmentSumLemmas.{table_stated, no_sums}
 use Rattle.vault_audit_tenures.proofs.sums.second_look.check_sums.Goals as goal
 
--- what is told beside the totals is told of the table
+-- what is reported beside the totals is said of the table
 of_table : {E : Type 0} (n : Edition) (r : Result Bool E) (a b : State) (t : Totals) → OnOk r (IsUnchanged a b)
     → ((v : Vault) → AreBuckets n a.now v.buckets → AreEntries a.now (entries_in v.histories) → AllByRecursion (IsPast v.last) (entries_in v.histories) → AreTenuresOf n a.now v → AreTotals v.histories t)
     → IfOk r (AreRecords department_row (HasTotal t) (map (department_columns_as n) (b.now.trees departments_tree)))
-    → IfOk r (λ hold. (v : Vault) → AreBuckets n b.now v.buckets → AreEntries b.now (entries_in v.histories) → AllByRecursion (IsPast v.last) (entries_in v.histories) → AreTenuresOf n b.now v → TellSums n b.now v.histories hold)
-of_table n (Ok hold) a b t same totals told = λ v buckets entries past tenures.
+    → IfOk r (λ hold. (v : Vault) → AreBuckets n b.now v.buckets → AreEntries b.now (entries_in v.histories) → AllByRecursion (IsPast v.last) (entries_in v.histories) → AreTenuresOf n b.now v → DecidesSums n b.now v.histories hold)
+of_table n (Ok hold) a b t same totals stated = λ v buckets entries past tenures.
     let before = subst (λ db. AreBuckets n db v.buckets × AreEntries db (entries_in v.histories) × AreTenuresOf n db v) same.0.now_is (buckets, entries, tenures) in
-    table_told v.histories t (totals v before.0 before.1 past before.2) n b.now hold told
-of_table n (Err e) a b t same totals told = tt
+    table_stated v.histories t (totals v before.0 before.1 past before.2) n b.now hold stated
+of_table n (Err e) a b t same totals stated = tt
 
 pub returns-in_default-clause-reported : goal.returns-in_default-clause-reported
 returns-in_default-clause-reported g c clean v buckets entries past tenures =
@@ -43,5 +43,5 @@ returns-in_default-clause-damaged g c clean same = no_sums c.args.edition (state
 pub returns-clause-damaged : goal.returns-clause-damaged
 returns-clause-damaged g c clean =
     let db = (state g.S.Store c.check_totals.new.conn).now in
-    refused_if_ok (λ hold. (v : Vault) → AreBuckets c.args.edition db v.buckets → AreEntries db (entries_in v.histories) → AllByRecursion (IsPast v.last) (entries_in v.histories) → AreTenuresOf c.args.edition db v → TellSums c.args.edition db v.histories hold)
+    refused_if_ok (λ hold. (v : Vault) → AreBuckets c.args.edition db v.buckets → AreEntries db (entries_in v.histories) → AllByRecursion (IsPast v.last) (entries_in v.histories) → AreTenuresOf c.args.edition db v → DecidesSums c.args.edition db v.histories hold)
     ((v : Vault) → ¬ AreSoundAs c.args.edition db v) (no_sums c.args.edition db) c.check_totals.result (returns-clause-reported g c clean)

@@ -22,12 +22,12 @@ returns-clause-done g c clean =
     let own : c.from-next.result ≡ a.history.entry.id = search rules in
     let it = change.Admit a in
     on_ok_then (Changes old new t it) c.commit_part-admitted.result (c.commit_part-admitted.ensures.done clean)
-    (λ told v was later allowed. told.1 v it told.0.0 (admission_in_limits v t a told.0.0 allowed told.0.1) (c.in_ok-place.ensures.read.same early v was) later allowed
+    (λ stated v was later allowed. stated.1 v it stated.0.0 (admission_in_limits v t a stated.0.0 allowed stated.0.1) (c.in_ok-place.ensures.read.same early v was) later allowed
     (λ is_open.
     let read = c.in_ok-place.ensures.value early v was in
     let kept = c.in_ok-place.ensures.read.same early v was is_open in
     edits_admission v t a c.in_ok-place.place.config c.in_ok-place.place.sums c.with_version-sums.result c.in_ok-place.place.head c.in_ok-newest.newest (c.from-next.result + 1)
-    kept.0.spells.kept.sound later told.0.0 allowed read.0 read.1 (λ version. c.with_version-sums.ensures) read.2 c.in_ok-newest.ensures (ap (λ n. n + 1) own)))
+    kept.0.spells.kept.sound later stated.0.0 allowed read.0 read.1 (λ version. c.with_version-sums.ensures) read.2 c.in_ok-newest.ensures (ap (λ n. n + 1) own)))
 
 pub returns-clause-crash : goal.returns-clause-crash
 returns-clause-crash g c v was =
@@ -39,14 +39,14 @@ returns-clause-crash g c v was =
     let own : c.from-next.result ≡ a.history.entry.id = search rules in
     let it = change.Admit a in
     survives_then old mid new _ _ (IsChanged old v t it) (λ _ trees shut is_open. absurd (shut is_open))
-    (λ late trees told was_open later allowed.
+    (λ late trees stated was_open later allowed.
     let early : HasCleanDisk mid = omega (arith, late, c.commit_part-admitted.ensures.crash.clean) in
-    told.1 v it told.0.0 (admission_in_limits v t a told.0.0 allowed told.0.1) (c.in_ok-place.ensures.read.same early v was) later allowed
+    stated.1 v it stated.0.0 (admission_in_limits v t a stated.0.0 allowed stated.0.1) (c.in_ok-place.ensures.read.same early v was) later allowed
     (λ is_open.
     let read = c.in_ok-place.ensures.value early v was in
     let kept = c.in_ok-place.ensures.read.same early v was is_open in
     edits_admission v t a c.in_ok-place.place.config c.in_ok-place.place.sums c.with_version-sums.result c.in_ok-place.place.head c.in_ok-newest.newest (c.from-next.result + 1)
-    kept.0.spells.kept.sound later told.0.0 allowed read.0 read.1 (λ version. c.with_version-sums.ensures) read.2 c.in_ok-newest.ensures (ap (λ n. n + 1) own)))
+    kept.0.spells.kept.sound later stated.0.0 allowed read.0 read.1 (λ version. c.with_version-sums.ensures) read.2 c.in_ok-newest.ensures (ap (λ n. n + 1) own)))
     (c.in_ok-place.ensures.read.crash v was) c.commit_part-admitted.ensures.crash
 
 pub returns-clause-nothing : goal.returns-clause-nothing

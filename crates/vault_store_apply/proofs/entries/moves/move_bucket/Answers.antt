@@ -23,15 +23,15 @@ returns-clause-done g c clean =
     let load = c.in_ok-load.load in
     let hands = c.in_ok-hands.hands in
     on_ok_then (Changes old new t it) c.commit_part-moved.result (c.commit_part-moved.ensures.done clean)
-    (λ told v was later allowed.
+    (λ stated v was later allowed.
     let was1 = c.in_ok-load.ensures.read.same clean1 v was in
     let was2 = c.in_ok-hands.ensures.read.same clean2 v was1 in
-    told.1 v it told.0.0 told.0.1 was2 later allowed
+    stated.1 v it stated.0.0 stated.0.1 was2 later allowed
     (λ is_open.
     let load_is = c.in_ok-load.ensures.value clean1 v was in
     let read = c.in_ok-hands.ensures.value clean2 v was1 in
     edits_move v t c.args.name.now c.args.dept.now hands.config hands.giver hands.taker c.without_load-handed.result c.with_load-received.result load.bytes load.weight load.number
-    (was2 is_open).0.spells.kept.sound later told.0.0 allowed read.0 read.1 read.2 load_is.0 load_is.1 load_is.2 c.without_load-handed.ensures c.with_load-received.ensures))
+    (was2 is_open).0.spells.kept.sound later stated.0.0 allowed read.0 read.1 read.2 load_is.0 load_is.1 load_is.2 c.without_load-handed.ensures c.with_load-received.ensures))
 
 pub returns-clause-crash : goal.returns-clause-crash
 returns-clause-crash g c v was =
@@ -46,16 +46,16 @@ returns-clause-crash g c v was =
     let was1 = keeps_now g.S.Store h1 v (g.met.S.Store.shut_if_dirty h1.store) (λ clean. c.in_ok-load.ensures.read.same clean v was) in
     let reads = read_then old (state g.S.Store h1) (state g.S.Store h2) c.in_ok-load.ensures.open (c.in_ok-load.ensures.read.crash v was) (c.in_ok-hands.ensures.read.crash v was1) in
     survives_then old (state g.S.Store h2) new _ _ (IsChanged old v t it) (λ _ trees shut is_open. absurd (shut is_open))
-    (λ late trees told was_open later allowed.
+    (λ late trees stated was_open later allowed.
     let clean2 : HasCleanDisk (state g.S.Store h2) = omega (arith, late, c.commit_part-moved.ensures.crash.clean) in
     let clean1 = c.in_ok-hands.ensures.read.honest clean2 in
     let was2 = c.in_ok-hands.ensures.read.same clean2 v was1 in
-    told.1 v it told.0.0 told.0.1 was2 later allowed
+    stated.1 v it stated.0.0 stated.0.1 was2 later allowed
     (λ is_open.
     let load_is = c.in_ok-load.ensures.value clean1 v was in
     let read = c.in_ok-hands.ensures.value clean2 v was1 in
     edits_move v t c.args.name.now c.args.dept.now hands.config hands.giver hands.taker c.without_load-handed.result c.with_load-received.result load.bytes load.weight load.number
-    (was2 is_open).0.spells.kept.sound later told.0.0 allowed read.0 read.1 read.2 load_is.0 load_is.1 load_is.2 c.without_load-handed.ensures c.with_load-received.ensures))
+    (was2 is_open).0.spells.kept.sound later stated.0.0 allowed read.0 read.1 read.2 load_is.0 load_is.1 load_is.2 c.without_load-handed.ensures c.with_load-received.ensures))
     reads c.commit_part-moved.ensures.crash
 
 pub returns-clause-nothing : goal.returns-clause-nothing

@@ -22,18 +22,18 @@ returns-clause-done g c clean =
     let t = c.args.at in
     let it = change.Remove c.args.id c.args.removal.now in
     on_ok_then (Changes old new t it) c.commit_part-removed.result (c.commit_part-removed.ensures.done clean)
-    (λ told v was later allowed.
+    (λ stated v was later allowed.
     let was1 = c.in_ok-entry.ensures.read.same clean1 v was in
     let was2 = c.in-Ok.ensures.read.same clean2 v was1 in
     let was3 = c.in-Ok-read_beside.ensures.read.same clean3 v was2 in
-    told.1 v it told.0.0 (removal_in_limits v t c.args.id c.args.removal.now told.0.0 allowed told.0.1) was3 later allowed
+    stated.1 v it stated.0.0 (removal_in_limits v t c.args.id c.args.removal.now stated.0.0 allowed stated.0.1) was3 later allowed
     (λ is_open.
     let read = c.in-Ok.ensures.value clean2 v was1 in
     let place = c.in-Ok.place in
     let beside = c.in-Ok-read_beside.beside in
     let beside_is = c.in-Ok-read_beside.ensures.value clean3 v was2 read.2 in
     edits_removal v t c.args.id c.args.removal.now c.in_ok-entry.entry place.config place.sums c.without_version-sums.result place.head c.left_head-left.result beside.newest beside.since
-    (was3 is_open).0.spells.kept.sound later told.0.0 allowed (sym (c.in_ok-entry.ensures.value clean1 v was)) read.0 read.1 beside_is.1 c.without_version-sums.ensures read.2 beside_is.0 c.left_head-left.ensures))
+    (was3 is_open).0.spells.kept.sound later stated.0.0 allowed (sym (c.in_ok-entry.ensures.value clean1 v was)) read.0 read.1 beside_is.1 c.without_version-sums.ensures read.2 beside_is.0 c.left_head-left.ensures))
 
 pub returns-clause-crash : goal.returns-clause-crash
 returns-clause-crash g c v was =
@@ -49,19 +49,19 @@ returns-clause-crash g c v was =
     let first = read_then old (state g.S.Store h1) (state g.S.Store h2) c.in_ok-entry.ensures.open (c.in_ok-entry.ensures.read.crash v was) (c.in-Ok.ensures.read.crash v was1) in
     let reads = read_then old (state g.S.Store h2) (state g.S.Store h3) c.in-Ok.ensures.open first (c.in-Ok-read_beside.ensures.read.crash v was2) in
     survives_then old (state g.S.Store h3) new _ _ (IsChanged old v t it) (λ _ trees shut is_open. absurd (shut is_open))
-    (λ late trees told was_open later allowed.
+    (λ late trees stated was_open later allowed.
     let clean3 : HasCleanDisk (state g.S.Store h3) = omega (arith, late, c.commit_part-removed.ensures.crash.clean) in
     let clean2 = c.in-Ok-read_beside.ensures.read.honest clean3 in
     let clean1 = c.in-Ok.ensures.read.honest clean2 in
     let was3 = c.in-Ok-read_beside.ensures.read.same clean3 v was2 in
-    told.1 v it told.0.0 (removal_in_limits v t c.args.id c.args.removal.now told.0.0 allowed told.0.1) was3 later allowed
+    stated.1 v it stated.0.0 (removal_in_limits v t c.args.id c.args.removal.now stated.0.0 allowed stated.0.1) was3 later allowed
     (λ is_open.
     let read = c.in-Ok.ensures.value clean2 v was1 in
     let place = c.in-Ok.place in
     let beside = c.in-Ok-read_beside.beside in
     let beside_is = c.in-Ok-read_beside.ensures.value clean3 v was2 read.2 in
     edits_removal v t c.args.id c.args.removal.now c.in_ok-entry.entry place.config place.sums c.without_version-sums.result place.head c.left_head-left.result beside.newest beside.since
-    (was3 is_open).0.spells.kept.sound later told.0.0 allowed (sym (c.in_ok-entry.ensures.value clean1 v was)) read.0 read.1 beside_is.1 c.without_version-sums.ensures read.2 beside_is.0 c.left_head-left.ensures))
+    (was3 is_open).0.spells.kept.sound later stated.0.0 allowed (sym (c.in_ok-entry.ensures.value clean1 v was)) read.0 read.1 beside_is.1 c.without_version-sums.ensures read.2 beside_is.0 c.left_head-left.ensures))
     reads c.commit_part-removed.ensures.crash
 
 pub returns-clause-nothing : goal.returns-clause-nothing

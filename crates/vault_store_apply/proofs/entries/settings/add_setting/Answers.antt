@@ -22,7 +22,7 @@ returns-clause-done g c clean =
     let setting = c.args.setting.now in
     let it = change.AddSetting id setting in
     on_ok_then (Changes old new c.args.at it) c.commit_part.result (c.commit_part.ensures.done clean)
-    (λ told v was later allowed. told.1 v it told.0.0 (setting_in_limits v c.args.at id setting told.0.0 allowed told.0.1) (c.in_ok-last.ensures.read.same early v was) later allowed
+    (λ stated v was later allowed. stated.1 v it stated.0.0 (setting_in_limits v c.args.at id setting stated.0.0 allowed stated.0.1) (c.in_ok-last.ensures.read.same early v was) later allowed
     (λ is_open xs u. ap (λ place. setting_added id place setting c.args.at xs u) (c.in_ok-place.ensures ∙ ap (λ o. count_of_settings o + 1) (c.in_ok-last.ensures.value early v was))))
 
 pub returns-clause-crash : goal.returns-clause-crash
@@ -34,9 +34,9 @@ returns-clause-crash g c v was =
     let setting = c.args.setting.now in
     let it = change.AddSetting id setting in
     survives_then old mid new _ _ (IsChanged old v c.args.at it) (λ _ trees shut is_open. absurd (shut is_open))
-    (λ late trees told is_open later allowed.
+    (λ late trees stated is_open later allowed.
     let early : HasCleanDisk mid = omega (arith, late, c.commit_part.ensures.crash.clean) in
-    told.1 v it told.0.0 (setting_in_limits v c.args.at id setting told.0.0 allowed told.0.1) (c.in_ok-last.ensures.read.same early v was) later allowed
+    stated.1 v it stated.0.0 (setting_in_limits v c.args.at id setting stated.0.0 allowed stated.0.1) (c.in_ok-last.ensures.read.same early v was) later allowed
     (λ is_open xs u. ap (λ place. setting_added id place setting c.args.at xs u) (c.in_ok-place.ensures ∙ ap (λ o. count_of_settings o + 1) (c.in_ok-last.ensures.value early v was))))
     (c.in_ok-last.ensures.read.crash v was) c.commit_part.ensures.crash
 

@@ -5,7 +5,7 @@ use Rattle.sqlite.specs.Listing.{understood}
 use Rattle.vault_audit_model.proofs.OutcomeLemmas.{on_ok_then}
 use Rattle.vault_store_create.specs.Listings.{listing_of}
 use Rattle.vault_store_create.proofs.CopyLemmas.{copies_table}
-use Rattle.vault_store_create.proofs.ShownLemmas.{shown_told}
+use Rattle.vault_store_create.proofs.ShownLemmas.{shown_stated}
 use Rattle.vault_store_create.proofs.ListingLemmas.{reads_only}
 use Rattle.vault_store_create.proofs.copy.tables.copy_table.Goals as goal
 
@@ -25,5 +25,5 @@ returns-clause-copied g c clean after inside is_open =
       is_open = it.2.is_open;
       inside = it.2.inside;
       committed = it.2.committed;
-      goes = copies_table n from.now old.now new.now t it.0 (λ v is. shown_told n t from to v is it.0 it.1) it.2.goes;
+      goes = copies_table n from.now old.now new.now t it.0 (λ v is. shown_stated n t from to v is it.0 it.1) it.2.goes;
     })

@@ -16,7 +16,7 @@ returns-in_default-clause-value g c clean v was =
     (none_counted (held_at v c.args.bucket.now c.args.key.now) none, finds.1.spells.kept.sound)
 
 pub returns-clause-value : goal.returns-clause-value
-returns-clause-value g c clean = if_shown c.read_count.result c.read_count.ensures (λ count told v was.
+returns-clause-value g c clean = if_shown c.read_count.result c.read_count.ensures (λ count stated v was.
     let finds = rw (c.params-to_sql.ensures, c.params-to_sql-2.ensures, c.as_str.ensures.text, c.as_str-2.ensures.text) at (c.in_ok-rows.ensures.rows clean v was) in
-    let head = head_read v c.args.bucket.now c.args.key.now c.in_ok-rows.rows.items finds c.in-Some.row.now told.0 (sym (rw c.deref.ensures.value at c.in-Some.ensures.value)) told.1 in
-    (sym told.2 ∙ counted (held_at v c.args.bucket.now c.args.key.now) told.0.head head, finds.1.spells.kept.sound))
+    let head = head_read v c.args.bucket.now c.args.key.now c.in_ok-rows.rows.items finds c.in-Some.row.now stated.0 (sym (rw c.deref.ensures.value at c.in-Some.ensures.value)) stated.1 in
+    (sym stated.2 ∙ counted (held_at v c.args.bucket.now c.args.key.now) stated.0.head head, finds.1.spells.kept.sound))

@@ -2,7 +2,7 @@ use Rattle.std.proofs.Common.{◌≡◌, [], ◌∷◌, ◌++◌, refl, rules}
 use Rattle.std.proofs.lemmas.List.{map-append}
 use Rattle.vault_audit_model.specs.declared.rows.TenureRow.{TenureRow}
 use Rattle.vault_audit_model.specs.Rows.{tenure_row}
-use Rattle.vault_store_reads.proofs.OrderedListLemmas.{told_more}
+use Rattle.vault_store_reads.proofs.OrderedListLemmas.{stated_more}
 use Rattle.vault_store_reads.proofs.rows_in_order.decode.decode_tenures.Goals as goal
 
 pub loop-row-preserved : goal.loop-row-preserved
@@ -10,4 +10,4 @@ loop-row-preserved c =
     let it = c.loop-row.invariant in
     let one = c.in_ok-one.ensures in
     let pushed : c.push.new.self ≡ c.loop-row.tenures ++ c.in_ok-one.one ∷ [] = search rules in
-    (it.0 ++ one.0 ∷ [], told_more tenure_row it.0 one.0 c.args.rows.now c.loop-row.row-index c.row-item.result it.1 c.loop-row-test.true c.row-item.is one.1, rw (map-append (λ (x : TenureRow). x.tenure) it.0 (one.0 ∷ []), pushed, it.2, one.2) refl)
+    (it.0 ++ one.0 ∷ [], stated_more tenure_row it.0 one.0 c.args.rows.now c.loop-row.row-index c.row-item.result it.1 c.loop-row-test.true c.row-item.is one.1, rw (map-append (λ (x : TenureRow). x.tenure) it.0 (one.0 ∷ []), pushed, it.2, one.2) refl)

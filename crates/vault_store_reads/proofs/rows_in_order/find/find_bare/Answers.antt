@@ -7,10 +7,10 @@ use Rattle.vault_store_reads.proofs.rows_in_order.find.find_bare.Goals as goal
 
 pub returns-then-count-eq0-clause-value : goal.returns-then-count-eq0-clause-value
 returns-then-count-eq0-clause-value g c clean v was =
-    let told = c.in_ok-count.ensures.value clean v was in
+    let stated = c.in_ok-count.ensures.value clean v was in
     let hs = held_at v c.args.bucket.now c.args.key.now in
-    let none : length hs ≡ 0 = omega (arith, told.0, c.if-count-eq0.true) in
-    (rw c.new.ensures.items (none_shown hs none), told.1)
+    let none : length hs ≡ 0 = omega (arith, stated.0, c.if-count-eq0.true) in
+    (rw c.new.ensures.items (none_shown hs none), stated.1)
 
 pub returns-in_err-rows-clause-read : goal.returns-in_err-rows-clause-read
 returns-in_err-rows-clause-read g c = record {
@@ -39,8 +39,8 @@ returns-clause-read g c = record {
 pub returns-clause-value : goal.returns-clause-value
 returns-clause-value g c clean v was =
     let mid = c.entry_rows.ensures.read.honest clean in
-    let told = c.in_ok-count.ensures.value mid v was in
+    let stated = c.in_ok-count.ensures.value mid v was in
     let shown = c.in_ok-rows.ensures.rows clean v (c.find_count.ensures.read.same mid v was) in
     let hs = held_at v c.args.bucket.now c.args.key.now in
     let decoded = (rw c.deref.ensures.value at c.in_ok-held.ensures) ∙ shown.0 in
-    (rw c.reverse.ensures.items (shown_in_order held_row c.in_ok-held.held.items c.in_ok-count.count hs told.0 decoded), told.1)
+    (rw c.reverse.ensures.items (shown_in_order held_row c.in_ok-held.held.items c.in_ok-count.count hs stated.0 decoded), stated.1)

@@ -1,14 +1,14 @@
 use Rattle.std.proofs.Common.{refl, ◌∙◌}
 use Rattle.vault_store_reads.proofs.QueryLemmas.{if_shown}
 use Rattle.vault_store_reads.proofs.OpenLemmas.{quiet_then}
-use Rattle.vault_store_reads.proofs.ToldLemmas.{locked_entries}
+use Rattle.vault_store_reads.proofs.StatedLemmas.{locked_entries}
 use Rattle.vault_store_reads.proofs.rows_in_order.find.find_entries.Goals as goal
 
 pub returns-clause-value : goal.returns-clause-value
-returns-clause-value g c clean = if_shown c.with_locks.result (c.with_locks.ensures.value clean) (λ locked told v was.
+returns-clause-value g c clean = if_shown c.with_locks.result (c.with_locks.ensures.value clean) (λ locked stated v was.
     let mid = c.with_locks.ensures.read.honest clean in
     let bare = c.in_ok-entries.ensures.value mid v was in
-    (rw c.deref.ensures.value at (told v (c.find_bare.ensures.read.same mid v was)))
+    (rw c.deref.ensures.value at (stated v (c.find_bare.ensures.read.same mid v was)))
     ∙ locked_entries v c.args.bucket.now c.args.key.now _ _ (refl, bare.1) bare.0)
 
 pub returns-clause-read : goal.returns-clause-read

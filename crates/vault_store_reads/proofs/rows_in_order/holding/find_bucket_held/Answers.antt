@@ -5,11 +5,11 @@ use Rattle.vault_store_reads.proofs.OpenLemmas.{quiet_then}
 use Rattle.vault_store_reads.proofs.rows_in_order.holding.find_bucket_held.Goals as goal
 
 pub returns-clause-value : goal.returns-clause-value
-returns-clause-value g c clean = if_shown c.sum_versions.result (c.sum_versions.ensures.value clean) (λ sums told v was.
+returns-clause-value g c clean = if_shown c.sum_versions.result (c.sum_versions.ensures.value clean) (λ sums stated v was.
     let mid = c.sum_versions.ensures.read.honest clean in
     let are = c.in_ok-rows.ensures.rows mid v was in
     let read = rw c.deref.ensures.value at c.in_ok-versions.ensures in
-    let held = rw c.deref-2.ensures.value at (told v (c.sized_rows.ensures.read.same mid v was)) in
+    let held = rw c.deref-2.ensures.value at (stated v (c.sized_rows.ensures.read.same mid v was)) in
     (held.0 ∙ bytes_are v c.args.bucket.now _ _ are read, held.1 ∙ weight_is v c.args.bucket.now _ _ are read))
 
 pub returns-clause-read : goal.returns-clause-read

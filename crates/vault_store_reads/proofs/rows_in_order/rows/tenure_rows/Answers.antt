@@ -1,5 +1,5 @@
 use Rattle.vault_store_reads.proofs.QueryLemmas.{if_shown}
-use Rattle.vault_store_reads.proofs.TenureLemmas.{query, found_tenures, told_tenures}
+use Rattle.vault_store_reads.proofs.TenureLemmas.{query, found_tenures, stated_tenures}
 use Rattle.vault_store_reads.proofs.OrderedTextLemmas.{tenures_is}
 use Rattle.vault_store_reads.proofs.rows_in_order.rows.tenure_rows.Goals as goal
 
@@ -7,4 +7,4 @@ pub query_rows-requires : goal.query_rows-requires
 query_rows-requires g c = (query, tenures_is)
 
 pub returns-clause-rows : goal.returns-clause-rows
-returns-clause-rows g c clean = if_shown c.query_rows.result (c.query_rows.ensures.rows clean) (λ rows finds v was. (_, found_tenures v c.args.id rows.items (rw (c.params-to_sql.ensures, c.number.ensures.value) at (finds v was)), told_tenures v c.args.id))
+returns-clause-rows g c clean = if_shown c.query_rows.result (c.query_rows.ensures.rows clean) (λ rows finds v was. (_, found_tenures v c.args.id rows.items (rw (c.params-to_sql.ensures, c.number.ensures.value) at (finds v was)), stated_tenures v c.args.id))
