@@ -150,7 +150,7 @@ impl Pass for NotePass {
 /// two are of one line of a batch. It is meant for entries whose ids are 1, 2, 3 and so on.
 pub fn check_notes<S: Alter>(conn: &mut Connection<S>, edition: Edition) -> Result<bool, Error>
     requires { IsOfEdition S.Store conn.old edition }
-    ensures reported { HasCleanDisk (state S.Store conn.new) → IfOk result (λ found. (es : List Entry) → AreEntries (state S.Store conn.new).now es → DecidesNotes (state S.Store conn.new).now es found) }
+    ensures reported { HasCleanDisk (state S.Store conn.new) → IfOk result (λ b. (es : List Entry) → AreEntries (state S.Store conn.new).now es → DecidesNotes (state S.Store conn.new).now es b) }
     ensures damaged { HasCleanDisk (state S.Store conn.new) → IfOk result (λ found. found ≡ false → (v : Vault) → ¬ AreSoundAs edition (state S.Store conn.new).now v) }
     ensures look { OnlyLooks S.Store conn.old conn.new result }
     ensures err { IsHealthy (state S.Store conn.new) → IfErr result IsMemory }

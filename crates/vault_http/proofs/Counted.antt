@@ -9,7 +9,7 @@ use Rattle.vault_core_model.specs.declared.command.Command.{Command}
 use Rattle.vault_core_model.specs.declared.reply.Reply.{Reply}
 use Rattle.vault_http.specs.Reply.{AnswersReply}
 use Rattle.vault_io.specs.Begins.{Begins}
-use Rattle.vault_http.specs.Exchange.{drops, stated}
+use Rattle.vault_http.specs.Exchange.{drops, interim}
 use Rattle.vault_http.specs.Steady.{ReplySent, JudgedSteady, Steady}
 use Rattle.vault_http.specs.declared.fault.ServeFault.{ServeFault}
 use Rattle.vault_http.specs.declared.fault.ServeFault.TheVariants as faults
@@ -35,7 +35,7 @@ module _ (Honest : Type 0) (result : Result (Unit {0}) ServeFault) (at : ℕ) (s
       cases false e = inl (steady e)
 
   -- after what a client that waits was sent
-  pub plan_steady : (judged : Result Command Refusal) (waits : Bool) (a b c : Option (List ℕ)) → Appends a b (stated waits) → JudgedSteady Honest result at shown who judged old new n n' b c → Steady Honest result (Some at) old new n n' a c
+  pub plan_steady : (judged : Result Command Refusal) (waits : Bool) (a b c : Option (List ℕ)) → Appends a b (interim waits) → JudgedSteady Honest result at shown who judged old new n n' b c → Steady Honest result (Some at) old new n n' a c
   plan_steady judged waits a b c p s =
       elim s [
         | inl same ↦ inl same

@@ -14,7 +14,7 @@ use Rattle.vault_http.specs.Reply.{AnswersReply}
 use Rattle.vault_http.specs.Head.{HasNoHead}
 use Rattle.vault_http_request.specs.declared.plan.Plan.{Plan}
 use Rattle.vault_io.specs.Begins.{Begins}
-use Rattle.vault_http.specs.Exchange.{drops, stated, planned_command, Done, Judged, PlanServed}
+use Rattle.vault_http.specs.Exchange.{drops, interim, planned_command, Done, Judged, PlanServed}
 use Rattle.vault_http.specs.Left.{DenyLeft, JudgedLeft, Left, PlanLeft, Stepped}
 use Rattle.vault_http.specs.declared.fault.ServeFault.{ServeFault}
 use Rattle.vault_http.specs.declared.fault.ServeFault.TheVariants as faults
@@ -56,22 +56,22 @@ module _ (Failed : Type 0) (shown : Bool) (plan : Plan) (old new : Vault) where
   Gives left judged = IfSome left (λ rest. judged ≡ planned_command plan rest)
 
   -- what was judged was answered
-  pub plan_served : (left a b c : Option (List ℕ)) (judged : Result Command Refusal) → Gives left judged → Appends a b (stated plan.headers.waits) → ((out : List ℕ) × Judged Failed plan.at shown plan.headers.caller judged old out new × Appends b c out)
+  pub plan_served : (left a b c : Option (List ℕ)) (judged : Result Command Refusal) → Gives left judged → Appends a b (interim plan.headers.waits) → ((out : List ℕ) × Judged Failed plan.at shown plan.headers.caller judged old out new × Appends b c out)
       → IfSome left (λ rest. (out : List ℕ) × PlanServed Failed shown plan rest old out new × Appends a c out)
   plan_served None a b c judged gives p d = tt
   plan_served (Some rest) a b c judged gives p d =
-      (stated plan.headers.waits ++ d.0, (d.0, refl, subst (λ (j : Result Command Refusal). Judged Failed plan.at shown plan.headers.caller j old d.0 new) gives d.1), Appends-trans a b c (stated plan.headers.waits) d.0 p d.2)
+      (interim plan.headers.waits ++ d.0, (d.0, refl, subst (λ (j : Result Command Refusal). Judged Failed plan.at shown plan.headers.caller j old d.0 new) gives d.1), Appends-trans a b c (interim plan.headers.waits) d.0 p d.2)
 
-  judged_left : (unread a b c : Option (List ℕ)) (e : ServeFault) (judged : Result Command Refusal) (rest : List ℕ) → judged ≡ planned_command plan rest → Appends a b (stated plan.headers.waits)
+  judged_left : (unread a b c : Option (List ℕ)) (e : ServeFault) (judged : Result Command Refusal) (rest : List ℕ) → judged ≡ planned_command plan rest → Appends a b (interim plan.headers.waits)
       → JudgedLeft Failed e plan.at shown plan.headers.caller judged old new b c → PlanLeft Failed e shown plan rest unread old new a c
   judged_left unread a b c faults.Read judged rest is p d = absurd d
   judged_left unread a b c faults.Memory judged rest is p d =
-      inr (subst (λ (j : Result Command Refusal). (new ≡ old) ⊎ Stepped plan.at plan.headers.caller j old new) is d.0, subst (λ (w : Option (List ℕ)). Appends a w (stated plan.headers.waits)) (sym d.1) p)
+      inr (subst (λ (j : Result Command Refusal). (new ≡ old) ⊎ Stepped plan.at plan.headers.caller j old new) is d.0, subst (λ (w : Option (List ℕ)). Appends a w (interim plan.headers.waits)) (sym d.1) p)
   judged_left unread a b c faults.Write judged rest is p d =
       inr (d.0, b, subst (λ (j : Result Command Refusal). Judged Failed plan.at shown plan.headers.caller j old d.0 new) is d.1, p, d.2)
 
   -- its answer failed
-  pub plan_left : (left unread a b c : Option (List ℕ)) (e : ServeFault) (judged : Result Command Refusal) → Gives left judged → Appends a b (stated plan.headers.waits)
+  pub plan_left : (left unread a b c : Option (List ℕ)) (e : ServeFault) (judged : Result Command Refusal) → Gives left judged → Appends a b (interim plan.headers.waits)
       → JudgedLeft Failed e plan.at shown plan.headers.caller judged old new b c → IfSome left (λ rest. PlanLeft Failed e shown plan rest unread old new a c)
   plan_left None unread a b c e judged gives p d = tt
   plan_left (Some rest) unread a b c e judged gives p d = judged_left unread a b c e judged rest gives p d

@@ -55,8 +55,8 @@ abbrev pub go_on : List ℕ
 go_on = codes "HTTP/1.1 100 Continue" ++ (13 ∷ 10 ∷ 13 ∷ 10 ∷ [])
 
 -- what is written before the body is read
-abbrev pub stated : Bool → List ℕ
-stated waits = if waits then go_on else []
+abbrev pub interim : Bool → List ℕ
+interim waits = if waits then go_on else []
 
 -- a plan by its parts
 abbrev pub plan_of : ℕ → Operation → Option ℕ → List ℕ → Locks → Bool → Plan
@@ -70,7 +70,7 @@ planned_command plan rest = command_after plan.operation plan.headers.locks plan
 -- what is written for a plan and what comes after its head
 abbrev pub PlanServed : Type 0 → Bool → Plan → List ℕ → Vault → List ℕ → Vault → Type 0
 PlanServed Failed shown plan rest old out new =
-    (answer : List ℕ) × (out ≡ stated plan.headers.waits ++ answer) × Judged Failed plan.at shown plan.headers.caller (planned_command plan rest) old answer new
+    (answer : List ℕ) × (out ≡ interim plan.headers.waits ++ answer) × Judged Failed plan.at shown plan.headers.caller (planned_command plan rest) old answer new
 
 -- which methods a target has
 abbrev pub allow_of : Resource → Allow

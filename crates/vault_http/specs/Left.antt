@@ -19,7 +19,7 @@ use Rattle.vault_http_request.specs.declared.plan.Asked.{Asked}
 use Rattle.vault_http_request.specs.declared.plan.Asked.TheVariants as asked
 use Rattle.vault_http_request.specs.declared.plan.Plan.{Plan}
 use Rattle.vault_http.specs.Command.{IsWithinLength}
-use Rattle.vault_http.specs.Exchange.{Denied, Judged, allow_of, go_on, head_asked, is_shown, planned_command, stated}
+use Rattle.vault_http.specs.Exchange.{Denied, Judged, allow_of, go_on, head_asked, is_shown, planned_command, interim}
 use Rattle.vault_http.specs.declared.fault.ServeFault.{ServeFault}
 use Rattle.vault_http.specs.declared.fault.ServeFault.TheVariants as faults
 
@@ -57,13 +57,13 @@ DenyLeft faults.Write moment r a shown before after = (out : List ℕ) × Answer
 
 -- After Read and Memory no byte of an answer is written, only that a client that waits is to go on; or, where the head found no room, nothing, and no step was made. After Read none was made, after Memory at most that one. After Write 100 Continue failed, nothing of the body was read and no step was made, or the answer failed after a 100 Continue that was written whole, where the client waits, and the vault is as the answer says; what is written is a beginning of that.
 abbrev pub PlanLeft : Type 0 → ServeFault → Bool → Plan → List ℕ → Option (List ℕ) → Vault → Vault → Option (List ℕ) → Option (List ℕ) → Type 0
-PlanLeft Failed faults.Read shown plan rest unread old new before after = (new ≡ old) × Appends before after (stated plan.headers.waits)
+PlanLeft Failed faults.Read shown plan rest unread old new before after = (new ≡ old) × Appends before after (interim plan.headers.waits)
 PlanLeft Failed faults.Memory shown plan rest unread old new before after =
     ((new ≡ old) × (after ≡ before))
-    ⊎ (((new ≡ old) ⊎ Stepped plan.at plan.headers.caller (planned_command plan rest) old new) × Appends before after (stated plan.headers.waits))
+    ⊎ (((new ≡ old) ⊎ Stepped plan.at plan.headers.caller (planned_command plan rest) old new) × Appends before after (interim plan.headers.waits))
 PlanLeft Failed faults.Write shown plan rest unread old new before after =
     ((plan.headers.waits ≡ true) × (unread ≡ Some rest) × (new ≡ old) × Begins before after go_on)
-    ⊎ ((answer : List ℕ) × (mid : Option (List ℕ)) × Judged Failed plan.at shown plan.headers.caller (planned_command plan rest) old answer new × Appends before mid (stated plan.headers.waits) × Begins mid after answer)
+    ⊎ ((answer : List ℕ) × (mid : Option (List ℕ)) × Judged Failed plan.at shown plan.headers.caller (planned_command plan rest) old answer new × Appends before mid (interim plan.headers.waits) × Begins mid after answer)
 
 abbrev pub DeniedLeft : ServeFault → Option ℕ → Bool → Refusal → Option Allow → Vault → Vault → Option (List ℕ) → Option (List ℕ) → Type 0
 DeniedLeft faults.Read moment shown r a old new before after = (new ≡ old) × (after ≡ before)

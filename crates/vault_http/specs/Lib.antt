@@ -9,6 +9,6 @@ pub mod Reply
 pub mod Answer
 pub use Rattle.vault_http_lines.specs.Grammar
 pub use Rattle.vault_http_lines.specs.ReadLine
-pub use Rattle.vault_http_lines.specs.ReplyLine
+pub use Rattle.vault_http_replies.specs.ReplyLine
 pub use Rattle.vault_http_lines.specs.Stamped
 pub use Rattle.vault_http_lines.specs.declared.read_line.Line

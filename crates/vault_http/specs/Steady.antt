@@ -9,7 +9,7 @@ use Rattle.vault_core_model.specs.declared.command.Command.{Command}
 use Rattle.vault_core_model.specs.declared.reply.Reply.{Reply}
 use Rattle.vault_http.specs.Reply.{AnswersReply}
 use Rattle.vault_io.specs.Begins.{Begins}
-use Rattle.vault_http.specs.Exchange.{drops, stated}
+use Rattle.vault_http.specs.Exchange.{drops, interim}
 use Rattle.vault_http.specs.declared.fault.ServeFault.{ServeFault}
 use Rattle.vault_http.specs.declared.fault.ServeFault.TheVariants as faults
 
@@ -30,4 +30,4 @@ abbrev pub Steady : Type 0 → Result (Unit {0}) ServeFault → Option ℕ → V
 Steady Honest result moment old new n n' before after =
     (n' ≡ n)
     ⊎ ((at : ℕ) × (moment ≡ Some at) × (who : List ℕ) × (c : Command) × (reply : Reply) × (Honest → IsStep old at who c reply new) × IsTrue (is_device_reply reply)
-    × (waits : Bool) × (mid : Option (List ℕ)) × (shown : Bool) × Appends before mid (stated waits) × ReplySent result at c shown reply mid after)
+    × (waits : Bool) × (mid : Option (List ℕ)) × (shown : Bool) × Appends before mid (interim waits) × ReplySent result at c shown reply mid after)

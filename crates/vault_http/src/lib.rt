@@ -13,4 +13,5 @@ pub mod serve;
 pub use crate::fault::ServeFault;
 pub use crate::serve::serve_one;
 pub use vault_http_causes::explain_line;
-pub use vault_http_lines::{read_line, reply_line, stamped};
+pub use vault_http_lines::{read_line, stamped};
+pub use vault_http_replies::reply_line;

@@ -1,5 +1,3 @@
-pub mod ReplyLemmas
-mod RuleLemmas
 pub mod CommandLemmas
 pub mod GrammarLemmas
 pub mod LineLemmas

@@ -6,7 +6,4 @@ pub mod ConfigLines
 pub mod EntryLines
 pub mod LockLines
 pub mod ListLine
-pub mod ReplyLine
-pub mod Putting
-pub mod Object
 pub mod Stamped

@@ -1,4 +1,4 @@
-//! Script lines read into commands, and replies printed as lines of JSON.
+//! Script lines, read into commands.
 //!
 //! What a line's members spell is read by `vault_http_values`.
 #![tactic(auto)]
@@ -8,10 +8,7 @@ mod entry_lines;
 pub mod laws;
 mod list_line;
 mod lock_lines;
-mod object;
 pub mod read_line;
 mod record_lines;
-pub mod reply_line;
-mod rule_value;
 pub mod stamped;
 pub mod verb;

@@ -1,12 +1,12 @@
 //! The JSON bodies of answers: what a reply line has within its one member.
 ghost use Rattle.std.specs.Prelude.{◌≡◌, ◌≤◌, ◌+◌, ◌-◌, IfOk, length, take, drop, string_bytes};
-ghost use Rattle.vault_http_lines.specs.ReplyLine.{reply_text};
+ghost use Rattle.vault_http_replies.specs.ReplyLine.{reply_text};
 ghost use Rattle.vault_http.specs.Reply as spec;
 
 use std::alloc::{AllocError, Global};
 use vault_base::refusal::Refusal;
 use vault_core_model::reply::{Answer, Reply};
-use vault_http_lines::reply_line::reply_line;
+use vault_http_replies::reply_line::reply_line;
 
 /// What stands after that many bytes, but for the last two.
 fn within(line: &[u8], front: usize) -> &[u8]

@@ -19,7 +19,7 @@ use Rattle.vault_lock.specs.declared.retention.Period.TheVariants.{Days, Years}
 use Rattle.vault_lock.specs.declared.retention.Retention.{Retention}
 use Rattle.vault_rules.specs.declared.rule.Noncurrent.{Noncurrent}
 use Rattle.vault_rules.specs.declared.rule.Rule.{Rule}
-use Rattle.vault_http_lines.specs.ReplyLine.{reply_text, reply_value, answer_value, refusal_value, retention_value, digest_value, version_value, head_value, period_value, default_value, if_there, expiration_of, noncurrent_value, bounded_members, rule_value, listed_value, whole}
+use Rattle.vault_http_replies.specs.ReplyLine.{reply_text, reply_value, answer_value, refusal_value, retention_value, digest_value, version_value, head_value, period_value, default_value, if_there, expiration_of, noncurrent_value, bounded_members, rule_value, listed_value, whole}
 
 retention-whole : (r : Option Retention) → has_float (retention_value r) ≡ false
 retention-whole None = refl

@@ -1,8 +1,8 @@
 -- Members that have no values inside.
 use Rattle.serde_json.specs.Data.{Data}
 use Rattle.serde_json.specs.Data.{boolean, number, string, unsigned}
-use Rattle.vault_http_lines.specs.declared.object.Plain.{Plain}
-use Rattle.vault_http_lines.specs.declared.object.Plain.TheVariants.{Text, Whole, Flag}
+use Rattle.vault_http_replies.specs.declared.object.Plain.{Plain}
+use Rattle.vault_http_replies.specs.declared.object.Plain.TheVariants.{Text, Whole, Flag}
 
 abbrev pub plain_data : Plain → Data
 plain_data (Text t) = string t.now

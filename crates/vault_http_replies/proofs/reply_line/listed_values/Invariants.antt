@@ -1,7 +1,7 @@
 use Rattle.std.proofs.Common.{◌≡◌, map, take}
 use Rattle.serde_json.specs.View.{view}
-use Rattle.vault_http_lines.specs.ReplyLine.{listed_value}
-use Rattle.vault_http_lines.proofs.reply_line.listed_values.Given as goal
+use Rattle.vault_http_replies.specs.ReplyLine.{listed_value}
+use Rattle.vault_http_replies.proofs.reply_line.listed_values.Given as goal
 
 -- the entries so far
 abbrev pub invariant-loop-listed : goal.invariant-loop-listed

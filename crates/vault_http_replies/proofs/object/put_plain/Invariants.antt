@@ -2,8 +2,8 @@ use Rattle.std.proofs.Common.{◌≡◌, take}
 use Rattle.std.specs.List.{fold}
 use Rattle.serde_json.specs.Data.{put as with_member}
 use Rattle.serde_json.specs.View.{members_view}
-use Rattle.vault_http_lines.specs.Object.{plain_data}
-use Rattle.vault_http_lines.proofs.object.put_plain.Given as goal
+use Rattle.vault_http_replies.specs.Object.{plain_data}
+use Rattle.vault_http_replies.proofs.object.put_plain.Given as goal
 
 -- the members so far
 abbrev pub invariant-loop-name : goal.invariant-loop-name

@@ -3,7 +3,7 @@ ghost use Rattle.std.specs.Prelude.{◌≡◌, IfOk, OnOk};
 ghost use Rattle.std.specs.List.{fold};
 ghost use Rattle.serde_json.specs.Data.{member, no_members, object, put as with_member};
 ghost use Rattle.serde_json.specs.View.{view, members_view};
-ghost use Rattle.vault_http_lines.specs.Object.{plain_data};
+ghost use Rattle.vault_http_replies.specs.Object.{plain_data};
 
 use serde_json::{Map, Value, json, put};
 use std::alloc::{AllocError, Global};

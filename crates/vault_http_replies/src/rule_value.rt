@@ -1,8 +1,8 @@
 //! Lifecycle rules as S3's JSON has them (API Reference, "GetBucketLifecycleConfiguration").
 ghost use Rattle.std.specs.Prelude.{◌≡◌, IfOk, OnOk, codes, map, option_map};
 ghost use Rattle.serde_json.specs.View.{view, members_view};
-ghost use Rattle.vault_http_lines.specs.Putting.{put_if};
-ghost use Rattle.vault_http_lines.specs.ReplyLine as spec;
+ghost use Rattle.vault_http_replies.specs.Putting.{put_if};
+ghost use Rattle.vault_http_replies.specs.ReplyLine as spec;
 
 use crate::object::{Plain, object_of, plain_object, put_plain};
 use serde_json::{Map, Value, put};

@@ -4,7 +4,7 @@ ghost use Rattle.serde_json.specs.Data.{put as with_member};
 ghost use Rattle.serde_json.specs.View.{view, members_view};
 ghost use Rattle.vault_base.specs.declared.refusal.Refusal.TheVariants.{AccessDenied, NoSuchKey};
 ghost use Rattle.vault_core_model.specs.declared.reply.Answer.TheVariants as answer;
-ghost use Rattle.vault_http_lines.specs.ReplyLine as spec;
+ghost use Rattle.vault_http_replies.specs.ReplyLine as spec;
 
 use crate::object::{Plain, object_of, plain_object, put_plain};
 use crate::rule_value::rules_value;

@@ -3,8 +3,8 @@ use Rattle.std.proofs.Common.{◌≡◌, codes, refl}
 use Rattle.std.specs.Prelude.{Option, Some, None, option_map}
 use Rattle.serde_json.specs.Data.{Data, member, put}
 use Rattle.vault_rules.specs.declared.rule.Rule.{Rule}
-use Rattle.vault_http_lines.specs.Putting.{put_if}
-use Rattle.vault_http_lines.specs.ReplyLine.{text, whole, if_there, expiration_of, noncurrent_value, named_members, bounded_members, rule_members}
+use Rattle.vault_http_replies.specs.Putting.{put_if}
+use Rattle.vault_http_replies.specs.ReplyLine.{text, whole, if_there, expiration_of, noncurrent_value, named_members, bounded_members, rule_members}
 
 module _ (r : Rule) where
   smaller_first : (smaller : Option Data) → put_if (codes "ObjectSizeLessThan") smaller (named_members r) ≡ if_there (codes "ObjectSizeLessThan") smaller (named_members r)

@@ -1,0 +1,3 @@
+pub mod ReplyLine
+pub mod Putting
+pub mod Object
