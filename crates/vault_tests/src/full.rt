@@ -1,8 +1,8 @@
 //! Vaults whose ids are used up.
-use crate::watched_keeper::WatchedKeeper;
 use std::alloc::Global;
 use std::test::Fail;
 use vault_core_model::keeper::Keeper;
+use vault_tests_doubles::watched_keeper::WatchedKeeper;
 use vault_transcript::transcript::play;
 use vault_transcript::trial::{Trial, try_behind};
 

@@ -12,7 +12,3 @@ mod growths;
 mod limits;
 #[cfg(test)]
 mod pages;
-#[cfg(test)]
-mod rigged_keeper;
-#[cfg(test)]
-mod watched_keeper;

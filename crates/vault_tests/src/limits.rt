@@ -1,5 +1,4 @@
 //! Limits: exactly at each all is well, and one above it is refused.
-use crate::rigged_keeper::RiggedKeeper;
 use std::alloc::{AllocError, Global};
 use std::test::Fail;
 use vault_base::content::Content;
@@ -10,6 +9,7 @@ use vault_core::run::run;
 use vault_core_model::command::{Command, Put, Timed};
 use vault_core_model::keeper::Keeper;
 use vault_core_model::reply::{Answer, Reply};
+use vault_tests_doubles::rigged_keeper::RiggedKeeper;
 use vault_transcript::transcript::play;
 use vault_transcript::trial::{Trial, try_behind, try_on_new};
 

@@ -1,8 +1,8 @@
 //! What a run asks of its keeper over buckets of n keys that they are read in pages.
-use crate::watched_keeper::WatchedKeeper;
 use std::alloc::Global;
 use std::test::Fail;
 use vault_core_model::keeper::Keeper;
+use vault_tests_doubles::watched_keeper::WatchedKeeper;
 use vault_transcript::transcript::play;
 use vault_transcript::trial::{Trial, compare, try_behind};
 

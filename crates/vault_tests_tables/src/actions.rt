@@ -1,12 +1,12 @@
 //! What is done to a store, action by action, with what is to come of each.
 use crate::commands::are_answered;
-use crate::disks::{let_go, opened_empty};
 use sqlite::{Alter, Connection, Error};
 use std::alloc::Global;
 use std::test::Fail;
 use vault_base::refusal::Refusal;
 use vault_store::create::fill;
 use vault_store::sql_keeper::SqlKeeper;
+use vault_tests_tables_stores::disks::{let_go, opened_empty};
 
 /// An action.
 #[derive(Clone, Copy)]

@@ -9,8 +9,6 @@ mod commands;
 #[cfg(test)]
 mod create;
 #[cfg(test)]
-mod disks;
-#[cfg(test)]
 mod editions;
 #[cfg(test)]
 mod exchange;

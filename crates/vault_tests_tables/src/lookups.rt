@@ -1,6 +1,5 @@
 //! What a report reads, and what is read of one key, takes as many steps in a large vault as in a small one, and of a key with
 //! many removed versions as of a fresh one.
-use crate::disks::{let_go, opened_empty};
 use sqlite::{Alter, Connection, Error, params};
 use std::alloc::Global;
 use std::process::Abort;
@@ -12,6 +11,7 @@ use vault_store_reads::heads::read_head;
 use vault_store_reads::meta::read_last;
 use vault_store_reads::names::{has_department, read_totals};
 use vault_store_reads::rows_in_order::reads::{read_entries, read_keys};
+use vault_tests_tables_stores::disks::{let_go, opened_empty};
 
 /// A department, its bucket, a key of it, and where the bucket's keys begin.
 #[derive(Drop)]

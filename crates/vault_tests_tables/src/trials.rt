@@ -1,6 +1,5 @@
 //! Trials on a new vault in files in memory, which don't fail: an intake and requests.
 use crate::actions::{Action, take_all};
-use crate::disks::{let_go, opened_empty};
 use crate::exchange::answer;
 use crate::intake::take_in_twice;
 use sqlite::{Alter, Connection};
@@ -9,6 +8,7 @@ use std::test::Fail;
 use vault_base::refusal::{Refusal, Table};
 use vault_core_model::keeper::Keeper;
 use vault_store::sql_keeper::SqlKeeper;
+use vault_tests_tables_stores::disks::{let_go, opened_empty};
 use vault_transcript::transcript::play;
 use vault_transcript::trial::Trial;
 

@@ -1,12 +1,12 @@
 //! A vault that is copied from one store into another.
-use crate::disks::{let_go, opened_empty};
-use crate::editions::calls::{batches, differing, migrate, open};
-use crate::editions::stores::{StoreTrial, Vault, make};
 use sqlite::{Alter, Connection};
 use std::alloc::{AllocError, Global};
 use std::test::Fail;
 use vault_audit_model::schema::Edition;
 use vault_base::refusal::Refusal;
+use vault_tests_tables_stores::calls::{batches, differing, migrate, open};
+use vault_tests_tables_stores::disks::{let_go, opened_empty};
+use vault_tests_tables_stores::stores::{StoreTrial, Vault, make};
 
 /// A copy of a vault, and what is to come of it.
 #[derive(Clone, Copy)]

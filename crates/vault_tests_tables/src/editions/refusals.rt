@@ -1,10 +1,10 @@
 //! What isn't copied, and what is left then.
 use crate::editions::copying::Copying;
-use crate::editions::stores::{Vault, try_in_files};
 use std::alloc::Global;
 use std::test::Fail;
 use vault_audit_model::schema::Edition;
 use vault_base::refusal::{Refusal, Table};
+use vault_tests_tables_stores::stores::{Vault, try_in_files};
 
 /// That a store holds nothing.
 const IS_BARE: (&str, i64) = ("SELECT count(*) FROM sqlite_schema", 0);

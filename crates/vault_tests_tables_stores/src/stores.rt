@@ -1,6 +1,6 @@
 //! Vaults that are made in stores in files in memory, and what is tried over these.
 use crate::disks::{let_go, opened_empty};
-use crate::editions::earlier::{make_first, make_second};
+use crate::earlier::{make_first, make_second};
 use sqlite::{Alter, Connection, Error};
 use std::alloc::Global;
 use std::test::Fail;

@@ -1,5 +1,5 @@
 //! A vault of an earlier edition, by statements of the tests' own.
-use crate::editions::calls::batches;
+use crate::calls::batches;
 use sqlite::{Alter, Connection, Error};
 
 /// The tables that are made before `rules`.
