@@ -17,8 +17,8 @@ use Rattle.vault_core_runs.proofs.Nearest.{gt_is}
 use Rattle.vault_core_runs.proofs.Prefixes.{cmp}
 
 -- those after a place, and those that are not
-abbrev pub behind : List ℕ → List (List ℕ) → List (List ℕ)
-behind a ks = filter (λ k. is_behind k a) ks
+abbrev pub beyond : List ℕ → List (List ℕ) → List (List ℕ)
+beyond a ks = filter (λ k. is_behind k a) ks
 
 abbrev pub up_to : List ℕ → List (List ℕ) → List (List ℕ)
 up_to a ks = filter (λ k. not (is_behind k a)) ks
@@ -85,29 +85,29 @@ pub onward : (a n : List ℕ) → is_behind n a ≡ true → (length n == 0) ≡
 onward a n there named = λ k h. later_too k n a (turn n k (gt_is (cmp k n) (sym (is_greater k n named) ∙ h))) there
 
 -- where one key comes after a place, so do all after it
-all_behind : (a k : List ℕ) (ks : List (List ℕ)) → IsUnder k ks → is_behind k a ≡ true → (behind a ks ≡ ks) × (up_to a ks ≡ [])
-all_behind a k [] under there = (refl, refl)
-all_behind a k (j ∷ js) under there =
+all_beyond : (a k : List ℕ) (ks : List (List ℕ)) → IsUnder k ks → is_behind k a ≡ true → (beyond a ks ≡ ks) × (up_to a ks ≡ [])
+all_beyond a k [] under there = (refl, refl)
+all_beyond a k (j ∷ js) under there =
     let e = later_too j k a under.0 there in
-    let rest = all_behind a k js under.1 there in (
-      ap (λ b. if b then j ∷ behind a js else behind a js) e ∙ ap (λ (l : List (List ℕ)). j ∷ l) rest.0,
+    let rest = all_beyond a k js under.1 there in (
+      ap (λ b. if b then j ∷ beyond a js else beyond a js) e ∙ ap (λ (l : List (List ℕ)). j ∷ l) rest.0,
       ap (λ b. if not b then j ∷ up_to a js else up_to a js) e ∙ rest.1,
     )
 
-pub split_place : (a : List ℕ) (ks : List (List ℕ)) → IsRising ks → up_to a ks ++ behind a ks ≡ ks
+pub split_place : (a : List ℕ) (ks : List (List ℕ)) → IsRising ks → up_to a ks ++ beyond a ks ≡ ks
 split_place a [] r = refl
 split_place a (k ∷ ks) r = by_test (is_behind k a) refl (split_place a ks r.1)
   where
-    by_test : (b : Bool) → is_behind k a ≡ b → up_to a ks ++ behind a ks ≡ ks → (if not b then k ∷ up_to a ks else up_to a ks) ++ (if b then k ∷ behind a ks else behind a ks) ≡ k ∷ ks
+    by_test : (b : Bool) → is_behind k a ≡ b → up_to a ks ++ beyond a ks ≡ ks → (if not b then k ∷ up_to a ks else up_to a ks) ++ (if b then k ∷ beyond a ks else beyond a ks) ≡ k ∷ ks
     by_test true e rest =
-        let all = all_behind a k ks r.0 e in
-        ap (λ l. l ++ k ∷ behind a ks) all.1 ∙ ap (λ (l : List (List ℕ)). k ∷ l) all.0
+        let all = all_beyond a k ks r.0 e in
+        ap (λ l. l ++ k ∷ beyond a ks) all.1 ∙ ap (λ (l : List (List ℕ)). k ∷ l) all.0
     by_test false e rest = ap (λ (l : List (List ℕ)). k ∷ l) rest
 
 -- all keys are after the empty text
-pub behind_nothing : (ks : List (List ℕ)) → behind [] ks ≡ ks
-behind_nothing [] = refl
-behind_nothing (k ∷ ks) = ap (λ (l : List (List ℕ)). k ∷ l) (behind_nothing ks)
+pub beyond_nothing : (ks : List (List ℕ)) → beyond [] ks ≡ ks
+beyond_nothing [] = refl
+beyond_nothing (k ∷ ks) = ap (λ (l : List (List ℕ)). k ∷ l) (beyond_nothing ks)
 
 none_up : (p : List ℕ → Bool) (ks : List (List ℕ)) → filter (λ k. not (p k)) (filter p ks) ≡ []
 none_up p [] = refl
@@ -118,22 +118,22 @@ none_up p (k ∷ ks) = by_test (p k) refl (none_up p ks)
     by_test false e rest = rest
 
 -- no key lies between a place and itself
-pub none_between : (a : List ℕ) (ks : List (List ℕ)) → up_to a (behind a ks) ≡ []
+pub none_between : (a : List ℕ) (ks : List (List ℕ)) → up_to a (beyond a ks) ≡ []
 none_between a ks = none_up (λ k. is_behind k a) ks
 
 module _ (ks : List (List ℕ)) (a s : List ℕ) (rising : IsRising ks) (on : IsOnward a s) where
   -- those between two places, and those after the second
-  pub rest_joined : up_to s (behind a ks) ++ behind s ks ≡ behind a ks
+  pub rest_joined : up_to s (beyond a ks) ++ beyond s ks ≡ beyond a ks
   rest_joined =
-      ap (λ l. up_to s (behind a ks) ++ l) (sym (through (λ k. is_behind k a) (λ k. is_behind k s) ks on))
-      ∙ split_place s (behind a ks) (filter_rises (λ k. is_behind k a) ks rising)
+      ap (λ l. up_to s (beyond a ks) ++ l) (sym (through (λ k. is_behind k a) (λ k. is_behind k s) ks on))
+      ∙ split_place s (beyond a ks) (filter_rises (λ k. is_behind k a) ks rising)
 
   -- those between the first and the second, and between the second and a third
-  pub joined : (n : List ℕ) → IsOnward s n → up_to s (behind a ks) ++ up_to n (behind s ks) ≡ up_to n (behind a ks)
+  pub joined : (n : List ℕ) → IsOnward s n → up_to s (beyond a ks) ++ up_to n (beyond s ks) ≡ up_to n (beyond a ks)
   joined n further =
       sym (ap (up_to n) (sym rest_joined)
-      ∙ filter-append (λ k. not (is_behind k n)) (up_to s (behind a ks)) (behind s ks)
-      ∙ ap (λ l. l ++ up_to n (behind s ks)) (wider (λ k. not (is_behind k s)) (λ k. not (is_behind k n)) (behind a ks) (λ k h. not_further k (is_behind k n) refl h)))
+      ∙ filter-append (λ k. not (is_behind k n)) (up_to s (beyond a ks)) (beyond s ks)
+      ∙ ap (λ l. l ++ up_to n (beyond s ks)) (wider (λ k. not (is_behind k s)) (λ k. not (is_behind k n)) (beyond a ks) (λ k h. not_further k (is_behind k n) refl h)))
     where
       not_further : (k : List ℕ) (b : Bool) → is_behind k n ≡ b → not (is_behind k s) ≡ true → not b ≡ true
       not_further k true e h = absurd (cc (sym h ∙ ap not (further k e)))
@@ -176,9 +176,9 @@ page_cut (k ∷ j ∷ ks) rest rising some named =
 -- a page of the keys after a place, and the place of its last key
 pub record IsPage (a : List ℕ) (ks page : List (List ℕ)) (next : List ℕ) : Type 0 where
   pub on : IsOnward a next
-  pub between : up_to next (behind a ks) ≡ page
+  pub between : up_to next (beyond a ks) ≡ page
 
-pub page_of : (a : List ℕ) (ks page rest : List (List ℕ)) → IsRising ks → behind a ks ≡ page ++ rest → 1 ≤ length page → (length (last_key page) == 0) ≡ false → IsPage a ks page (last_key page)
+pub page_of : (a : List ℕ) (ks page rest : List (List ℕ)) → IsRising ks → beyond a ks ≡ page ++ rest → 1 ≤ length page → (length (last_key page) == 0) ≡ false → IsPage a ks page (last_key page)
 page_of a ks page rest rising cut some named = record {
   on = onward a (last_key page) (passes (λ k. is_behind k a) ks (last_key page) (subst (IsIn (last_key page)) (sym cut) (last_in page rest some))) named;
   between = ap (up_to (last_key page)) cut ∙ page_cut page rest (subst IsRising cut (filter_rises (λ k. is_behind k a) ks rising)) some named;
@@ -224,8 +224,8 @@ nothing_of f (k ∷ ks) none = ap (λ l. l ++ flat_map f ks) (none k (inl refl))
 
 pub up_to_one : {X : Type 0} (f : List ℕ → List X) (a p : List ℕ) (ks : List (List ℕ)) → (length p == 0) ≡ false → is_behind p a ≡ true → IsRising ks
     → ((k : List ℕ) → is_behind k a ≡ true → cmp k p ≡ Less → f k ≡ []) → ((IsIn p ks → ⊥) → f p ≡ [])
-    → flat_map f (up_to p (behind a ks)) ≡ f p
+    → flat_map f (up_to p (beyond a ks)) ≡ f p
 up_to_one f a p ks named there rising low absent =
-    only_at f p (behind a ks) named (filter_rises (λ k. is_behind k a) ks rising)
+    only_at f p (beyond a ks) named (filter_rises (λ k. is_behind k a) ks rising)
     (λ k i less. low k (passes (λ j. is_behind j a) ks k i) less)
     (λ none. absent (λ i. none (filter_in (λ k. is_behind k a) p ks there i)))

@@ -68,11 +68,11 @@ before (x ∷ p) (z ∷ k) under = by_first (earlier z x (nat_cmp z x) (cmp k p)
     by_first (inr a) rest = and_right (nat_eq x z) (starts k p) (rest a.1)
 
 pub past : (prefix last key : List ℕ) → cmp last prefix ≡ Greater → starts last prefix ≡ false → cmp key last ≡ Greater → starts key prefix ≡ false
-past [] last key over other behind = absurd (cc other)
-past (x ∷ p) [] key over other behind = absurd (cc over)
-past (x ∷ p) (y ∷ l) [] over other behind = absurd (cc behind)
-past (x ∷ p) (y ∷ l) (z ∷ k) over other behind =
-    by_first (later y x (nat_cmp y x) (cmp l p) refl over) (later z y (nat_cmp z y) (cmp k l) refl behind) (past p l k)
+past [] last key over other after = absurd (cc other)
+past (x ∷ p) [] key over other after = absurd (cc over)
+past (x ∷ p) (y ∷ l) [] over other after = absurd (cc after)
+past (x ∷ p) (y ∷ l) (z ∷ k) over other after =
+    by_first (later y x (nat_cmp y x) (cmp l p) refl over) (later z y (nat_cmp z y) (cmp k l) refl after) (past p l k)
   where
     rest_other : y ≡ x → (nat_eq x y && starts l p) ≡ false → starts l p ≡ false
     rest_other e f = sym (ap (λ b. b && starts l p) (same_first x y e)) ∙ f

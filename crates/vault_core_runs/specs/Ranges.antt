@@ -37,12 +37,12 @@ nearest place found [] = found
 nearest place found (r ∷ rs) = nearest place (nearer place r found) rs
 
 -- the keys of a bucket after a place
-abbrev pub keys_behind : Vault → List ℕ → List ℕ → List (List ℕ)
-keys_behind v bucket place = filter (λ k. is_behind k place) (keys_of v bucket)
+abbrev pub later_keys : Vault → List ℕ → List ℕ → List (List ℕ)
+later_keys v bucket place = filter (λ k. is_behind k place) (keys_of v bucket)
 
 -- those of them that are not after a later one
 abbrev pub keys_between : Vault → List ℕ → List ℕ → List ℕ → List (List ℕ)
-keys_between v bucket place next = filter (λ k. not (is_behind k next)) (keys_behind v bucket place)
+keys_between v bucket place next = filter (λ k. not (is_behind k next)) (later_keys v bucket place)
 
 -- what comes after the next place comes after this one
 abbrev pub IsOnward : List ℕ → List ℕ → Type 0
@@ -50,7 +50,7 @@ IsOnward place next = (k : List ℕ) → is_behind k next ≡ true → is_behind
 
 -- a run goes on from a place: to a next one, where the plans of the keys between are made; to the end, where those of all later keys are; or up to a halt within them
 abbrev pub GoesOn : Result (Option (List ℕ)) Halt → Vault → List ℕ → ℕ → List ℕ → Counts → Counts → Vault → Type 0
-GoesOn (Ok None) v bucket t place old new v' = MakesAll v bucket t (plans_at v bucket t (keys_behind v bucket place)) old new v'
+GoesOn (Ok None) v bucket t place old new v' = MakesAll v bucket t (plans_at v bucket t (later_keys v bucket place)) old new v'
 GoesOn (Ok (Some next)) v bucket t place old new v' =
     IsOnward place next × MakesAll v bucket t (plans_at v bucket t (keys_between v bucket place next)) old new v'
-GoesOn (Err e) v bucket t place old new v' = MakesUpTo v bucket t (plans_at v bucket t (keys_behind v bucket place)) e old new v'
+GoesOn (Err e) v bucket t place old new v' = MakesUpTo v bucket t (plans_at v bucket t (later_keys v bucket place)) e old new v'

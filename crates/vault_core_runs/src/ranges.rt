@@ -71,9 +71,7 @@ fn nearer(
 fn is_next(place: &KeyPrefix, rule: &Rule, found: &Option<KeyPrefix>) -> bool
     ensures { result ≡ is_next place.now rule.now found.now }
 {
-    rule.enabled
-        && rule.prefix.as_str() > place.as_str()
-        && is_nearer(&rule.prefix, found)
+    rule.enabled && rule.prefix.as_str() > place.as_str() && is_nearer(&rule.prefix, found)
 }
 
 /// Whether the text comes before what was found, if anything was.

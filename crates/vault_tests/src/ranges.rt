@@ -1,10 +1,10 @@
 //! What runs and listings ask of their keeper where prefixes say which keys are meant: none is read before them, and
 //! none between two of them.
 use crate::pages::{FILLINGS, fill};
-use vault_tests_doubles::watched_keeper::WatchedKeeper;
 use std::alloc::Global;
 use std::test::Fail;
 use vault_core_model::keeper::Keeper;
+use vault_tests_doubles::watched_keeper::WatchedKeeper;
 use vault_transcript::transcript::play;
 use vault_transcript::trial::{Trial, compare, try_behind};
 
@@ -105,8 +105,24 @@ fn a_run_reads_the_keys_of_its_prefixes(rt: HostRuntime) -> Result<(), Fail> {
 }
 
 /// A listing begins at its prefix, or at the key after which it is to begin, where that comes later; it ends after its
-/// prefix.
-const LISTINGS: [Asked; 4] = [
+/// prefix. So one entry by the last key of many takes as many reads as one by the first.
+const LISTINGS: [Asked; 6] = [
+    Asked {
+        before: "",
+        transcript: r#"
+{"at":"2024-03-02T00:00:00Z","as":"ann","do":"list-versions","bucket":"docs","prefix":"k1001","most":1}
+  {"ok":{"entries":[{"admitted":"2024-03-01T00:00:00Z","current":true,"delete_marker":false,"key":"k1001","size":1,"version_id":1}],"more":false}}
+"#,
+        calls: "last\ncaller ann\nbucket docs\nentries k1001\nentry\n256 keys after k1001\n",
+    },
+    Asked {
+        before: "",
+        transcript: r#"
+{"at":"2024-03-02T00:00:00Z","as":"ann","do":"list-versions","bucket":"docs","prefix":"k1600","most":1}
+  {"ok":{"entries":[{"admitted":"2024-03-01T00:00:00Z","current":true,"delete_marker":false,"key":"k1600","size":1,"version_id":600}],"more":false}}
+"#,
+        calls: "last\ncaller ann\nbucket docs\nentries k1600\nentry\n256 keys after k1600\n",
+    },
     Asked {
         before: "",
         transcript: r#"

@@ -6,9 +6,9 @@ use Rattle.vault_core_model.specs.Vault.{Vault}
 use Rattle.vault_core_model.specs.Plan.{rules_in}
 use Rattle.vault_core_run_laws.specs.KeyRuns.{MayRun, plans_at}
 use Rattle.vault_core_runs.specs.Making.{IsLastKey, MakesAll, MakesUpTo}
-use Rattle.vault_core_runs.specs.Ranges.{keys_behind}
+use Rattle.vault_core_runs.specs.Ranges.{later_keys}
 use Rattle.vault_core_runs.proofs.Making.{MakesUpTo-fault}
-use Rattle.vault_core_runs.proofs.OverRanges.{GoesOn-err, goes_by_page, page_rises, stops_behind_page, stops_in_page}
+use Rattle.vault_core_runs.proofs.OverRanges.{GoesOn-err, goes_by_page, page_rises, stops_after_page, stops_in_page}
 use Rattle.vault_core_runs.proofs.pages.run_after.Goals as goal
 
 pub returns-in_err-keys-clause-goes : goal.returns-in_err-keys-clause-goes
@@ -19,7 +19,7 @@ returns-in_err-keys-clause-goes g c = λ h.
     let w = g.K.Kept.vault c.keys.new.self in
     let f = c.in_err-keys.field-0.0 in
     GoesOn-err c.from_residual-in_err-keys.result (halt.Fault f) v b t c.args.place.now c.args.counts.now c.args.counts.now w c.from_residual-in_err-keys.ensures.1
-    (MakesUpTo-fault v b t (plans_at v b t (keys_behind v b c.args.place.now)) f c.args.counts.now w c.keys.ensures.leaves.same)
+    (MakesUpTo-fault v b t (plans_at v b t (later_keys v b c.args.place.now)) f c.args.counts.now w c.keys.ensures.leaves.same)
 
 pub run_page-requires-clause-may : goal.run_page-requires-clause-may
 run_page-requires-clause-may g c = λ h.
@@ -59,7 +59,7 @@ returns-in_err-last-clause-goes g c = λ h.
     let v2 = g.K.Kept.vault c.run_page.new.keeper in
     let page = c.deref.ensures.value ∙ c.in_ok-keys.ensures.value (c.run_page.ensures.leaves.honest h) in
     GoesOn-err c.from_residual-in_err-last.result (halt.Fault fault.Memory) v b t c.args.place.now c.args.counts.now y v2 c.from_residual-in_err-last.ensures.1
-    (stops_behind_page v b t c.args.place.now keys page fault.Memory c.args.counts.now y v2
+    (stops_after_page v b t c.args.place.now keys page fault.Memory c.args.counts.now y v2
     (subst (λ (u : Vault). MakesAll u b t (plans_at u b t keys) c.args.counts.now y v2) c.keys.ensures.leaves.same (c.in_ok-run_page.ensures.makes h)))
 
 pub returns-clause-goes : goal.returns-clause-goes

@@ -3,7 +3,7 @@ use Rattle.vault_core_model.specs.declared.halt.Fault.TheVariants as fault
 use Rattle.vault_core_model.specs.declared.halt.Halt.TheVariants as halt
 use Rattle.vault_core_model.specs.Plan.{plan}
 use Rattle.vault_core_run_laws.specs.KeyRuns.{plans_at}
-use Rattle.vault_core_runs.specs.Ranges.{GoesOn, keys_behind}
+use Rattle.vault_core_runs.specs.Ranges.{GoesOn, later_keys}
 use Rattle.vault_core_runs.proofs.Making.{MakesSteps-err, MakesUpTo-fault}
 use Rattle.vault_core_runs.proofs.OverRanges.{all_made, go_then, goes_nowhere, may_from, up_to_halt}
 use Rattle.vault_core_runs.proofs.pages.run_pages.Goals as goal
@@ -87,4 +87,4 @@ returns-clause-makes g c = λ h.
     let y = c.loop.counts in
     up_to_halt v b t may (halt.Fault fault.Memory) x y v1
     (go_then v v1 b t [] c.loop.place x y may done.1 (Err (halt.Fault fault.Memory)) y v1 done.0
-    (MakesUpTo-fault v1 b t (plans_at v1 b t (keys_behind v1 b c.loop.place)) fault.Memory y v1 refl))
+    (MakesUpTo-fault v1 b t (plans_at v1 b t (later_keys v1 b c.loop.place)) fault.Memory y v1 refl))

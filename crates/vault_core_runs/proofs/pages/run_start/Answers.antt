@@ -2,7 +2,7 @@ use Rattle.std.proofs.Common.{List, ℕ, ◌≤◌, Some, length, refl, sym, ◌
 use Rattle.vault_core_model.specs.declared.halt.Fault.TheVariants as fault
 use Rattle.vault_core_model.specs.declared.halt.Halt.TheVariants as halt
 use Rattle.vault_core_run_laws.specs.KeyRuns.{plans_at}
-use Rattle.vault_core_runs.specs.Ranges.{keys_behind}
+use Rattle.vault_core_runs.specs.Ranges.{later_keys}
 use Rattle.vault_core_runs.proofs.Making.{MakesUpTo-fault}
 use Rattle.vault_core_runs.proofs.Nearest.{found_byte}
 use Rattle.vault_core_runs.proofs.OverRanges.{GoesOn-err, goes_nowhere, goes_to_end, goes_to_prefix, stops_at_prefix}
@@ -19,7 +19,7 @@ returns-in_err-same-clause-goes g c = λ h.
     let b = c.args.run.now.bucket in
     let t = c.args.run.now.at in
     GoesOn-err c.from_residual-in_err-same.result (halt.Fault fault.Memory) v b t c.args.place.now c.args.counts.now c.args.counts.now v c.from_residual-in_err-same.ensures.1
-    (MakesUpTo-fault v b t (plans_at v b t (keys_behind v b c.args.place.now)) fault.Memory c.args.counts.now v refl)
+    (MakesUpTo-fault v b t (plans_at v b t (later_keys v b c.args.place.now)) fault.Memory c.args.counts.now v refl)
 
 pub returns-in_err-start-clause-goes : goal.returns-in_err-start-clause-goes
 returns-in_err-start-clause-goes g c = λ h.
@@ -27,7 +27,7 @@ returns-in_err-start-clause-goes g c = λ h.
     let b = c.args.run.now.bucket in
     let t = c.args.run.now.at in
     GoesOn-err c.from_residual-in_err-start.result (halt.Fault fault.Memory) v b t c.args.place.now c.args.counts.now c.args.counts.now v c.from_residual-in_err-start.ensures.1
-    (MakesUpTo-fault v b t (plans_at v b t (keys_behind v b c.args.place.now)) fault.Memory c.args.counts.now v refl)
+    (MakesUpTo-fault v b t (plans_at v b t (later_keys v b c.args.place.now)) fault.Memory c.args.counts.now v refl)
 
 -- no rule reaches a later key
 pub returns-in_default-clause-goes : goal.returns-in_default-clause-goes
