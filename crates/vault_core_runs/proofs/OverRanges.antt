@@ -1,8 +1,7 @@
 -- A run goes on from place to place.
-use Rattle.std.proofs.Common.{◌≡◌, ℕ, suc, ◌-◌, ◌<◌, ◌≤◌, ◌++◌, ◌||◌, ◌==◌, Bool, true, false, IsTrue, nat_le, List, [], ◌∷◌, length, take, drop, get_or, Option, Some, None, Result, Ok, Err, refl, sym, ap, subst, ◌∙◌, arith, append-nil, length-take}
+use Rattle.std.proofs.Common.{◌≡◌, ℕ, suc, ◌+◌, ◌-◌, ◌<◌, ◌≤◌, ◌++◌, ◌||◌, ◌==◌, Bool, true, false, IsTrue, nat_le, List, [], ◌∷◌, length, drop, get_or, Option, Some, None, Result, Ok, Err, refl, sym, ap, subst, ◌∙◌, arith, append-nil, length-take}
 use Rattle.std.specs.Prelude.{min, not, filter, IsErrAnd, MatchOption}
 use Rattle.std.specs.Ordering.{is_gt}
-use Rattle.std.specs.declared.cmp.Ordering.TheVariants.{Less}
 use Rattle.std.proofs.lemmas.List.{take-append-drop, take_all}
 use Rattle.vault_base.specs.Name.{is_key_prefix, is_object_key}
 use Rattle.vault_rules.proofs.Truth.{both, le_of_test}
@@ -16,21 +15,27 @@ use Rattle.vault_core_model.specs.declared.reply.Counts.{Counts}
 use Rattle.vault_core_model.specs.Vault.{Vault}
 use Rattle.vault_core_model.specs.Places.{is_behind, keys_of}
 use Rattle.vault_core_model.specs.Reads.{entries_of, keys_after}
-use Rattle.vault_core_model.specs.Plan.{plan, rules_in}
+use Rattle.vault_core_model.specs.Plan.{counts, plan, rules_in}
 use Rattle.vault_core_run_laws.specs.KeyRuns.{MayRun, plan_at, plans_at, last_key}
 use Rattle.vault_core_run_laws.proofs.Keys.{HasAny, held_key, key_held, one_list}
 use Rattle.vault_core_run_laws.proofs.RunLaws.{plans_are_key_by_key, bucket_keys_rise, other_keys_stay, rising_left}
-use Rattle.vault_core_runs.specs.Making.{IsLastKey, MakesAll, MakesUpTo, MakesSteps}
+use Rattle.vault_core_runs.specs.Making.{IsLastKey, MakesAll, MakesUpTo, plus}
 use Rattle.vault_core_runs.specs.Ranges.{GoesOn, IsOnward, is_ruled, later_keys, keys_between, nearest}
-use Rattle.vault_core_runs.proofs.Making.{MakesAll-then, MakesAll-first, MakesUpTo-fault, MakesUpTo-more}
+use Rattle.vault_core_runs.proofs.Making.{MakesAll-then, MakesAll-first, MakesUpTo-fault, MakesUpTo-more, same_counts}
 use Rattle.vault_core_runs.proofs.Nearest.{found_after, found_named, unruled_all, unruled_before}
 use Rattle.vault_core_runs.proofs.OverKeys.{may_go_on, same_plans, plans_at-append}
 use Rattle.vault_core_runs.proofs.Prefixes.{cmp}
 use Rattle.vault_core_runs.proofs.Cuts.{beyond_nothing, filter_in, filter_rises, in_filter, joined, none_between, nothing_of, onward, page_of, rest_joined, up_to_one}
 use Rattle.vault_core_runs.proofs.Unruled.{absent_plan, unruled_plan}
 
+and_none : (n : ℕ) → n + 0 ≡ n
+and_none n = omega arith
+
+from_none : (x : Counts) → x ≡ plus x (counts [])
+from_none x = sym (same_counts (plus x (counts [])) x (and_none x.changes) (and_none x.marked) (and_none x.removed) (and_none x.lone))
+
 pub MakesAll-none : (v : Vault) (b : List ℕ) (t : ℕ) (x : Counts) → MakesAll v b t [] x x v
-MakesAll-none v b t x = record { ids = refl; left = refl; counted = refl }
+MakesAll-none v b t x = record { ids = refl; left = refl; counted = from_none x }
 
 pub makes_none : (v w : Vault) (b : List ℕ) (t : ℕ) (ps : List Planned) (x : Counts) → ps ≡ [] → w ≡ v → MakesAll v b t ps x x w
 makes_none v w b t ps x none same =
@@ -140,7 +145,7 @@ goes_nowhere v b t a n x same =
 
 module _ (v : Vault) (b : List ℕ) (t : ℕ) (rules : List Rule) (a : List ℕ) (given : rules_in v b ≡ rules) (out : is_ruled rules a ≡ false) where
   none_ruled : (k : List ℕ) → is_ruled rules k ≡ false → plan_at v b t k ≡ []
-  none_ruled k no = unruled_plan v b t k (ap (λ rs. is_ruled rs k) given ∙ no)
+  none_ruled k unruled = unruled_plan v b t k (ap (λ rs. is_ruled rs k) given ∙ unruled)
 
   pub goes_to_end : (x : Counts) → nearest a None rules ≡ None → GoesOn (Ok None) v b t a x x v
   goes_to_end x none =
@@ -201,7 +206,7 @@ has_byte : (n : ℕ) → 1 ≤ n → (n == 0) ≡ false
 has_byte n h = grind (arith, h)
 
 module _ (v : Vault) (b : List ℕ) (t : ℕ) (a : List ℕ) (keys : List (List ℕ)) (is : keys ≡ keys_after v b a 256) where
-  rest : List (List ℕ)
+  abbrev rest : List (List ℕ)
   rest = drop 256 (later_keys v b a)
 
   cut : later_keys v b a ≡ keys ++ rest

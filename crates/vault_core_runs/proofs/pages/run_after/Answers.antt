@@ -1,4 +1,4 @@
-use Rattle.std.proofs.Common.{ℕ, ◌<◌, List, length, Option, refl, sym, ap, subst, ◌∙◌}
+use Rattle.std.proofs.Common.{ℕ, ◌<◌, List, length, sym, ap, subst, ◌∙◌}
 use Rattle.std.specs.Prelude.{MatchOption}
 use Rattle.vault_core_model.specs.declared.halt.Fault.TheVariants as fault
 use Rattle.vault_core_model.specs.declared.halt.Halt.TheVariants as halt
@@ -18,7 +18,7 @@ returns-in_err-keys-clause-goes g c = λ h.
     let t = c.args.run.now.at in
     let w = g.K.Kept.vault c.keys.new.self in
     let f = c.in_err-keys.field-0.0 in
-    GoesOn-err c.from_residual-in_err-keys.result (halt.Fault f) v b t c.args.place.now c.args.counts.now c.args.counts.now w c.from_residual-in_err-keys.ensures.1
+    GoesOn-err c.from_residual.result (halt.Fault f) v b t c.args.place.now c.args.counts.now c.args.counts.now w c.from_residual.ensures.1
     (MakesUpTo-fault v b t (plans_at v b t (later_keys v b c.args.place.now)) f c.args.counts.now w c.keys.ensures.leaves.same)
 
 pub run_page-requires-clause-may : goal.run_page-requires-clause-may

@@ -1,4 +1,4 @@
-use Rattle.std.proofs.Common.{List, ℕ, Option, Ok, Err, subst, ◌∙◌}
+use Rattle.std.proofs.Common.{List, ℕ, Option, Ok, subst, ◌∙◌}
 use Rattle.vault_core_runs.specs.Ranges.{GoesOn}
 use Rattle.vault_core_runs.proofs.OverRanges.{GoesOn-err, go_then, may_from}
 use Rattle.vault_core_runs.proofs.pages.run_next.Goals as goal

@@ -1,4 +1,4 @@
-use Rattle.std.proofs.Common.{ℕ, List, [], Option, Some, None, Ok, Err, refl, sym, subst, ◌∙◌, rules}
+use Rattle.std.proofs.Common.{ℕ, List, [], Option, Some, None, Ok, Err, refl, subst, ◌∙◌, rules}
 use Rattle.vault_core_model.specs.declared.halt.Fault.TheVariants as fault
 use Rattle.vault_core_model.specs.declared.halt.Halt.TheVariants as halt
 use Rattle.vault_core_model.specs.Plan.{plan}

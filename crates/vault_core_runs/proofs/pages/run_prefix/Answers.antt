@@ -1,4 +1,4 @@
-use Rattle.std.proofs.Common.{List, ℕ, ◌≡◌, ◌==◌, Bool, true, false, length, Option, Some, None, refl, sym, subst, ◌∙◌, arith}
+use Rattle.std.proofs.Common.{List, ℕ, refl, subst}
 use Rattle.vault_core_model.specs.declared.halt.Fault.TheVariants as fault
 use Rattle.vault_core_model.specs.declared.halt.Halt.TheVariants as halt
 use Rattle.vault_core_run_laws.specs.KeyRuns.{plan_at}

@@ -1,4 +1,4 @@
-use Rattle.std.proofs.Common.{List, ℕ, ◌≤◌, Some, length, refl, sym, ◌∙◌, arith}
+use Rattle.std.proofs.Common.{refl, sym, ◌∙◌}
 use Rattle.vault_core_model.specs.declared.halt.Fault.TheVariants as fault
 use Rattle.vault_core_model.specs.declared.halt.Halt.TheVariants as halt
 use Rattle.vault_core_run_laws.specs.KeyRuns.{plans_at}
@@ -18,7 +18,7 @@ returns-in_err-same-clause-goes g c = λ h.
     let v = g.K.Kept.vault c.args.keeper.now in
     let b = c.args.run.now.bucket in
     let t = c.args.run.now.at in
-    GoesOn-err c.from_residual-in_err-same.result (halt.Fault fault.Memory) v b t c.args.place.now c.args.counts.now c.args.counts.now v c.from_residual-in_err-same.ensures.1
+    GoesOn-err c.from_residual.result (halt.Fault fault.Memory) v b t c.args.place.now c.args.counts.now c.args.counts.now v c.from_residual.ensures.1
     (MakesUpTo-fault v b t (plans_at v b t (later_keys v b c.args.place.now)) fault.Memory c.args.counts.now v refl)
 
 pub returns-in_err-start-clause-goes : goal.returns-in_err-start-clause-goes
