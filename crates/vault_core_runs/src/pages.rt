@@ -3,8 +3,8 @@ ghost use Rattle.std.specs.Prelude.{◌≡◌, ◌≤◌, ◌<◌, [], length, I
 ghost use Rattle.vault_core_model.specs.Leaves.{Leaves};
 ghost use Rattle.vault_core_model.specs.Halts.{is_device};
 ghost use Rattle.vault_core_model.specs.Plan.{plan, rules_in};
-ghost use Rattle.vault_core_run_laws.specs.KeyRuns.{MayRun, plan_at, plans_at};
-ghost use Rattle.vault_core_runs.specs.Making.{IsLastKey, MakesSteps};
+ghost use Rattle.vault_core_run_laws.specs.KeyRuns.{MayRun, plans_at};
+ghost use Rattle.vault_core_runs.specs.Making.{IsLastKey, MakesPlanAt, MakesSteps};
 ghost use Rattle.vault_core_runs.specs.Ranges.{GoesOn};
 ghost use Rattle.vault_rules_laws.specs.BucketLaws.{IsRising};
 
@@ -98,7 +98,7 @@ fn run_prefix<K: Keeper>(
     requires named { 1 ≤ length prefix.now }
     requires may { K.is_honest keeper.old → MayRun (K.vault keeper.old) run.now.bucket run.now.at }
     requires given { K.is_honest keeper.old → rules_in (K.vault keeper.old) run.now.bucket ≡ run.now.rules }
-    ensures makes { K.is_honest keeper.new → MakesSteps result (K.vault keeper.old) run.now.bucket run.now.at (plan_at (K.vault keeper.old) run.now.bucket run.now.at prefix.now) counts.old counts.new (K.vault keeper.new) }
+    ensures makes { K.is_honest keeper.new → MakesPlanAt result (K.vault keeper.old) run.now.bucket run.now.at prefix.now counts.old counts.new (K.vault keeper.new) }
     ensures leaves { Leaves K.Kept keeper.old keeper.new (is_device result) }
 {
     let Some(key) = prefix.to_key()? else {
