@@ -48,7 +48,7 @@ fn about_named(name: &str, value: &Value) -> Result<About, LineFault>
 }
 
 #[tactic(auto, unfolding(crate::specs::Inquiry::about_of))]
-fn about(value: &Value) -> Result<About, LineFault>
+fn asked_about(value: &Value) -> Result<About, LineFault>
     ensures { Gives (λ x. x) result (spec.about_of (view value.now)) }
 {
     let name = text_of("do", value)?;
@@ -69,7 +69,7 @@ fn shown(moment: Option<Moment>) -> Result<Moment, LineFault>
 fn asked(alloc: Global, value: &Value, moment: Option<Moment>) -> Result<Inquiry, LineFault>
     ensures { Gives (λ x. x) result (spec.asked_of moment (view value.now)) }
 {
-    let about = about(value)?;
+    let about = asked_about(value)?;
     let at = shown(moment)?;
     let who = asker(alloc, value)?;
     Ok(Inquiry { at, who, about })
@@ -100,7 +100,11 @@ fn trimmed(line: &[u8]) -> &[u8]
 /// `MalformedBody`; then ClockOutOfRange comes where the clock shows no moment, and AccessDenied where `as` is no name
 /// of a caller. `Memory` is want of memory.
 #[tactic(auto, unfolding(crate::specs::Inquiry::inquiry_of))]
-pub fn inquiry(alloc: Global, line: &[u8], moment: Option<Moment>) -> Result<Inquiry, LineFault>
+pub fn read_inquiry(
+    alloc: Global,
+    line: &[u8],
+    moment: Option<Moment>,
+) -> Result<Inquiry, LineFault>
     ensures { Gives (λ x. x) result (spec.inquiry_of moment line.now) }
 {
     if line.len() > LONGEST_LINE {

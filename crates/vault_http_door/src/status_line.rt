@@ -8,7 +8,7 @@ use std::alloc::{AllocError, Global};
 use vault_base::moment::Moment;
 
 /// How a vault and its server are.
-#[derive(Clone, Copy, Debug, PartialEq, Eq)]
+#[derive(Clone, Copy, PartialEq, Eq)]
 pub struct Status {
     /// How many entries were ever admitted, removed ones and delete markers included.
     pub entries: u64,

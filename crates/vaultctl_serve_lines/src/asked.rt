@@ -9,7 +9,7 @@ use vault_base::name::CallerName;
 use vault_base::refusal::Refusal;
 use vault_http::read_line::Line;
 use vault_http::stamped::{closer, stamp_line};
-use vault_http_door::inquiry::{About, Inquiry, inquiry};
+use vault_http_door::inquiry::{About, Inquiry, read_inquiry};
 use vault_values::fault::LineFault;
 
 /// What a line of the second door asks for.
@@ -108,7 +108,7 @@ fn unlike_command(
     if let Some(who) = closer(alloc, line)? {
         return Ok(end_at(moment, who));
     }
-    match inquiry(alloc, line, *moment) {
+    match read_inquiry(alloc, line, *moment) {
         Ok(inquiry) => Ok(about(inquiry)),
         Err(LineFault::Refused(refusal)) => Ok(DoorLine::Line(Line::Refused(refusal))),
         Err(LineFault::Memory) => Err(AllocError),

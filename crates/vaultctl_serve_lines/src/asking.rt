@@ -31,7 +31,7 @@ use vault_io::writing::write_bytes;
 use vaultctl_replay::ReplayFault;
 
 /// What is answered to what only this door has.
-#[derive(Clone, Copy, Debug, PartialEq, Eq)]
+#[derive(Clone, Copy, PartialEq, Eq)]
 pub enum Found {
     /// The server ends.
     End,
