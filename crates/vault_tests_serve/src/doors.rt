@@ -157,7 +157,7 @@ fn serve<K: Keeper>(
         version: "1.2 (schema 3)",
         since: Moment::from_secs(READING - 60),
     };
-    let next = serve_doors(&clock, service, &mut doors, keeper, n, &mut reports);
+    let next = serve_doors(&clock, &service, &mut doors, keeper, n, &mut reports);
     let (left, kept) = (doors.turns.len(), doors.kept);
     drop(doors);
     Ok(Served {

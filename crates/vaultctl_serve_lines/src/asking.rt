@@ -99,14 +99,14 @@ fn line_of(alloc: Global, reply: Reply) -> Result<String, AllocError>
 fn stated_line(
     alloc: Global,
     version: &str,
-    stated: Result<Found, Refusal>,
+    stated: &Result<Found, Refusal>,
 ) -> Result<String, AllocError>
-    ensures { IfOk result (λ text. string_bytes text ≡ stated_text version.now stated) }
+    ensures { IfOk result (λ text. string_bytes text ≡ stated_text version.now stated.now) }
 {
     match stated {
         Ok(Found::End) => line_of(alloc, Reply::Done(Answer::Nothing)),
-        Ok(Found::Status(status)) => status_line(alloc, version, &status),
-        Err(refusal) => line_of(alloc, Reply::Refused(refusal)),
+        Ok(Found::Status(status)) => status_line(alloc, version, status),
+        Err(refusal) => line_of(alloc, Reply::Refused(*refusal)),
     }
 }
 
@@ -115,10 +115,10 @@ fn write_stated<W: Write>(
     alloc: Global,
     writer: &mut W,
     version: &str,
-    stated: Result<Found, Refusal>,
+    stated: &Result<Found, Refusal>,
 ) -> Result<(), ReplayFault>
-    ensures begun { Begins (W.contents writer.old) (W.contents writer.new) (stated_text version.now stated) }
-    ensures whole { OnOk result (Appends (W.contents writer.old) (W.contents writer.new) (stated_text version.now stated)) }
+    ensures begun { Begins (W.contents writer.old) (W.contents writer.new) (stated_text version.now stated.now) }
+    ensures whole { OnOk result (Appends (W.contents writer.old) (W.contents writer.new) (stated_text version.now stated.now)) }
 {
     let Ok(line) = stated_line(alloc, version, stated) else {
         return Err(ReplayFault::Memory);
@@ -130,8 +130,8 @@ fn write_stated<W: Write>(
 }
 
 /// Whether the server ends.
-fn is_end(stated: Result<Found, Refusal>) -> bool
-    ensures { result ≡ spec.is_end stated }
+fn is_end(stated: &Result<Found, Refusal>) -> bool
+    ensures { result ≡ spec.is_end stated.now }
 {
     match stated {
         Ok(Found::End) => true,
@@ -143,20 +143,20 @@ fn is_end(stated: Result<Found, Refusal>) -> bool
 /// Answers what only this door has: where a caller asks for the end who may, the server ends, also where the reply
 /// isn't taken. The faults are those of `write_stated`.
 pub fn give<W: Write, K: Keeper>(
-    service: Service<'_>,
+    service: &Service,
     writer: &mut W,
     keeper: &mut K,
     asked: &Asked,
 ) -> Result<Next, ReplayFault>
-    ensures ok { IfOk result (λ next. Given (Written next (W.contents writer.old) (W.contents writer.new)) (standing K.Kept keeper.old) (standing K.Kept keeper.new) service.entry asked.now) }
-    ensures err { OnErr result (Given (Begins (W.contents writer.old) (W.contents writer.new)) (standing K.Kept keeper.old) (standing K.Kept keeper.new) service.entry asked.now) }
+    ensures ok { IfOk result (λ next. Given (Written next (W.contents writer.old) (W.contents writer.new)) (standing K.Kept keeper.old) (standing K.Kept keeper.new) service.now asked.now) }
+    ensures err { OnErr result (Given (Begins (W.contents writer.old) (W.contents writer.new)) (standing K.Kept keeper.old) (standing K.Kept keeper.new) service.now asked.now) }
     ensures end { result ≡ Ok Next.End → K.is_honest keeper.new → (asked.now.what ≡ Wanted.End) × IsOk (administrator (K.vault keeper.new) asked.now.at asked.now.who) }
     ensures leaves { LeavesNoLess K.Kept keeper.old keeper.new }
 {
     let found = find(keeper, service.since, asked);
     let answer = stated(found);
-    let written = write_stated(service.alloc, writer, service.version, answer);
-    if is_end(answer) {
+    let written = write_stated(service.alloc, writer, service.version, &answer);
+    if is_end(&answer) {
         return Ok(Next::End);
     }
     match written {

@@ -31,7 +31,7 @@ pub struct Places<'a> {
     /// Where lines come in.
     pub lines: LinePlace<'a>,
     /// The version of the program, which it says where it is asked how things are.
-    pub version: &'a str,
+    pub version: &'static str,
 }
 
 /// The listener of requests, at which no accept waits.
@@ -106,5 +106,5 @@ pub fn serve_with_lines<
         talk: None,
         line_was_last: false,
     };
-    Ok(serve_doors(rt, service, &mut doors, keeper, count, reporter))
+    Ok(serve_doors(rt, &service, &mut doors, keeper, count, reporter))
 }

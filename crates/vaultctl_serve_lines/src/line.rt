@@ -48,15 +48,15 @@ fn answer_asked<W: Write, K: Keeper>(
 
 /// As `serve_line`, at the moment that the clock shows.
 fn serve_line_at<W: Write, K: Keeper>(
-    service: Service<'_>,
+    service: &Service,
     heard: &Heard,
     writer: &mut W,
     keeper: &mut K,
     moment: &Option<Moment>,
 ) -> Result<Next, ReplayFault>
-    ensures ok { IfOk result (λ next. LineAnswered service.entry next (standing K.Kept keeper.old) (standing K.Kept keeper.new)
+    ensures ok { IfOk result (λ next. LineAnswered service.now next (standing K.Kept keeper.old) (standing K.Kept keeper.new)
         (W.contents writer.old) (W.contents writer.new) moment.now heard.now) }
-    ensures err { OnErr result (LineLeft service.entry (standing K.Kept keeper.old) (standing K.Kept keeper.new)
+    ensures err { OnErr result (LineLeft service.now (standing K.Kept keeper.old) (standing K.Kept keeper.new)
         (W.contents writer.old) (W.contents writer.new) moment.now heard.now) }
     ensures end { result ≡ Ok Next.End → K.is_honest keeper.new → MayEnd (K.vault keeper.new) moment.now heard.now.bytes.items }
     ensures once { K.is_honest keeper.new → AtMostOne moment.now (K.vault keeper.old) (K.vault keeper.new) }
@@ -76,17 +76,17 @@ fn serve_line_at<W: Write, K: Keeper>(
 /// `Write` comes where the reply can't be written, and `Memory` where room was refused: then the line was carried out,
 /// or not. `Read` never comes.
 pub fn serve_line<W: Write, K: Keeper>(
-    service: Service<'_>,
+    service: &Service,
     heard: &Heard,
     writer: &mut W,
     keeper: &mut K,
     reading: i64,
 ) -> Result<Next, ReplayFault>
     // What is written is the reply to what the line asks for at the reading; where the server ends, a beginning of it.
-    ensures ok { IfOk result (λ next. LineAnswered service.entry next (standing K.Kept keeper.old) (standing K.Kept keeper.new)
+    ensures ok { IfOk result (λ next. LineAnswered service.now next (standing K.Kept keeper.old) (standing K.Kept keeper.new)
         (W.contents writer.old) (W.contents writer.new) (moment_at reading) heard.now) }
     // Of a line that was carried out, or wasn't, a beginning of its reply is written.
-    ensures err { OnErr result (LineLeft service.entry (standing K.Kept keeper.old) (standing K.Kept keeper.new)
+    ensures err { OnErr result (LineLeft service.now (standing K.Kept keeper.old) (standing K.Kept keeper.new)
         (W.contents writer.old) (W.contents writer.new) (moment_at reading) heard.now) }
     // Only a line that asks for the end ends the server, and only by a caller who has the right to administer.
     ensures end { result ≡ Ok Next.End → K.is_honest keeper.new → MayEnd (K.vault keeper.new) (moment_at reading) heard.now.bytes.items }

@@ -37,7 +37,7 @@ pub enum Turn {
 /// Then nothing was carried out.
 fn answer_talker<C: Clock, P: Peer, K: Keeper>(
     clock: &C,
-    service: Service<'_>,
+    service: &Service,
     talker: &P,
     heard: &Heard,
     keeper: &mut K,
@@ -88,7 +88,7 @@ fn turn_of(answered: Result<Next, ReplayFault>) -> Turn
 /// One turn: waits for what comes, and serves a request or a line, at the clock's reading as it is taken.
 fn serve_turn<C: Clock, D: Doors, K: Keeper>(
     clock: &C,
-    service: Service<'_>,
+    service: &Service,
     doors: &mut D,
     keeper: &mut K,
 ) -> Turn
@@ -117,7 +117,7 @@ fn serve_turn<C: Clock, D: Doors, K: Keeper>(
 /// reported.
 fn watch_turn<C: Clock, D: Doors, K: Keeper, T: Reporter>(
     clock: &C,
-    service: Service<'_>,
+    service: &Service,
     doors: &mut D,
     keeper: &mut K,
     since: u64,
@@ -146,7 +146,7 @@ fn watch_turn<C: Clock, D: Doors, K: Keeper, T: Reporter>(
 /// other, and so does a line.
 pub fn serve_doors<C: Clock, D: Doors, K: Keeper, T: Reporter>(
     clock: &C,
-    service: Service<'_>,
+    service: &Service,
     doors: &mut D,
     keeper: &mut K,
     count: u32,

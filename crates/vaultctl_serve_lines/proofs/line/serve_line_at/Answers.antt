@@ -8,21 +8,21 @@ use Rattle.vaultctl_serve_lines.proofs.line.serve_line_at.Goals as goal
 -- room for the line was refused
 pub returns-in_default-clause-err : goal.returns-in_default-clause-err
 returns-in_default-clause-err g c =
-    line-left-none c.args.service.entry c.args.heard.now c.args.moment.now (standing g.K.Kept c.args.keeper.now) (g.W.Write.contents c.args.writer.now)
+    line-left-none c.args.service.now c.args.heard.now c.args.moment.now (standing g.K.Kept c.args.keeper.now) (g.W.Write.contents c.args.writer.now)
 
 -- somebody asked for what only this door has
 pub returns-in-Asked-clause-ok : goal.returns-in-Asked-clause-ok
 returns-in-Asked-clause-ok g c =
     let is = sym c.in-Asked.is ∙ c.in-Ok.ensures in
     IfOk-weaker c.give.result _ _
-    (λ next e. line-answered c.args.heard.now c.args.moment.now (door.Asked c.in-Asked.asked) is c.args.service.entry (standing g.K.Kept c.args.keeper.now) (standing g.K.Kept c.give.new.keeper) (g.W.Write.contents c.args.writer.now) (g.W.Write.contents c.give.new.writer) next e)
+    (λ next e. line-answered c.args.heard.now c.args.moment.now (door.Asked c.in-Asked.asked) is c.args.service.now (standing g.K.Kept c.args.keeper.now) (standing g.K.Kept c.give.new.keeper) (g.W.Write.contents c.args.writer.now) (g.W.Write.contents c.give.new.writer) next e)
     c.give.ensures.ok
 
 pub returns-in-Asked-clause-err : goal.returns-in-Asked-clause-err
 returns-in-Asked-clause-err g c =
     let is = sym c.in-Asked.is ∙ c.in-Ok.ensures in
     on_err_weaker c.give.result
-    (λ e. line-left c.args.heard.now c.args.moment.now (door.Asked c.in-Asked.asked) is c.args.service.entry (standing g.K.Kept c.args.keeper.now) (standing g.K.Kept c.give.new.keeper) (g.W.Write.contents c.args.writer.now) (g.W.Write.contents c.give.new.writer) e)
+    (λ e. line-left c.args.heard.now c.args.moment.now (door.Asked c.in-Asked.asked) is c.args.service.now (standing g.K.Kept c.args.keeper.now) (standing g.K.Kept c.give.new.keeper) (g.W.Write.contents c.args.writer.now) (g.W.Write.contents c.give.new.writer) e)
     c.give.ensures.err
 
 pub returns-in-Asked-clause-end : goal.returns-in-Asked-clause-end
@@ -39,14 +39,14 @@ pub returns-in-Line-clause-ok : goal.returns-in-Line-clause-ok
 returns-in-Line-clause-ok g c =
     let is = sym c.in-Line.is ∙ c.in-Ok.ensures in
     each-ok c.answer_asked.result _
-    (λ next a. line-answered c.args.heard.now c.args.moment.now (door.Line c.in-Line.asked) is c.args.service.entry (standing g.K.Kept c.args.keeper.now) (standing g.K.Kept c.answer_asked.new.keeper) (g.W.Write.contents c.args.writer.now) (g.W.Write.contents c.answer_asked.new.writer) next a)
+    (λ next a. line-answered c.args.heard.now c.args.moment.now (door.Line c.in-Line.asked) is c.args.service.now (standing g.K.Kept c.args.keeper.now) (standing g.K.Kept c.answer_asked.new.keeper) (g.W.Write.contents c.args.writer.now) (g.W.Write.contents c.answer_asked.new.writer) next a)
     c.answer_asked.ensures.ok
 
 pub returns-in-Line-clause-err : goal.returns-in-Line-clause-err
 returns-in-Line-clause-err g c =
     let is = sym c.in-Line.is ∙ c.in-Ok.ensures in
     on_err_weaker c.answer_asked.result
-    (λ e. line-left c.args.heard.now c.args.moment.now (door.Line c.in-Line.asked) is c.args.service.entry (standing g.K.Kept c.args.keeper.now) (standing g.K.Kept c.answer_asked.new.keeper) (g.W.Write.contents c.args.writer.now) (g.W.Write.contents c.answer_asked.new.writer) e)
+    (λ e. line-left c.args.heard.now c.args.moment.now (door.Line c.in-Line.asked) is c.args.service.now (standing g.K.Kept c.args.keeper.now) (standing g.K.Kept c.answer_asked.new.keeper) (g.W.Write.contents c.args.writer.now) (g.W.Write.contents c.answer_asked.new.writer) e)
     c.answer_asked.ensures.err
 
 pub returns-in-Line-clause-once : goal.returns-in-Line-clause-once
