@@ -78,7 +78,7 @@ closes false line moment bytes asked e what = absurd cc
 -- ---- what is answered where the server ends
 
 ended-by : (v : Vault) (failures : ℕ) (since : Option ℕ) (who : Result Caller Refusal) (what : Wanted) → who >>= (λ c. Ok (found_of v failures since what)) ≡ Ok found.End → (what ≡ wanted.End) × IsOk who
-ended-by v failures since (Ok c) wanted.End e = (refl, tt)
+ended-by v failures since (Ok c) wanted.End e = (refl, refl)
 ended-by v failures since (Ok c) (wanted.About about.Status) e = absurd cc
 ended-by v failures since (Err r) what e = absurd cc
 
