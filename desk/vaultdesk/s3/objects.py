@@ -53,6 +53,14 @@ class Admitted(NamedTuple):
     moment: str
 
 
+def _admission(asked: Asked, version: int) -> str | None:
+    """When a version was admitted, as a server says it to a caller with the right get; none to others."""
+    try:
+        return str(asked.ask("head", **asked.place, id=version)["admitted"])
+    except Fault:
+        return None
+
+
 def _admitted(asked: Asked, content: bytes) -> Admitted:
     """Has a content admitted with the locks that are asked for."""
     if xml.UNWRITABLE.search(asked.request.key):
@@ -65,10 +73,11 @@ def _admitted(asked: Asked, content: bytes) -> Admitted:
     if told.value.get("again"):
         # Admitted by an earlier request; it may be gone by now, so nothing more is asked of it.
         return Admitted(version, etags.md5_of(content), told.at)
-    if not told.is_certain:
+    moment = told.at if told.is_certain else _admission(asked, version)
+    if moment is None:
         # By a second the MD5 would be noted of another moment: it is noted as the version is read.
         return Admitted(version, etags.md5_of(content), told.at)
-    return Admitted(version, asked.vault.etags.note(version, told.at, content), told.at)
+    return Admitted(version, asked.vault.etags.note(version, moment, content), moment)
 
 
 def put(asked: Asked) -> Answer:
