@@ -53,6 +53,10 @@ EDITS = [
     ("deliveries", "        differing = _differing(engine, words.bucket, taken)\n    except EngineError as error:\n",
      "        differing = _differing(engine, words.bucket, taken)\n    except UnicodeEncodeError as error:\n",
      ALONE + "test_a_delivery_is_reported_also_where_it_cant_be_compared"),
+    ("deliveries", "        if not engine.is_served:\n            raise\n", "        raise\n",
+     ALONE + "test_a_delivery_is_reported_also_where_it_cant_be_compared"),
+    ("deliveries", "            if error.code == \"AccessDenied\":\n", "            if False:\n",
+     ALONE + "test_a_delivery_is_reported_also_where_it_cant_be_compared"),
     ("deliveries", "    if why:\n", "    if False:\n",
      ALONE + "test_a_delivery_is_reported_also_where_it_cant_be_compared"),
     # deliveries
