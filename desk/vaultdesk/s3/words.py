@@ -14,6 +14,7 @@ from vaultdesk.engine import Engine
 from vaultdesk.errors import DeskError, UsageError
 from vaultdesk.output import print_done, print_json, print_table, say
 from vaultdesk.s3 import keys, settings
+from vaultdesk.s3.again import Unanswered
 from vaultdesk.s3.asked import Vault
 from vaultdesk.s3.door import OwnEngine
 from vaultdesk.s3.etags import Etags
@@ -60,7 +61,7 @@ def serve(words: argparse.Namespace) -> int:
     etags = Etags(given.etags)
     door = OwnEngine(engine)
     door.open()
-    vault = Vault(door, etags, given, list(buckets))
+    vault = Vault(door, etags, given, list(buckets), Unanswered(given.unanswered))
     with _listening(given, Gateway(vault, there), words.quiet) as server:
         _say_unlocked(buckets)
         scheme = "https" if given.certificate else "http"
