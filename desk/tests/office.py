@@ -41,6 +41,8 @@ class OfficeTest(unittest.TestCase):
     office: dict[str, bytes] = {}  # the files of that vault, which is made once for all tests
 
     def setUp(self) -> None:
+        # Some subcommands keep what they make from others, which lasts as long as the process does.
+        self.addCleanup(os.umask, os.umask(0o022))
         self.folder = Path(self.enterContext(tempfile.TemporaryDirectory(dir=MEMORY)))
         self.file = self.folder / "records.vault"
         self.make()
