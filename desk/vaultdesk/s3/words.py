@@ -63,13 +63,15 @@ def serve(words: argparse.Namespace) -> int:
     door.open()
     vault = Vault(door, etags, given, list(buckets), Unanswered(given.unanswered))
     with _listening(given, Gateway(vault, there), words.quiet) as server:
+        _stop_at_signals(server)  # before it is said that it serves
         _say_unlocked(buckets)
         scheme = "https" if given.certificate else "http"
         where = f"{scheme}://{given.address}:{server.server_address[1]}"
         say(f"serving {desk.file} to clients of S3 at {where}")
         print_done(words.json, vault=str(desk.file), serves=where, buckets=list(buckets))
         sys.stdout.flush()
-        _serve_until_stopped(server)
+        server.serve_forever()
+        server.wait_idle(LAST_ANSWERS)
     door.close()
     etags.close()
     return 0
@@ -82,16 +84,14 @@ def _listening(given: Settings, gateway: Gateway, is_quiet: bool) -> Server:
         raise DeskError(f"{given.address}:{given.port}: {error.strerror or error}") from error
 
 
-def _serve_until_stopped(server: Server) -> None:
-    """Serves until a signal comes, and answers then what is under way."""
+def _stop_at_signals(server: Server) -> None:
+    """Has a signal end what the server serves, also one that comes before it has begun."""
 
     def stop(*_: object) -> None:
         threading.Thread(target=server.shutdown).start()
 
     for it in (signal.SIGTERM, signal.SIGINT):
         signal.signal(it, stop)
-    server.serve_forever()
-    server.wait_idle(LAST_ANSWERS)
 
 
 # ---- access keys
