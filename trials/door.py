@@ -212,9 +212,9 @@ def closing(server: Server) -> None:
 
 def status(server: Server) -> None:
     """A caller with the right to administer is answered how things are, and nobody else is."""
-    began = time.strftime("%Y-%m-%dT%H:%M:%SZ", time.gmtime())
     first = json.loads(server.lines(line("registrar", "status"))[0])["ok"]
-    check(first["since"] <= began, f"it began at {first['since']}, and the clock shows {began}")
+    answered = time.strftime("%Y-%m-%dT%H:%M:%SZ", time.gmtime())
+    check(first["since"] <= answered, f"it began at {first['since']}, and the clock shows {answered}")
     equal(ok_puts(server.lines(put("a") + put("b"))), [1, 2], "two puts")
     second = json.loads(server.lines(line("registrar", "status"))[0])["ok"]
     equal(second["last"] >= first["last"], True, "the last moment")
