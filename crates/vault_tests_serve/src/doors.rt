@@ -8,6 +8,7 @@ use std::test::Fail;
 use std::time::Duration;
 use vault_core::fuse_keeper::FuseKeeper;
 use vault_core_model::keeper::Keeper;
+use vault_http::Hosts;
 use vault_transcript::transcript::opened;
 use vaultctl_serve_lines::doors::{Arrived, Doors, Heard};
 use vaultctl_serve_lines::line::Next;
@@ -57,6 +58,7 @@ struct KnownDoors<'a> {
     pace: u64,
     /// How many connections of lines were kept open.
     kept: u32,
+    hosts: &'a Hosts,
     alloc: Global,
 }
 
@@ -110,6 +112,10 @@ impl<'a> Doors for KnownDoors<'a> {
         READING
     }
 
+    fn hosts(&self) -> &Hosts {
+        self.hosts
+    }
+
     fn keep(&mut self, _talker: SlowPeer<'a, 'static>) {
         self.kept = self.kept.saturating_add(1);
     }
@@ -140,12 +146,14 @@ fn serve<K: Keeper>(
     };
     let taken = Cell::new(Vec::new(alloc));
     let mut reports = Vec::new(alloc);
+    let hosts = Hosts::any(alloc);
     let mut doors = KnownDoors {
         clock: &clock,
         turns,
         taken: &taken,
         pace,
         kept: 0,
+        hosts: &hosts,
         alloc,
     };
     let next = serve_doors(&clock, alloc, &mut doors, keeper, n, &mut reports);

@@ -18,6 +18,7 @@ use std::io;
 use std::net::{Ipv4Addr, Net, TcpListener, TcpStream};
 use std::time::Clock;
 use vault_core_model::keeper::Keeper;
+use vault_http::Hosts;
 
 /// What is served, and where.
 #[derive(Clone, Copy)]
@@ -28,6 +29,8 @@ pub struct Places<'a> {
     pub port: u16,
     /// Where lines come in.
     pub lines: LinePlace<'a>,
+    /// The hosts that requests may be for.
+    pub hosts: &'a Hosts,
 }
 
 /// The listener of requests, at which no accept waits.
@@ -94,6 +97,7 @@ pub fn serve_with_lines<
         alloc,
         requests: &requests,
         lines: &lines,
+        hosts: places.hosts,
         talk: None,
         line_was_last: false,
     };
