@@ -1,3 +1,4 @@
 mod Adding
+mod Parts
 mod Walking
 mod Written
