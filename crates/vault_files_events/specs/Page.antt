@@ -32,8 +32,9 @@ page_text m after v = header_if_first after ++ event_rows (asked_in (Some m) (pa
 abbrev pub rest_text : ℕ → ℕ → Vault → List ℕ
 rest_text m after v = event_rows (asked_in (Some m) (drop after v.histories))
 
-abbrev pub IsPage : EventsPage → ℕ → ℕ → Vault → Type 0
-IsPage page m after v = (page.text.items ≡ page_text m after v) × (page.next ≡ next_of (length v.histories) after)
+-- the part after an id, and where the next one begins
+abbrev pub page_of : ℕ → ℕ → Vault → EventsPage
+page_of m after v = record { text = page_text m after v; next = next_of (length v.histories) after }
 
 -- a fault says nothing; the one refusal is of a moment that the vault hasn't reached
 abbrev pub StopsAs : Halt → ℕ → Vault → Type 0
@@ -42,5 +43,5 @@ StopsAs (halt.Refused r) m v = (r ≡ refusal.InvalidArgument) × (v.last < m)
 
 -- a part is of what was before a moment that isn't past the last one
 abbrev pub PagesAs : Result EventsPage Halt → ℕ → ℕ → Vault → Type 0
-PagesAs (Ok page) m after v = (m ≤ v.last) × IsPage page m after v
+PagesAs (Ok page) m after v = (m ≤ v.last) × (page ≡ page_of m after v)
 PagesAs (Err e) m after v = StopsAs e m v

@@ -13,6 +13,7 @@ use crate::past::{Past, count_entries, read_past};
 use crate::rows::rows_of;
 use crate::walk::HEADER;
 use std::alloc::{AllocError, Global};
+use vault_base::content::Content;
 use vault_base::moment::Moment;
 use vault_base::name::VersionId;
 use vault_base::refusal::Refusal;
@@ -22,7 +23,7 @@ use vault_core_model::keeper::Keeper;
 /// A part of the text of events, and where the next one begins.
 #[derive(Drop)]
 pub struct EventsPage {
-    pub text: Vec<u8>,
+    pub text: Content,
     /// The id after which the next part begins; none after the last entry.
     pub next: Option<u32>,
 }
@@ -136,7 +137,7 @@ fn page_before<K: Keeper>(
     after: u32,
     before: Moment,
 ) -> Result<EventsPage, Fault>
-    ensures value { K.is_honest keeper.new → IfOk result (λ page. spec.IsPage page before after (K.vault keeper.old)) }
+    ensures value { K.is_honest keeper.new → IfOk result (λ page. page ≡ spec.page_of before after (K.vault keeper.old)) }
     ensures leaves { ReadsAs K.Kept keeper.old keeper.new result }
 {
     let entries = count_entries(keeper)?;
@@ -144,7 +145,7 @@ fn page_before<K: Keeper>(
     let most = most_of(entries, after);
     push_range(alloc, keeper, &mut text, &Some(before), after, most)?;
     Ok(EventsPage {
-        text,
+        text: Content::new(text),
         next: next_of(entries, after),
     })
 }

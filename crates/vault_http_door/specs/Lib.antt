@@ -1,2 +1,3 @@
 pub mod Inquiry
+pub mod PageLine
 pub mod StatusLine

@@ -15,7 +15,7 @@ use vault_http_lines::read_line::LONGEST_LINE;
 use vault_http_values::document::document;
 use vault_http_values::members::text_of;
 use vault_http_values::shape::{Kind, has_members};
-use vault_http_values::values::asker;
+use vault_http_values::values::{asker, optional_number_of};
 use vault_values::fault::LineFault;
 
 /// What a line asks about, by whom, and at which reading.
@@ -27,32 +27,104 @@ pub struct Inquiry {
 }
 
 /// What is asked about.
-#[derive(Clone, Copy, Debug, PartialEq, Eq)]
+#[derive(Clone, Copy, PartialEq, Eq)]
 pub enum About {
     /// How the vault and its server are.
     Status,
+    /// What happened to some of its entries.
+    Events(Part),
+}
+
+/// A part of all that happened.
+#[derive(Clone, Copy, PartialEq, Eq)]
+pub struct Part {
+    /// The id after which it begins.
+    pub after: u32,
+    /// The moment before which it happened.
+    pub before: Moment,
+}
+
+/// The shape of a line that asks about a vault.
+#[derive(Clone, Copy, Debug, PartialEq, Eq)]
+pub enum Shape {
+    Status,
+    Events,
 }
 
 /// The members of the line that asks how things are: the caller who asks, and `do`.
 const STATUS: [(&str, Kind); 2] = [("as", Kind::Text), ("do", Kind::Text)];
 
-/// What the line of that `do` asks about, where the value has the shape of that line.
-fn about_named(name: &str, value: &Value) -> Result<About, LineFault>
-    ensures { Gives (λ x. x) result (spec.about_named name.now (view value.now)) }
+/// The members of the line that asks what happened: these, and which part.
+const EVENTS: [(&str, Kind); 4] = [
+    ("as", Kind::Text),
+    ("do", Kind::Text),
+    ("before", Kind::Text),
+    ("after", Kind::OptionalNumber),
+];
+
+/// The shape of the line of that `do`, where the value has it.
+fn shape_named(name: &str, value: &Value) -> Result<Shape, LineFault>
+    ensures { Gives (λ x. x) result (spec.shape_named name.now (view value.now)) }
 {
     if name == "status" && has_members(value, &STATUS) {
-        Ok(About::Status)
+        Ok(Shape::Status)
+    } else if name == "events" && has_members(value, &EVENTS) {
+        Ok(Shape::Events)
     } else {
         Err(LineFault::Refused(Refusal::MalformedBody))
     }
 }
 
-#[tactic(auto, unfolding(crate::specs::Inquiry::about_of))]
-fn asked_about(value: &Value) -> Result<About, LineFault>
-    ensures { Gives (λ x. x) result (spec.about_of (view value.now)) }
+#[tactic(auto, unfolding(crate::specs::Inquiry::shape_of))]
+fn asked_shape(value: &Value) -> Result<Shape, LineFault>
+    ensures { Gives (λ x. x) result (spec.shape_of (view value.now)) }
 {
     let name = text_of("do", value)?;
-    about_named(name, value)
+    shape_named(name, value)
+}
+
+fn moment_named(text: &str) -> Result<Moment, LineFault>
+    ensures { Gives (λ x. x) result (spec.moment_named text.now) }
+{
+    match Moment::read(text) {
+        Ok(moment) => Ok(moment),
+        Err(_) => Err(LineFault::Refused(Refusal::InvalidArgument)),
+    }
+}
+
+#[tactic(auto, unfolding(crate::specs::Inquiry::before_of))]
+fn before(value: &Value) -> Result<Moment, LineFault>
+    ensures { Gives (λ x. x) result (spec.before_of (view value.now)) }
+{
+    let text = text_of("before", value)?;
+    moment_named(text)
+}
+
+#[tactic(auto, unfolding(crate::specs::Inquiry::after_of))]
+fn after(value: &Value) -> Result<u32, LineFault>
+    ensures { Gives (λ x. x) result (spec.after_of (view value.now)) }
+{
+    let number = optional_number_of("after", value)?;
+    Ok(number.unwrap_or(0))
+}
+
+#[tactic(auto, unfolding(crate::specs::Inquiry::events_of))]
+fn events(value: &Value) -> Result<About, LineFault>
+    ensures { Gives (λ x. x) result (spec.events_of (view value.now)) }
+{
+    let before = before(value)?;
+    let after = after(value)?;
+    Ok(About::Events(Part { after, before }))
+}
+
+/// What a line of that shape asks about.
+fn asked_about(shape: Shape, value: &Value) -> Result<About, LineFault>
+    ensures { Gives (λ x. x) result (spec.about_of shape (view value.now)) }
+{
+    match shape {
+        Shape::Status => Ok(About::Status),
+        Shape::Events => events(value),
+    }
 }
 
 /// The moment that the clock shows.
@@ -69,9 +141,10 @@ fn shown(moment: Option<Moment>) -> Result<Moment, LineFault>
 fn asked(alloc: Global, value: &Value, moment: Option<Moment>) -> Result<Inquiry, LineFault>
     ensures { Gives (λ x. x) result (spec.asked_of moment (view value.now)) }
 {
-    let about = asked_about(value)?;
+    let shape = asked_shape(value)?;
     let at = shown(moment)?;
     let who = asker(alloc, value)?;
+    let about = asked_about(shape, value)?;
     Ok(Inquiry { at, who, about })
 }
 
@@ -98,7 +171,7 @@ fn trimmed(line: &[u8]) -> &[u8]
 ///
 /// A line that is longer than a line may be, or isn't a JSON object of just the members of such a line, is refused with
 /// `MalformedBody`; then ClockOutOfRange comes where the clock shows no moment, and AccessDenied where `as` is no name
-/// of a caller. `Memory` is want of memory.
+/// of a caller, and InvalidArgument where another value isn't allowed. `Memory` is want of memory.
 #[tactic(auto, unfolding(crate::specs::Inquiry::inquiry_of))]
 pub fn read_inquiry(
     alloc: Global,

@@ -3,4 +3,5 @@
 #![tactic(auto)]
 
 pub mod inquiry;
+pub mod page_line;
 pub mod status_line;
