@@ -242,7 +242,7 @@ def events(server: Server) -> None:
     while after is not None:
         found = json.loads(server.lines(line("registrar", "events", before=before, after=after))[0])["ok"]
         parts.append(found["text"])
-        server.lines(put("more") + line("ann", "delete-version", bucket="docs", key=f"k{after + 1}", id=after + 2))
+        server.lines(put("more") + line("ann", "delete-version", bucket="docs", key=f"k{(after + 1) % 7}", id=after + 2))
         after = found["next"]
     equal(len(parts), 2, "the parts")
     late = [line("registrar", "events", before="2100-01-01T00:00:00Z"), line("ann", "events", before=before)]
@@ -313,7 +313,7 @@ class Door(Case):
 
     def look_at(self, name: str) -> None:
         trial, words = TRIALS[name]
-        make_office(self.folder / "records.vault", "put", "get", "list", "report")
+        make_office(self.folder / "records.vault", "put", "get", "list", "report", "delete-version")
         server = Server(self.folder, str(free_port()) if name == "at-a-port" else "")
         server.start(*words)
         try:

@@ -264,7 +264,7 @@ fn what_happened(rt: HostRuntime) -> Result<(), Fail> {
         Coming::Line(r#"{"as":"ann","do":"events","before":"2024-01-15T10:30:00Z"}"#),
     ];
     let served = serve(alloc, &mut keeper, &turns, 0, 7)?;
-    let invalid = "{\"error\":{\"code\":\"InvalidArgument\",\"n\":6}}\n";
+    let invalid = "{\"error\":{\"code\":\"InvalidArgument\",\"n\":10}}\n";
     let wanted = [
         STORED,
         "{\"ok\":{\"next\":null,\"text\":\"version,event,moment,by,bucket,key,kind,size,sha256,mode,until,hold,bypass,cause,department,move\\n\"}}\n",
