@@ -6,10 +6,13 @@ ghost use Rattle.vaultctl_serve.specs.Serving.{IsTried, ReadsAs, Try};
 use crate::clock;
 use crate::deadline::BETWEEN_TRIES;
 use crate::peer::Peer;
+use std::alloc::Global;
+use std::io::Write;
 use std::net::OpenListener;
 use std::time::{Clock, Duration};
 use std::{io, thread};
 use vault_http::Hosts;
+use vaultctl_log::entry::{Entry, write_entry};
 
 /// Connections as they come, and the clock that is read as one is taken.
 pub trait Arrivals {
@@ -34,6 +37,13 @@ pub trait Arrivals {
     /// The hosts that requests may be for.
     fn hosts(&self) -> &Hosts;
 
+    /// Whether what becomes of each connection is logged.
+    fn is_logged(&self) -> bool;
+
+    /// Hears what became of a connection. Whatever it does with that, the vault, the answers and what comes stay as they are.
+    fn log(&mut self, alloc: Global, entry: &Entry<'_>)
+        ensures { tries self.new ≡ tries self.old };
+
     /// Waits a little after a connection that couldn't be taken, so that a fault that lasts doesn't use up the count of
     /// connections.
     fn pause(&mut self)
@@ -42,16 +52,19 @@ pub trait Arrivals {
 
 /// The connections of a listener.
 #[derive(Drop)]
-pub struct Listened<'a, C: Clock, L> {
+pub struct Listened<'a, C: Clock, L, W: Write + Drop> {
     /// The clock that is read.
     pub clock: &'a C,
     /// Where they come.
     pub listener: &'a L,
     /// The hosts that requests may be for.
     pub hosts: &'a Hosts,
+    /// Who gets a line of what becomes of each connection; none where nothing is logged.
+    pub log: Option<W>,
 }
 
-impl<C: Clock, P: Peer + Drop, L: OpenListener<Stream = P>> Arrivals for Listened<'_, C, L> {
+impl<C: Clock, P: Peer + Drop, L: OpenListener<Stream = P>, W: Write + Drop> Arrivals
+    for Listened<'_, C, L, W> {
     type Peer = P;
 
     ghost tries = { λ _. None };
@@ -69,6 +82,16 @@ impl<C: Clock, P: Peer + Drop, L: OpenListener<Stream = P>> Arrivals for Listene
 
     fn hosts(&self) -> &Hosts {
         self.hosts
+    }
+
+    fn is_logged(&self) -> bool {
+        self.log.is_some()
+    }
+
+    fn log(&mut self, alloc: Global, entry: &Entry<'_>) {
+        if let Some(writer) = &mut self.log {
+            write_entry(alloc, writer, entry);
+        }
     }
 
     fn pause(&mut self) {

@@ -4,7 +4,9 @@ ghost use Rattle.vault_base.specs.Days.{moment_at};
 ghost use Rattle.vaultctl_serve.specs.Serving.{ReadsAs, Try};
 ghost use Rattle.vaultctl_serve_lines.specs.Doors.{HasArrived};
 
+use std::alloc::Global;
 use vault_http::Hosts;
+use vaultctl_log::entry::Entry;
 use vaultctl_serve::peer::Peer;
 
 /// A line as it was heard.
@@ -52,6 +54,14 @@ pub trait Doors {
 
     /// The hosts that requests may be for.
     fn hosts(&self) -> &Hosts;
+
+    /// Whether what becomes of each request and each line is logged.
+    fn is_logged(&self) -> bool;
+
+    /// Hears what became of a request or a line. Whatever it does with that, the vault, the answers and what comes stay as
+    /// they are.
+    fn log(&mut self, alloc: Global, entry: &Entry<'_>)
+        ensures { tries self.new ≡ tries self.old };
 
     /// Keeps the connection of a line that was answered: more lines may come on it.
     fn keep(&mut self, talker: Self::Talker)

@@ -12,12 +12,14 @@ use crate::line::{Next, serve_line};
 use std::alloc::Global;
 use std::time::{Clock, Instant};
 use vault_core_model::keeper::Keeper;
+use vaultctl_log::entry::Trouble;
 use vaultctl_replay::ReplayFault;
 use vaultctl_serve::inbound::TimedPeer;
 use vaultctl_serve::lingering::linger;
+use vaultctl_serve::noted::NotedPeer;
 use vaultctl_serve::peer::Peer;
 use vaultctl_serve::reporter::Reporter;
-use vaultctl_serve::serve_connection;
+use vaultctl_serve::serve_noted;
 use vaultctl_serve::timed::TimedAnswer;
 
 /// What a turn came to.
@@ -85,6 +87,16 @@ fn turn_of(answered: Result<Next, ReplayFault>) -> Turn
     }
 }
 
+/// What the trouble was with a line that was answered so.
+fn trouble_of(answered: Result<Next, ReplayFault>) -> Option<Trouble> {
+    match answered {
+        Ok(_) => None,
+        Err(ReplayFault::Read) => Some(Trouble::Late),
+        Err(ReplayFault::Write) => Some(Trouble::Untaken),
+        Err(ReplayFault::Memory) => Some(Trouble::Memory),
+    }
+}
+
 /// One turn: waits for what comes, and serves a request or a line, at the clock's reading as it is taken.
 fn serve_turn<C: Clock, D: Doors, K: Keeper>(
     clock: &C,
@@ -99,13 +111,21 @@ fn serve_turn<C: Clock, D: Doors, K: Keeper>(
     match doors.next() {
         Arrived::Request(peer) => {
             let reading = doors.reading();
+            let noted = NotedPeer::new(clock, alloc, &peer, doors.is_logged());
             // A fault of the connection is its own.
-            let _ = serve_connection(clock, alloc, &peer, keeper, reading, doors.hosts());
+            let (noted, trouble) = serve_noted(clock, alloc, noted, keeper, reading, doors.hosts());
+            doors.log(alloc, &noted.request(reading, trouble));
             Turn::Taken
         }
         Arrived::Line(heard, talker) => {
             let reading = doors.reading();
-            let answered = answer_talker(clock, alloc, &talker, &heard, keeper, reading);
+            let peer = NotedPeer::new(clock, alloc, &talker, doors.is_logged());
+            let answered = answer_talker(clock, alloc, &peer, &heard, keeper, reading);
+            let noted = peer.into_noted();
+            doors.log(
+                alloc,
+                &noted.line(heard.bytes.as_slice(), reading, trouble_of(answered)),
+            );
             part(clock, doors, talker, heard.is_ended, answered);
             turn_of(answered)
         }
