@@ -99,7 +99,7 @@ fn names_one(value: &[u8], names: &[Text]) -> bool
 
 /// Whether there is a value, and it names this machine or one of these hosts.
 fn is_known(value: Option<&[u8]>, names: &[Text]) -> bool
-    ensures { result ≡ spec.is_known (option_copied value) names.now }
+    ensures { result ≡ spec.is_known (option_copied value.entry) names.now }
 {
     match value {
         Some(value) => is_own(value) || names_one(value, names),

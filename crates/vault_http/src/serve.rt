@@ -251,8 +251,7 @@ fn serve_at<R: Read, W: Write, K: Keeper>(
     ensures once { K.is_honest keeper.new → left.AtMostOne moment (K.vault keeper.old) (K.vault keeper.new) }
     ensures unread { result ≡ Err faults.Read → K.vault keeper.new ≡ K.vault keeper.old }
     ensures taken { OnOk result (left.Taken hosts.now moment (R.remaining reader.old) (R.remaining reader.new)) }
-    ensures honest { K.is_honest keeper.new → K.is_honest keeper.old }
-    ensures counted { K.count keeper.old ≤ K.count keeper.new }
+    ensures leaves { left.LeavesNoLess K.Kept keeper.old keeper.new }
     ensures steady { Steady (K.is_honest keeper.new) result moment (K.vault keeper.old) (K.vault keeper.new) (K.count keeper.old) (K.count keeper.new) (W.contents writer.old) (W.contents writer.new) }
 {
     let mut buf = Vec::new(alloc);
@@ -340,12 +339,6 @@ pub fn serve_for<R: Read, W: Write, K: Keeper>(
     ensures steady { Steady (K.is_honest keeper.new) result (moment_at reading) (K.vault keeper.old) (K.vault keeper.new)
         (K.count keeper.old) (K.count keeper.new) (W.contents writer.old) (W.contents writer.new) }
 {
-    serve_at(
-        alloc,
-        reader,
-        writer,
-        keeper,
-        Moment::from_secs(reading),
-        hosts,
-    )
+    let moment = Moment::from_secs(reading);
+    serve_at(alloc, reader, writer, keeper, moment, hosts)
 }
