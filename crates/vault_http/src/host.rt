@@ -89,12 +89,9 @@ fn is_own(value: &[u8]) -> bool
 fn names_one(value: &[u8], names: &[Text]) -> bool
     ensures { result ≡ list_any (spec.names_host value.now) names.now }
 {
-    for name in names {
-        if names_host(value, name.as_str().as_bytes()) {
-            return true;
-        }
-    }
-    false
+    names
+        .iter()
+        .any(|name| names_host(value, name.as_str().as_bytes()))
 }
 
 /// Whether there is a value, and it names this machine or one of these hosts.

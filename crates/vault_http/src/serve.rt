@@ -306,14 +306,9 @@ pub fn serve_one<R: Read, W: Write, K: Keeper>(
     // answer, or a beginning of that.
     ensures steady { Steady (K.is_honest keeper.new) result (moment_at reading) (K.vault keeper.old) (K.vault keeper.new) (K.count keeper.old) (K.count keeper.new) (W.contents writer.old) (W.contents writer.new) }
 {
-    serve_at(
-        alloc,
-        reader,
-        writer,
-        keeper,
-        Moment::from_secs(reading),
-        &Hosts::any(alloc),
-    )
+    let hosts = Hosts::any(alloc);
+    let moment = Moment::from_secs(reading);
+    serve_at(alloc, reader, writer, keeper, moment, &hosts)
 }
 
 /// As `serve_one`, where requests for these hosts are answered, and for this machine; where there are none, for any host.
