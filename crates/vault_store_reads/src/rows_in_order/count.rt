@@ -15,6 +15,7 @@ use crate::rows_in_order::rows::open_rows;
 use crate::rows_in_order::shown::UNREADABLE;
 use sqlite::{Alter, Connection, Error, Row, params};
 use vault_audit_rows::records::read_head;
+use vault_audit_schema::{heads_columns, select_text};
 use vault_base::name::{BucketName, ObjectKey};
 
 /// How many entries are held under the key of a head.
@@ -40,7 +41,7 @@ pub fn find_count<S: Alter>(
 {
     let rows = open_rows(
         conn,
-        "SELECT bucket, key, newest, count FROM heads WHERE bucket = ?1 AND key = ?2",
+        heads_columns!(select_text, " WHERE bucket = ?1 AND key = ?2"),
         params![bucket.as_str(), key.as_str()],
     )?;
     let Some(row) = rows.first() else {
