@@ -20,7 +20,7 @@ ran_if sql params old new (Err e) h = tt
 ran_if sql params old new (Ok count) h = h
 
 module _ (t : Table) (made : Columns) (row : Row) (it : Inserts t made row) (old new : State) where
-  leaves : (count : ℕ) → old.now.schema ≡ vault_schema → Executes (insert_text made) row old new (Ok count) → Leaves old new (with_row t row)
+  pub leaves : (count : ℕ) → old.now.schema ≡ vault_schema → Executes (insert_text made) row old new (Ok count) → Leaves old new (with_row t row)
   leaves = inserts t (place_of t) made (insert_text made) row (terms_by made.key made.columns) (length made.columns + 1) (source_by made.key row) row it.command it.plain it.places it.one it.here it.reads_so old new
 
   pub edits : (r : Result ℕ Error) → IfOk r (λ count. ExecutesInside 0 (insert_text made) row old new (Ok count)) → OnOk r (Edits old new (with_row t row))
