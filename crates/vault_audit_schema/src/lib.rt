@@ -1,8 +1,9 @@
-//! The tables as a file has them: whether its schema is the vault's, at which table it first differs, and the
-//! statements that make them.
+//! The tables as a file has them: their columns; whether a file's schema is the vault's, at which table it first
+//! differs, and the statements that make the tables.
 #![tactic(auto)]
 
 mod column;
+mod columns;
 mod compare;
 mod difference;
 mod index;
