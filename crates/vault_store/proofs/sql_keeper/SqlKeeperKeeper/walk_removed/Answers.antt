@@ -8,7 +8,7 @@ use Rattle.vault_core_model.specs.Reads.{removed_entries}
 use Rattle.vault_store.specs.VaultOf.{vault_of}
 use Rattle.vault_store_reads.proofs.HandLemmas.{none_taken}
 use Rattle.vault_store_reads.specs.Handed.{as_fault}
-use Rattle.vault_store.proofs.KeptLemmas.{read_kept}
+use Rattle.vault_store.proofs.KeptLemmas.{no_failure, read_kept}
 use Rattle.vault_store.proofs.sql_keeper.SqlKeeperKeeper.walk_removed.Goals as goal
 
 pub invariant_of-self : goal.invariant_of-self
@@ -45,3 +45,6 @@ returns-in-Err-clause-value g c clean =
     let v = vault_of g.S.Store c.check_open.new.self in
     rw c.in_ok-check_open.ensures.same at (subst (λ r. Hands g.T.Sink.takes c.args.sink.now (removed_entries v) (as_fault r) c.walk_removed.new.sink) c.in-Err.is
     (c.walk_removed.ensures.value clean v (∥∥₁_map c.check_open.new.self.kept (λ kept. (kept (c.walk_removed.ensures.read.honest clean)).keeps))))
+
+pub returns-in-Err-clause-healthy : goal.returns-in-Err-clause-healthy
+returns-in-Err-clause-healthy g c well = no_failure g.S.Store _ _ _ _ _ c.check_open.new.self.kept (c.walk_removed.ensures.read.honest well.clean) (λ w keeps. c.in-Err.ensures.memory well w keeps) c.blame.ensures.reported

@@ -42,5 +42,12 @@ returns-clause-value g c clean v was =
     let stated = c.in_ok-count.ensures.value mid v was in
     let shown = c.in_ok-rows.ensures.rows clean v (c.find_count.ensures.read.same mid v was) in
     let hs = held_at v c.args.bucket.now c.args.key.now in
-    let decoded = (rw c.deref.ensures.value at c.in_ok-held.ensures) ∙ shown.0 in
+    let decoded = (rw c.deref.ensures.value at c.in_ok-held.ensures.ok) ∙ shown.0 in
     (rw c.reverse.ensures.items (shown_in_order held_row c.in_ok-held.held.items c.in_ok-count.count hs stated.0 decoded), stated.1)
+
+pub returns-in_err-rows-clause-memory : goal.returns-in_err-rows-clause-memory
+returns-in_err-rows-clause-memory g c well v was = c.in_err-rows.ensures.memory well v (c.find_count.ensures.read.same (c.entry_rows.ensures.read.honest well.clean) v was)
+
+pub returns-in_err-held-clause-memory : goal.returns-in_err-held-clause-memory
+returns-in_err-held-clause-memory g c well v was =
+    c.in_err-held.ensures.memory (rw c.deref.ensures.value (c.in_ok-rows.ensures.readable well.clean v (c.find_count.ensures.read.same (c.entry_rows.ensures.read.honest well.clean) v was)))

@@ -34,3 +34,6 @@ loop-entry-preserved g c =
       survives = quiet_then _ _ _ c.loop-entry.invariant.same c.loop-entry.invariant.opened c.loop-entry.invariant.survives c.with_lock.ensures.read.survives;
       opened = λ clean _. c.in_ok-one.ensures.open clean;
     }
+
+pub returns-in_err-one-clause-memory : goal.returns-in_err-one-clause-memory
+returns-in_err-one-clause-memory g c well v was = c.in_err-one.ensures.memory well v (c.loop-entry.invariant.same (c.with_lock.ensures.read.honest well.clean) v was)

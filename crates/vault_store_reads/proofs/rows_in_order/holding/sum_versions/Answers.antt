@@ -1,6 +1,10 @@
-use Rattle.std.proofs.Common.{◌≡◌, ◌+◌, ◌*◌, ◌∙◌, ap, rules}
+use Rattle.std.proofs.Common.{◌≡◌, ◌+◌, ◌*◌, ◌∙◌, IsSome, ap, sym, subst, rules}
+use Rattle.std.specs.List.{AllByRecursion}
+use Rattle.vault_store_model.specs.Sums.{last_tenure_of}
 use Rattle.vault_store_reads.specs.Shown.{weight_in}
 use Rattle.vault_store_reads.specs.declared.rows_in_order.shown.SizedRow.{SizedRow}
+use Rattle.vault_store_reads.proofs.BoundLemmas.{all_tenured}
+use Rattle.vault_store_reads.proofs.LimitLemmas.{at_place}
 use Rattle.vault_store_reads.proofs.HoldingLemmas.{summed_more}
 use Rattle.vault_store_reads.proofs.OpenLemmas.{quiet_then}
 use Rattle.vault_store_reads.proofs.rows_in_order.holding.sum_versions.Goals as goal
@@ -37,3 +41,11 @@ loop-version-preserved g c =
       survives = quiet_then _ _ _ c.loop-version.invariant.same c.loop-version.invariant.opened c.loop-version.invariant.survives c.find_day.ensures.read.survives;
       opened = λ clean _. c.in_ok-day.ensures.open clean;
     }
+
+pub returns-in_err-day-clause-memory : goal.returns-in_err-day-clause-memory
+returns-in_err-day-clause-memory g c well v was bucket are =
+    let now = c.find_day.ensures.read.same well.clean v (c.loop-version.invariant.same (c.find_day.ensures.read.honest well.clean) v was) in
+    let kept = (now well.is_open).0.spells.kept in
+    let all = subst (AllByRecursion (λ (x : SizedRow). IsSome (last_tenure_of v x.id))) (sym are) (all_tenured v bucket kept.sound) in
+    c.in_err-day.ensures.memory well v (c.loop-version.invariant.same (c.find_day.ensures.read.honest well.clean) v was)
+    (at_place (λ (x : SizedRow). IsSome (last_tenure_of v x.id)) c.args.versions.now c.loop-version.version-index c.version-item.result all c.loop-version-test.true c.version-item.is)
