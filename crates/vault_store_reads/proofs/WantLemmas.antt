@@ -26,7 +26,7 @@ use Rattle.vault_audit_rows.specs.declared.misread.Misread.{Misread}
 use Rattle.vault_audit_rows.specs.declared.misread.Misread.TheVariants.{Wrong, Memory}
 use Rattle.vault_audit_walk.specs.Health.{IsHealthy, IsMemory}
 use Rattle.vault_store_model.specs.Keeping.{Keeps}
-use Rattle.vault_store_reads.specs.Wants.{IsAnswerable, IsReadWith, IsAskedWith}
+use Rattle.vault_store_reads.specs.Wants.{IsQueryWith, IsReadWith, IsAskedWith}
 use Rattle.vault_store_reads.proofs.QueryLemmas.{failed}
 
 -- ---- of the store
@@ -57,7 +57,7 @@ by_query limit db p params e unlimited bare typed none plain (inl refused) = let
 by_query limit db p params e unlimited bare typed none plain (inr (inl over)) = never_overflows db.trees params (lets_of p) p.body bare none plain over.1
 by_query limit db p params e unlimited bare typed none plain (inr (inr cut)) = absurd (let some : IsSome {T = ℕ} None = subst (λ (l : Option ℕ). IsSome l) unlimited cut.1 in cc some)
 
-by_command : (limit : Option ℕ) (db : Database) (k : Command) (params : Row) (e : Error) → limit ≡ None → db.schema ≡ vault_schema → IsAnswerable params k → ¬ RefusesToRead limit k db params e
+by_command : (limit : Option ℕ) (db : Database) (k : Command) (params : Row) (e : Error) → limit ≡ None → db.schema ≡ vault_schema → IsQueryWith params k → ¬ RefusesToRead limit k db params e
 by_command limit db (Select p columns) params e unlimited has can refused =
     let typed : accepts_program db.schema [] p.body params ≡ true = subst (λ s. accepts_program s [] p.body params ≡ true) (sym has) can.1 in
     by_query limit db p params e unlimited can.0 typed can.2 can.3 refused

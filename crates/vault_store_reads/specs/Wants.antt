@@ -18,13 +18,13 @@ use Rattle.vault_audit_walk.specs.Health.{IsHealthy, IsMemory}
 use Rattle.vault_store_model.specs.Keeping.{Keeps}
 
 -- over the tables of a vault the command is a query whose parameters have the types of what they are compared with, and it sums nothing
-abbrev pub IsAnswerable : Row → Command → Type 0
-IsAnswerable params (Select p columns) = (lets_of p ≡ []) × (accepts_program vault_schema [] p.body params ≡ true) × (p.body.group ≡ None) × (has_no_fold p.body.from ≡ true)
-IsAnswerable params _ = ⊥
+abbrev pub IsQueryWith : Row → Command → Type 0
+IsQueryWith params (Select p columns) = (lets_of p ≡ []) × (accepts_program vault_schema [] p.body params ≡ true) × (p.body.group ≡ None) × (has_no_fold p.body.from ≡ true)
+IsQueryWith params _ = ⊥
 
 -- the text is one such query, and has as many parameters
 abbrev pub IsReadWith : List ℕ → Row → Result Compiled CompileError → Type 0
-IsReadWith sql params (Ok c) = (length sql ≤ c.tail) × (length params ≡ length c.names) × IsAnswerable params c.command
+IsReadWith sql params (Ok c) = (length sql ≤ c.tail) × (length params ≡ length c.names) × IsQueryWith params c.command
 IsReadWith sql params (Err e) = ⊥
 
 -- over the tables of a vault the text can be answered with these parameters
