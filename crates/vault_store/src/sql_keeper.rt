@@ -260,11 +260,11 @@ impl<S: Alter> Kept for SqlKeeper<S> {
 
 impl<S: Alter> Keeper for SqlKeeper<S> {
     ghost use Rattle.vault_core_model.specs.Handing.{Hands};
-    ghost use Rattle.vault_core_model.specs.Leaves.{IsLeftSame};
     ghost use Rattle.vault_core_model.specs.Reads.{content_of, entries_of, entry_of, head_of, keys_after, removed_entries, setting_of, settings_of, tenures_of};
     ghost use Rattle.vault_core_model.specs.Totals.{IsRowFor, bucket_bytes, bucket_weight};
     ghost use Rattle.vault_core_model.specs.Vault.{caller_of, config_of, has_department, next_id, note_of, rules_of};
-    ghost use Rattle.vault_store.specs.VaultOf.{stands, vault_of};
+    ghost use Rattle.vault_store.specs.ReadsAs.{ReadsAs};
+    ghost use Rattle.vault_store.specs.VaultOf.{vault_of};
 
     fn faults(&self) -> u64 {
         self.blamed.faults()
@@ -272,8 +272,7 @@ impl<S: Alter> Keeper for SqlKeeper<S> {
 
     fn last(&mut self) -> Result<Moment, Fault>
         ensures value { HasCleanDisk (state S.Store self.new.conn) → IfOk result (λ at. at ≡ (vault_of S.Store self.old).last) }
-        ensures leaves { IsLeftSame (stands S.Store self.old) (stands S.Store self.new) (is_device_given result) }
-        ensures healthy { IsHealthy (state S.Store self.new.conn) → is_device_given result ≡ false }
+        ensures read { ReadsAs S.Store self.old self.new result }
     {
         self.check_open()?;
         match read_last(&mut self.conn) {
@@ -284,8 +283,7 @@ impl<S: Alter> Keeper for SqlKeeper<S> {
 
     fn next_id(&mut self) -> Result<u64, Fault>
         ensures value { HasCleanDisk (state S.Store self.new.conn) → IfOk result (λ id. id ≡ next_id (vault_of S.Store self.old)) }
-        ensures leaves { IsLeftSame (stands S.Store self.old) (stands S.Store self.new) (is_device_given result) }
-        ensures healthy { IsHealthy (state S.Store self.new.conn) → is_device_given result ≡ false }
+        ensures read { ReadsAs S.Store self.old self.new result }
     {
         self.check_open()?;
         match read_next_id(&mut self.conn) {
@@ -296,8 +294,7 @@ impl<S: Alter> Keeper for SqlKeeper<S> {
 
     fn caller(&mut self, name: &CallerName) -> Result<Option<Caller>, Fault>
         ensures value { HasCleanDisk (state S.Store self.new.conn) → IfOk result (λ found. found ≡ caller_of (vault_of S.Store self.old) name.now) }
-        ensures leaves { IsLeftSame (stands S.Store self.old) (stands S.Store self.new) (is_device_given result) }
-        ensures healthy { IsHealthy (state S.Store self.new.conn) → is_device_given result ≡ false }
+        ensures read { ReadsAs S.Store self.old self.new result }
     {
         self.check_open()?;
         match read_caller(&mut self.conn, name) {
@@ -308,8 +305,7 @@ impl<S: Alter> Keeper for SqlKeeper<S> {
 
     fn dept(&mut self, name: &DeptName) -> Result<bool, Fault>
         ensures value { HasCleanDisk (state S.Store self.new.conn) → IfOk result (λ found. found ≡ has_department (vault_of S.Store self.old) name.now) }
-        ensures leaves { IsLeftSame (stands S.Store self.old) (stands S.Store self.new) (is_device_given result) }
-        ensures healthy { IsHealthy (state S.Store self.new.conn) → is_device_given result ≡ false }
+        ensures read { ReadsAs S.Store self.old self.new result }
     {
         self.check_open()?;
         match has_department(&mut self.conn, name) {
@@ -320,8 +316,7 @@ impl<S: Alter> Keeper for SqlKeeper<S> {
 
     fn bucket(&mut self, name: &BucketName) -> Result<Option<BucketConfig>, Fault>
         ensures value { HasCleanDisk (state S.Store self.new.conn) → IfOk result (λ found. found ≡ config_of (vault_of S.Store self.old) name.now) }
-        ensures leaves { IsLeftSame (stands S.Store self.old) (stands S.Store self.new) (is_device_given result) }
-        ensures healthy { IsHealthy (state S.Store self.new.conn) → is_device_given result ≡ false }
+        ensures read { ReadsAs S.Store self.old self.new result }
     {
         self.check_open()?;
         match read_bucket(&mut self.conn, name) {
@@ -332,8 +327,7 @@ impl<S: Alter> Keeper for SqlKeeper<S> {
 
     fn rules(&mut self, bucket: &BucketName) -> Result<Option<RuleSet>, Fault>
         ensures value { HasCleanDisk (state S.Store self.new.conn) → IfOk result (λ found. found ≡ rules_of (vault_of S.Store self.old) bucket.now) }
-        ensures leaves { IsLeftSame (stands S.Store self.old) (stands S.Store self.new) (is_device_given result) }
-        ensures healthy { IsHealthy (state S.Store self.new.conn) → is_device_given result ≡ false }
+        ensures read { ReadsAs S.Store self.old self.new result }
     {
         self.check_open()?;
         match read_rules(&mut self.conn, self.alloc, bucket) {
@@ -344,8 +338,7 @@ impl<S: Alter> Keeper for SqlKeeper<S> {
 
     fn head(&mut self, bucket: &BucketName, key: &ObjectKey) -> Result<Option<Head>, Fault>
         ensures value { HasCleanDisk (state S.Store self.new.conn) → IfOk result (λ found. found ≡ head_of (vault_of S.Store self.old) bucket.now key.now) }
-        ensures leaves { IsLeftSame (stands S.Store self.old) (stands S.Store self.new) (is_device_given result) }
-        ensures healthy { IsHealthy (state S.Store self.new.conn) → is_device_given result ≡ false }
+        ensures read { ReadsAs S.Store self.old self.new result }
     {
         self.check_open()?;
         match read_head(&mut self.conn, bucket, key) {
@@ -356,8 +349,7 @@ impl<S: Alter> Keeper for SqlKeeper<S> {
 
     fn entries(&mut self, bucket: &BucketName, key: &ObjectKey) -> Result<Vec<Held>, Fault>
         ensures value { HasCleanDisk (state S.Store self.new.conn) → IfOk result (λ held. held.items ≡ entries_of (vault_of S.Store self.old) bucket.now key.now) }
-        ensures leaves { IsLeftSame (stands S.Store self.old) (stands S.Store self.new) (is_device_given result) }
-        ensures healthy { IsHealthy (state S.Store self.new.conn) → is_device_given result ≡ false }
+        ensures read { ReadsAs S.Store self.old self.new result }
     {
         self.check_open()?;
         match read_entries(&mut self.conn, self.alloc, bucket, key) {
@@ -368,8 +360,7 @@ impl<S: Alter> Keeper for SqlKeeper<S> {
 
     fn entry(&mut self, id: VersionId) -> Result<Option<Entry>, Fault>
         ensures value { HasCleanDisk (state S.Store self.new.conn) → IfOk result (λ found. found ≡ entry_of (vault_of S.Store self.old) id) }
-        ensures leaves { IsLeftSame (stands S.Store self.old) (stands S.Store self.new) (is_device_given result) }
-        ensures healthy { IsHealthy (state S.Store self.new.conn) → is_device_given result ≡ false }
+        ensures read { ReadsAs S.Store self.old self.new result }
     {
         self.check_open()?;
         match read_entry(&mut self.conn, id) {
@@ -380,8 +371,7 @@ impl<S: Alter> Keeper for SqlKeeper<S> {
 
     fn setting(&mut self, id: VersionId) -> Result<Option<LastSetting>, Fault>
         ensures value { HasCleanDisk (state S.Store self.new.conn) → IfOk result (λ found. found ≡ setting_of (vault_of S.Store self.old) id) }
-        ensures leaves { IsLeftSame (stands S.Store self.old) (stands S.Store self.new) (is_device_given result) }
-        ensures healthy { IsHealthy (state S.Store self.new.conn) → is_device_given result ≡ false }
+        ensures read { ReadsAs S.Store self.old self.new result }
     {
         self.check_open()?;
         match read_setting(&mut self.conn, id) {
@@ -392,8 +382,7 @@ impl<S: Alter> Keeper for SqlKeeper<S> {
 
     fn settings(&mut self, id: VersionId) -> Result<Settings, Fault>
         ensures value { HasCleanDisk (state S.Store self.new.conn) → IfOk result (λ found. found ≡ settings_of (vault_of S.Store self.old) id) }
-        ensures leaves { IsLeftSame (stands S.Store self.old) (stands S.Store self.new) (is_device_given result) }
-        ensures healthy { IsHealthy (state S.Store self.new.conn) → is_device_given result ≡ false }
+        ensures read { ReadsAs S.Store self.old self.new result }
     {
         self.check_open()?;
         match read_settings(&mut self.conn, self.alloc, id) {
@@ -404,8 +393,7 @@ impl<S: Alter> Keeper for SqlKeeper<S> {
 
     fn content(&mut self, id: VersionId) -> Result<Option<Content>, Fault>
         ensures value { HasCleanDisk (state S.Store self.new.conn) → IfOk result (λ found. found ≡ content_of (vault_of S.Store self.old) id) }
-        ensures leaves { IsLeftSame (stands S.Store self.old) (stands S.Store self.new) (is_device_given result) }
-        ensures healthy { IsHealthy (state S.Store self.new.conn) → is_device_given result ≡ false }
+        ensures read { ReadsAs S.Store self.old self.new result }
     {
         self.check_open()?;
         match read_content(&mut self.conn, id) {
@@ -421,8 +409,7 @@ impl<S: Alter> Keeper for SqlKeeper<S> {
         most: u32,
     ) -> Result<Vec<ObjectKey>, Fault>
         ensures value { HasCleanDisk (state S.Store self.new.conn) → IfOk result (λ keys. keys.items ≡ keys_after (vault_of S.Store self.old) bucket.now after.now most) }
-        ensures leaves { IsLeftSame (stands S.Store self.old) (stands S.Store self.new) (is_device_given result) }
-        ensures healthy { IsHealthy (state S.Store self.new.conn) → is_device_given result ≡ false }
+        ensures read { ReadsAs S.Store self.old self.new result }
     {
         self.check_open()?;
         match read_keys(&mut self.conn, self.alloc, bucket, after, most) {
@@ -438,8 +425,7 @@ impl<S: Alter> Keeper for SqlKeeper<S> {
         line: u32,
     ) -> Result<Option<Note>, Fault>
         ensures value { HasCleanDisk (state S.Store self.new.conn) → IfOk result (λ found. found ≡ note_of (vault_of S.Store self.old) bucket.now batch.now line) }
-        ensures leaves { IsLeftSame (stands S.Store self.old) (stands S.Store self.new) (is_device_given result) }
-        ensures healthy { IsHealthy (state S.Store self.new.conn) → is_device_given result ≡ false }
+        ensures read { ReadsAs S.Store self.old self.new result }
     {
         self.check_open()?;
         match read_note(&mut self.conn, bucket, batch, line) {
@@ -450,8 +436,7 @@ impl<S: Alter> Keeper for SqlKeeper<S> {
 
     fn walk_removed<T: Sink>(&mut self, sink: &mut T) -> Result<bool, Fault>
         ensures value { HasCleanDisk (state S.Store self.new.conn) → Hands T.takes sink.old (removed_entries (vault_of S.Store self.old)) result sink.new }
-        ensures leaves { IsLeftSame (stands S.Store self.old) (stands S.Store self.new) (is_device_given result) }
-        ensures healthy { IsHealthy (state S.Store self.new.conn) → is_device_given result ≡ false }
+        ensures read { ReadsAs S.Store self.old self.new result }
     {
         self.check_open()?;
         match walk_removed(&mut self.conn, sink) {
@@ -462,8 +447,7 @@ impl<S: Alter> Keeper for SqlKeeper<S> {
 
     fn moves(&mut self) -> Result<u32, Fault>
         ensures value { HasCleanDisk (state S.Store self.new.conn) → IfOk result (λ made. made ≡ (vault_of S.Store self.old).moves) }
-        ensures leaves { IsLeftSame (stands S.Store self.old) (stands S.Store self.new) (is_device_given result) }
-        ensures healthy { IsHealthy (state S.Store self.new.conn) → is_device_given result ≡ false }
+        ensures read { ReadsAs S.Store self.old self.new result }
     {
         self.check_open()?;
         match read_moves(&mut self.conn) {
@@ -474,8 +458,7 @@ impl<S: Alter> Keeper for SqlKeeper<S> {
 
     fn tenures(&mut self, id: VersionId) -> Result<Tenures, Fault>
         ensures value { HasCleanDisk (state S.Store self.new.conn) → IfOk result (λ found. found ≡ tenures_of (vault_of S.Store self.old) id) }
-        ensures leaves { IsLeftSame (stands S.Store self.old) (stands S.Store self.new) (is_device_given result) }
-        ensures healthy { IsHealthy (state S.Store self.new.conn) → is_device_given result ≡ false }
+        ensures read { ReadsAs S.Store self.old self.new result }
     {
         self.check_open()?;
         match read_tenures(&mut self.conn, self.alloc, id) {
@@ -486,8 +469,7 @@ impl<S: Alter> Keeper for SqlKeeper<S> {
 
     fn bucket_held(&mut self, bucket: &BucketName) -> Result<(u64, u64), Fault>
         ensures value { HasCleanDisk (state S.Store self.new.conn) → IfOk result (λ held. (held.0 ≡ bucket_bytes (vault_of S.Store self.old) bucket.now) × (held.1 ≡ bucket_weight (vault_of S.Store self.old) bucket.now)) }
-        ensures leaves { IsLeftSame (stands S.Store self.old) (stands S.Store self.new) (is_device_given result) }
-        ensures healthy { IsHealthy (state S.Store self.new.conn) → is_device_given result ≡ false }
+        ensures read { ReadsAs S.Store self.old self.new result }
     {
         self.check_open()?;
         match read_bucket_held(&mut self.conn, self.alloc, bucket) {
@@ -498,8 +480,7 @@ impl<S: Alter> Keeper for SqlKeeper<S> {
 
     fn totals(&mut self, dept: &DeptName) -> Result<Row, Fault>
         ensures value { HasCleanDisk (state S.Store self.new.conn) → IfOk result (λ row. IsRowFor (vault_of S.Store self.old) dept.now row) }
-        ensures leaves { IsLeftSame (stands S.Store self.old) (stands S.Store self.new) (is_device_given result) }
-        ensures healthy { IsHealthy (state S.Store self.new.conn) → is_device_given result ≡ false }
+        ensures read { ReadsAs S.Store self.old self.new result }
     {
         self.check_open()?;
         match read_totals(&mut self.conn, dept) {
