@@ -468,7 +468,8 @@ impl<S: Alter> Keeper for SqlKeeper<S> {
     }
 
     fn bucket_held(&mut self, bucket: &BucketName) -> Result<(u64, u64), Fault>
-        ensures value { HasCleanDisk (state S.Store self.new.conn) → IfOk result (λ held. (held.0 ≡ bucket_bytes (vault_of S.Store self.old) bucket.now) × (held.1 ≡ bucket_weight (vault_of S.Store self.old) bucket.now)) }
+        ensures value { HasCleanDisk (state S.Store self.new.conn)
+            → IfOk result (λ held. (held.0 ≡ bucket_bytes (vault_of S.Store self.old) bucket.now) × (held.1 ≡ bucket_weight (vault_of S.Store self.old) bucket.now)) }
         ensures read { ReadsAs S.Store self.old self.new result }
     {
         self.check_open()?;

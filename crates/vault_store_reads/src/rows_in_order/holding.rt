@@ -55,7 +55,8 @@ fn sum_versions<S: Alter>(
     ensures read { ReadsQuietly S.Store conn.old conn.new }
     ensures open { HasCleanDisk (state S.Store conn.new) → IsTrue (state S.Store conn.old).is_open → OnOk result (IsTrue (state S.Store conn.new).is_open) }
     // They are those that a bucket holds.
-    ensures memory { IsHealthy (state S.Store conn.new) → (v : Vault) → Keeps (state S.Store conn.old) v → (bucket : List ℕ) → versions.now ≡ map sized_of (held_versions_in v bucket) → IfErr result IsMemory }
+    ensures memory { IsHealthy (state S.Store conn.new) → (v : Vault) → Keeps (state S.Store conn.old) v
+        → (bucket : List ℕ) → versions.now ≡ map sized_of (held_versions_in v bucket) → IfErr result IsMemory }
 {
     let mut bytes = 0;
     let mut weight = 0;
