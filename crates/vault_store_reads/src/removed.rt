@@ -26,10 +26,10 @@ fn hand<T: Sink>(row: &Row, sink: &mut T) -> Result<bool, Error>
     ensures err { OnErr result (sink.new ≡ sink.old) }
     ensures memory { ReportsOne entry_row IsEntry row.now → IfErr result IsMemory }
 {
-    let entry = read_entry(row).map_err(unread)?;
-    let taken = sink.take(&entry);
-    drop(entry);
-    Ok(taken)
+    match read_entry(row) {
+        Ok(entry) => Ok(sink.take(&entry)),
+        Err(misread) => Err(unread(misread)),
+    }
 }
 
 /// Hands on each removed entry, as `walk_removed` does.

@@ -28,7 +28,9 @@ pub fn decode_held(alloc: Global, rows: &[Row]) -> Result<Vec<HeldRow>, Error>
 {
     let mut held = Vec::new(alloc);
     for row in rows {
-        let one = read_held(row).ok_or(UNREADABLE)?;
+        let Some(one) = read_held(row) else {
+            return Err(UNREADABLE);
+        };
         held.push(one)?;
     }
     Ok(held)
@@ -41,10 +43,23 @@ pub fn decode_sized(alloc: Global, rows: &[Row]) -> Result<Vec<SizedRow>, Error>
 {
     let mut versions = Vec::new(alloc);
     for row in rows {
-        let one = read_sized(row).ok_or(UNREADABLE)?;
+        let Some(one) = read_sized(row) else {
+            return Err(UNREADABLE);
+        };
         versions.push(one)?;
     }
     Ok(versions)
+}
+
+/// The key of a row.
+fn decode_key(row: &Row) -> Result<ObjectKey, Error>
+    ensures ok { IfOk result (λ key. row.now ≡ key_row key) }
+    ensures memory { ReportsOne key_row IsObjectKey row.now → IfErr result IsMemory }
+{
+    match read_key(row) {
+        Ok(key) => Ok(key),
+        Err(misread) => Err(unread(misread)),
+    }
 }
 
 /// Keys.
@@ -54,7 +69,7 @@ pub fn decode_keys(alloc: Global, rows: &[Row]) -> Result<Vec<ObjectKey>, Error>
 {
     let mut keys = Vec::new(alloc);
     for row in rows {
-        let one = read_key(row).map_err(unread)?;
+        let one = decode_key(row)?;
         keys.push(one)?;
     }
     Ok(keys)
@@ -65,8 +80,10 @@ fn decode_rule(row: &Row) -> Result<Rule, Error>
     ensures ok { IfOk result (λ rule. (x : RuleRow) × (row.now ≡ rule_row x) × (rule ≡ x.rule)) }
     ensures memory { ReportsOne rule_row IsRuleRow row.now → IfErr result IsMemory }
 {
-    let rule_row = read_rule(row).map_err(unread)?;
-    Ok(rule_row.rule)
+    match read_rule(row) {
+        Ok(rule_row) => Ok(rule_row.rule),
+        Err(misread) => Err(unread(misread)),
+    }
 }
 
 /// The rules of these rows.
@@ -102,8 +119,10 @@ pub fn decode_tenure(row: &Row) -> Result<Tenure, Error>
     ensures ok { IfOk result (λ tenure. (x : TenureRow) × (row.now ≡ tenure_row x) × (tenure ≡ x.tenure)) }
     ensures memory { ReportsOne tenure_row IsTenureRow row.now → IfErr result IsMemory }
 {
-    let tenure_row = read_tenure(row).map_err(unread)?;
-    Ok(tenure_row.tenure)
+    match read_tenure(row) {
+        Ok(tenure_row) => Ok(tenure_row.tenure),
+        Err(misread) => Err(unread(misread)),
+    }
 }
 
 /// The tenures of these rows.
@@ -124,8 +143,10 @@ fn decode_setting(row: &Row) -> Result<Setting, Error>
     ensures ok { IfOk result (λ setting. (x : SettingRow) × (row.now ≡ setting_row x) × (setting ≡ x.setting)) }
     ensures memory { ReportsOne setting_row IsSettingRow row.now → IfErr result IsMemory }
 {
-    let setting_row = read_setting(row).map_err(unread)?;
-    Ok(setting_row.setting)
+    match read_setting(row) {
+        Ok(setting_row) => Ok(setting_row.setting),
+        Err(misread) => Err(unread(misread)),
+    }
 }
 
 /// The settings of these rows.

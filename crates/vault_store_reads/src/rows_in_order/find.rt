@@ -36,7 +36,9 @@ pub fn find_setting<S: Alter>(
     let Some(row) = rows.first() else {
         return Ok(None);
     };
-    let last = read_last(row).ok_or(UNREADABLE)?;
+    let Some(last) = read_last(row) else {
+        return Err(UNREADABLE);
+    };
     Ok(Some(last))
 }
 

@@ -62,7 +62,9 @@ fn sum_versions<S: Alter>(
     let mut weight = 0;
     for version in versions {
         let day = find_day(conn, version.id)?;
-        let sums = with_version(bytes, weight, version.size, day).ok_or(UNREADABLE)?;
+        let Some(sums) = with_version(bytes, weight, version.size, day) else {
+            return Err(UNREADABLE);
+        };
         bytes = sums.0;
         weight = sums.1;
     }

@@ -80,7 +80,9 @@ pub fn read_newest_but<S: Alter>(
     let Some(row) = rows.first() else {
         return Ok(None);
     };
-    let newest = read_id(row).ok_or(UNREADABLE)?;
+    let Some(newest) = read_id(row) else {
+        return Err(UNREADABLE);
+    };
     Ok(Some(newest))
 }
 
