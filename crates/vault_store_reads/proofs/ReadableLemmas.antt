@@ -55,12 +55,12 @@ small h is = small_as h.entry.marker h.entry.size h.entry.digest is.entry.sized
 
 with_all : (k : List ℕ) (ks : List (List ℕ)) → IsObjectKey k → AllByRecursion IsObjectKey ks → AllByRecursion IsObjectKey (with_key k ks)
 with_all k [] is all = (is, tt)
-with_all k (x ∷ xs) is all = by (slice_cmp nat_cmp k x)
+with_all k (x ∷ xs) is all = placed (slice_cmp nat_cmp k x)
   where
-    by : (o : Ordering) → AllByRecursion IsObjectKey (with_key_by o k x xs (with_key k xs))
-    by Less = (is, all)
-    by Equal = all
-    by Greater = (all.0, with_all k xs is all.1)
+    placed : (o : Ordering) → AllByRecursion IsObjectKey (with_key_by o k x xs (with_key k xs))
+    placed Less = (is, all)
+    placed Equal = all
+    placed Greater = (all.0, with_all k xs is all.1)
 
 keys_all : (ks : List (List ℕ)) → AllByRecursion IsObjectKey ks → AllByRecursion IsObjectKey (key_set ks)
 keys_all [] all = tt
