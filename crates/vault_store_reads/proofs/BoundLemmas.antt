@@ -25,7 +25,7 @@ use Rattle.vault_store_reads.proofs.StatedLemmas.{found_each}
 -- ---- tenures
 
 some_last : (t : Tenure) (ts : List Tenure) → IsSome (last_tenure (t ∷ ts))
-some_last t [] = tt
+some_last t [] = refl
 some_last t (u ∷ us) = some_last u us
 
 has_last : (v : Vault) (h : History) (ts : List Tenure) (marker : Bool) → marker ≡ false → h.tenures ≡ ts → HasTenuresAs marker v h → IsSome (last_tenure ts)
@@ -53,7 +53,7 @@ all_tenured v bucket sound =
     let Is : History → Type 0 = λ h. IsSome (last_tenure_of v h.entry.id) in
     all_mapped (λ (x : SizedRow). IsSome (last_tenure_of v x.id)) sized_of (held_versions_in v bucket)
     (kept_where Is (λ h. is_held_version_in bucket h.entry) v.histories
-    (all_as (λ (h : History) (its : HasTenures v h × (find (λ g. g.entry.id == h.entry.id) v.histories ≡ Some h)) (held : is_held_version_in bucket h.entry ≡ true).
+    (all_as {Q = λ (h : History). is_held_version_in bucket h.entry ≡ true → IsSome (last_tenure_of v h.entry.id)} (λ (h : History) (its : HasTenures v h × (find (λ g. g.entry.id == h.entry.id) v.histories ≡ Some h)) (held : is_held_version_in bucket h.entry ≡ true).
     subst (λ (o : Option History). IsSome (last_tenure (unwrap_or (option_map (λ g. g.tenures) o) []))) (sym its.1) (has_last v h h.tenures h.entry.marker (version bucket h held) refl its.0))
     v.histories (all_both (HasTenures v) (λ (h : History). find (λ g. g.entry.id == h.entry.id) v.histories ≡ Some h) v.histories sound.tenured (found_each 1 v.histories sound.ids))))
 

@@ -53,14 +53,14 @@ small h is = small_as h.entry.marker h.entry.size h.entry.digest is.entry.sized
 
 -- ---- keys
 
+with_by : (o : Ordering) (k x : List ℕ) (xs with_k : List (List ℕ)) → IsObjectKey k → AllByRecursion IsObjectKey (x ∷ xs) → AllByRecursion IsObjectKey with_k → AllByRecursion IsObjectKey (with_key_by o k x xs with_k)
+with_by Less k x xs with_k is all more = (is, all)
+with_by Equal k x xs with_k is all more = all
+with_by Greater k x xs with_k is all more = (all.0, more)
+
 with_all : (k : List ℕ) (ks : List (List ℕ)) → IsObjectKey k → AllByRecursion IsObjectKey ks → AllByRecursion IsObjectKey (with_key k ks)
 with_all k [] is all = (is, tt)
-with_all k (x ∷ xs) is all = placed (slice_cmp nat_cmp k x)
-  where
-    placed : (o : Ordering) → AllByRecursion IsObjectKey (with_key_by o k x xs (with_key k xs))
-    placed Less = (is, all)
-    placed Equal = all
-    placed Greater = (all.0, with_all k xs is all.1)
+with_all k (x ∷ xs) is all = with_by (slice_cmp nat_cmp k x) k x xs (with_key k xs) is all (with_all k xs is all.1)
 
 keys_all : (ks : List (List ℕ)) → AllByRecursion IsObjectKey ks → AllByRecursion IsObjectKey (key_set ks)
 keys_all [] all = tt

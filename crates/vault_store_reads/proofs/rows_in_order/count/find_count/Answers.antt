@@ -1,5 +1,6 @@
-use Rattle.std.proofs.Common.{sym, ◌∙◌}
+use Rattle.std.proofs.Common.{sym, ◌∙◌, rules}
 use Rattle.vault_core_model.specs.Places.{held_at}
+use Rattle.vault_audit_walk.specs.Health.{IsMemory}
 use Rattle.vault_store_reads.proofs.QueryLemmas.{if_shown}
 use Rattle.vault_store_reads.proofs.HeadLemmas.{head_limited, head_read, no_head}
 use Rattle.vault_store_reads.proofs.TextLemmas.{head_selects}
@@ -24,7 +25,7 @@ returns-clause-value g c clean = if_shown c.read_count.result c.read_count.ensur
     (sym stated.2 ∙ counted (held_at v c.args.bucket.now c.args.key.now) stated.0.head head, finds.1.spells.kept.sound))
 
 pub returns-in_err-rows-clause-memory : goal.returns-in_err-rows-clause-memory
-returns-in_err-rows-clause-memory g c well v was = c.in_err-rows.ensures.memory (rw (c.params-to_sql.ensures, c.params-to_sql-2.ensures, c.as_str.ensures.text, c.as_str-2.ensures.text) (head_asked c.args.bucket.now c.args.key.now)) well v was
+returns-in_err-rows-clause-memory g c well v was = let one : IsMemory c.in_err-rows.field-0.0 = c.in_err-rows.ensures.memory (rw (c.params-to_sql.ensures, c.params-to_sql-2.ensures, c.as_str.ensures.text, c.as_str-2.ensures.text) (head_asked c.args.bucket.now c.args.key.now)) well v was in search rules
 
 pub returns-clause-memory : goal.returns-clause-memory
 returns-clause-memory g c well v was =

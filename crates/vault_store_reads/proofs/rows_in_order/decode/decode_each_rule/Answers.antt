@@ -4,6 +4,7 @@ use Rattle.vault_audit_model.specs.declared.rows.RuleRow.{RuleRow}
 use Rattle.vault_audit_model.specs.Limits.{IsRuleRow}
 use Rattle.vault_audit_model.specs.Rows.{rule_row}
 use Rattle.vault_audit_walk.specs.Records.{ReportsOne}
+use Rattle.vault_audit_walk.specs.Health.{IsMemory}
 use Rattle.vault_store_reads.proofs.LimitLemmas.{at_place}
 use Rattle.vault_store_reads.proofs.OrderedListLemmas.{stated_more}
 use Rattle.vault_store_reads.proofs.rows_in_order.decode.decode_each_rule.Goals as goal
@@ -16,4 +17,4 @@ loop-row-preserved c =
     (it.0 ++ one.0 ∷ [], stated_more rule_row it.0 one.0 c.args.rows.now c.loop-row.row-index c.row-item.result it.1 c.loop-row-test.true c.row-item.is one.1, rw (map-append (λ (x : RuleRow). x.rule) it.0 (one.0 ∷ []), pushed, it.2, one.2) refl)
 
 pub returns-in_err-one-clause-memory : goal.returns-in_err-one-clause-memory
-returns-in_err-one-clause-memory c readable = c.in_err-one.ensures.memory (at_place (ReportsOne rule_row IsRuleRow) c.args.rows.now c.loop-row.row-index c.row-item.result readable c.loop-row-test.true c.row-item.is)
+returns-in_err-one-clause-memory c readable = let one : IsMemory c.in_err-one.field-0.0 = c.in_err-one.ensures.memory (at_place (ReportsOne rule_row IsRuleRow) c.args.rows.now c.loop-row.row-index c.row-item.result readable c.loop-row-test.true c.row-item.is) in search rules

@@ -1,4 +1,5 @@
 use Rattle.std.proofs.Common.{◌≡◌, [], ◌∷◌, ◌++◌, rules}
+use Rattle.vault_audit_walk.specs.Health.{IsMemory}
 use Rattle.vault_store_reads.specs.Shown.{with_lock_in}
 use Rattle.vault_store_reads.proofs.OrderedListLemmas.{made_more}
 use Rattle.vault_store_reads.proofs.OpenLemmas.{quiet_then}
@@ -36,4 +37,4 @@ loop-entry-preserved g c =
     }
 
 pub returns-in_err-one-clause-memory : goal.returns-in_err-one-clause-memory
-returns-in_err-one-clause-memory g c well v was = c.in_err-one.ensures.memory well v (c.loop-entry.invariant.same (c.with_lock.ensures.read.honest well.clean) v was)
+returns-in_err-one-clause-memory g c well v was = let one : IsMemory c.in_err-one.field-0.0 = c.in_err-one.ensures.memory well v (c.loop-entry.invariant.same (c.with_lock.ensures.read.honest well.clean) v was) in search rules

@@ -1,4 +1,5 @@
-use Rattle.std.proofs.Common.{◌∙◌}
+use Rattle.std.proofs.Common.{◌∙◌, rules}
+use Rattle.vault_audit_walk.specs.Health.{IsMemory}
 use Rattle.vault_store_reads.proofs.QueryLemmas.{if_shown}
 use Rattle.vault_store_reads.proofs.HoldingLemmas.{bytes_are, versions_are, weight_is}
 use Rattle.vault_store_reads.proofs.OpenLemmas.{quiet_then}
@@ -24,7 +25,7 @@ pub returns-clause-open : goal.returns-clause-open
 returns-clause-open g c clean = c.sum_versions.ensures.open clean (c.in_ok-rows.ensures.open (c.sum_versions.ensures.read.honest clean))
 
 pub returns-in_err-versions-clause-memory : goal.returns-in_err-versions-clause-memory
-returns-in_err-versions-clause-memory g c well v was = c.in_err-versions.ensures.memory (rw c.deref.ensures.value (c.in_ok-rows.ensures.readable well.clean v was))
+returns-in_err-versions-clause-memory g c well v was = let one : IsMemory c.in_err-versions.field-0.0 = c.in_err-versions.ensures.memory (rw c.deref.ensures.value (c.in_ok-rows.ensures.readable well.clean v was)) in search rules
 
 pub returns-clause-memory : goal.returns-clause-memory
 returns-clause-memory g c well v was =

@@ -17,4 +17,5 @@ returns-in_default-clause-memory g c well v was some =
     let stated = c.in_ok-last.ensures.value well.clean v was in
     let is = c.in_default.is in
     let none : ◌≡◌ {A = Option Tenure} None (last_tenure_of v c.args.id) = cc in
-    absurd (subst (λ (o : Option Tenure). IsSome o) (sym none) some)
+    let some_none : IsSome {T = Tenure} None = subst (λ (o : Option Tenure). IsSome o) (sym none) some in
+    absurd (cc some_none)

@@ -1,6 +1,7 @@
 use Rattle.std.proofs.Common.{◌≡◌, ◌+◌, ◌*◌, ◌∙◌, IsSome, ap, refl, sym, subst, rules}
 use Rattle.std.specs.List.{AllByRecursion}
 use Rattle.vault_store_model.specs.Sums.{last_tenure_of}
+use Rattle.vault_audit_walk.specs.Health.{IsMemory}
 use Rattle.vault_store_reads.specs.Shown.{weight_in}
 use Rattle.vault_store_reads.specs.declared.rows_in_order.shown.SizedRow.{SizedRow}
 use Rattle.vault_store_reads.proofs.BoundLemmas.{all_tenured, bytes_fit, weight_fits}
@@ -47,8 +48,8 @@ returns-in_err-day-clause-memory g c well v was bucket are =
     let now = c.find_day.ensures.read.same well.clean v (c.loop-version.invariant.same (c.find_day.ensures.read.honest well.clean) v was) in
     let kept = (now well.is_open).0.spells.kept in
     let all = subst (AllByRecursion (λ (x : SizedRow). IsSome (last_tenure_of v x.id))) (sym are) (all_tenured v bucket kept.sound) in
-    c.in_err-day.ensures.memory well v (c.loop-version.invariant.same (c.find_day.ensures.read.honest well.clean) v was)
-    (at_place (λ (x : SizedRow). IsSome (last_tenure_of v x.id)) c.args.versions.now c.loop-version.version-index c.version-item.result all c.loop-version-test.true c.version-item.is)
+    let one : IsMemory c.in_err-day.field-0.0 = c.in_err-day.ensures.memory well v (c.loop-version.invariant.same (c.find_day.ensures.read.honest well.clean) v was)
+    (at_place (λ (x : SizedRow). IsSome (last_tenure_of v x.id)) c.args.versions.now c.loop-version.version-index c.version-item.result all c.loop-version-test.true c.version-item.is) in search rules
 
 pub returns-in_default-clause-memory : goal.returns-in_default-clause-memory
 returns-in_default-clause-memory g c well v was bucket are =
