@@ -1,14 +1,11 @@
 -- What a bucket holds has a tenure each, and its sums are numbers of 64 bits.
-use Rattle.std.proofs.Common.{◌≡◌, ℕ, ◌+◌, ◌*◌, ◌<◌, ◌≤◌, ◌^◌, ◌&&◌, ◌==◌, List, [], ◌∷◌, map, filter, find, length, drop, not, Bool, true, false, Option, Some, None, IsSome, IsTrue, inl, inr, refl, sym, ap, subst, ◌∙◌, arith}
+use Rattle.std.proofs.Common.{◌≡◌, ℕ, ◌+◌, ◌<◌, ◌≤◌, ◌^◌, ◌==◌, List, [], ◌∷◌, map, filter, find, length, not, Bool, true, false, Option, Some, IsSome, inl, inr, refl, sym, ap, subst, arith}
 use Rattle.std.specs.Prelude.{option_map, unwrap_or, sum_by}
 use Rattle.std.specs.List.{AllByRecursion}
 use Rattle.std.proofs.lemmas.Bool.{and_parts, cases_Bool}
-use Rattle.vault_base.specs.Days.{last_day}
-use Rattle.vault_tally.specs.Row.{quota}
-use Rattle.vault_core_model.specs.Checks.{most_ids}
 use Rattle.vault_core_model.specs.Places.{held_at, is_held_at, is_held_in, is_held_version_in}
 use Rattle.vault_core_model.specs.Sound.{Sound, AreTenures, HasTenuresAs, HasTenures, last_tenure}
-use Rattle.vault_core_model.specs.Totals.{bucket_bytes, bucket_weight, held_versions_in}
+use Rattle.vault_core_model.specs.Totals.{held_versions_in}
 use Rattle.vault_core_model.specs.Vault.{Vault}
 use Rattle.vault_core_model.specs.declared.records.History.{History}
 use Rattle.vault_core_model.specs.declared.records.Tenure.{Tenure}

@@ -1,5 +1,5 @@
 -- A store that works refuses a query that it can answer for want of memory alone, whatever the parameters are.
-use Rattle.std.proofs.Common.{◌≡◌, inl, inr, ℕ, List, [], ◌∷◌, length, true, false, None, Option, Ok, Err, Result, IfErr, IsTrue, IsSome, append-nil, refl, sym, ap, subst, ◌∙◌, arith}
+use Rattle.std.proofs.Common.{◌≡◌, inl, inr, ℕ, List, [], ◌∷◌, true, false, None, Option, Ok, Err, Result, IfErr, IsTrue, IsSome, append-nil, refl, sym, ap, subst, ◌∙◌, arith}
 use Rattle.sqlite_value.specs.Order.{Row}
 use Rattle.sqlite_schema.specs.declared.command.Command.{Command}
 use Rattle.sqlite_schema.specs.declared.command.Command.TheVariants.{Select}
