@@ -1,0 +1,5 @@
+pub mod RightsNames
+pub mod RuleMembers
+pub mod Texts
+pub mod Asking
+pub mod Reading
