@@ -3,7 +3,7 @@ use Rattle.std.proofs.Common.{◌≡◌, ◌<◌, ◌≤◌, arith, ℕ, Bool, t
 use Rattle.std.specs.Prelude.{IsTrue, All, Option, Some, None, is_none, Ok, map}
 use Rattle.hex.specs.Hex.{IsBytes, encode_lower}
 use Rattle.hex.proofs.HexLemmas.{decode_of-encode_lower}
-use Rattle.serde_json.specs.Data.{Data, string, depth}
+use Rattle.serde_json.specs.Data.{Data, string, array, depth}
 use Rattle.serde_json.specs.Find.{get}
 use Rattle.serde_json.specs.View.{items_of}
 use Rattle.serde_json.specs.Written.{has_float}
@@ -66,11 +66,11 @@ module _ (at : ℕ) (who : List ℕ) (back : ReadsBack at) (asker : IsTrue (is_p
   asks-add-caller : (caller : List ℕ) (dept : Option (List ℕ)) (held : Rights) → IsTrue (is_plain_name caller) → IsNameIfGiven dept → Asks (by (command.AddCaller (record { caller = caller; dept = dept; rights = held })))
   asks-add-caller caller None held name own =
       asked-deep _ (rw (are-texts held) refl) refl refl
-      (refl, (refl, name), refl, (names held rights, rw (items-named held rights) refl, names-are-rights held rights, is-named held))
+      (refl, (refl, name), refl, (names held rights, ap (λ items. Some (array items)) (items-named held rights), names-are-rights held rights, is-named held))
       (rw (are-whole held) refl) (rw (are-flat held) (omega arith))
   asks-add-caller caller (Some dept) held name own =
       asked-deep _ (rw (are-texts held) refl) refl refl
-      (refl, (refl, name), (refl, own), (names held rights, rw (items-named held rights) refl, names-are-rights held rights, is-named held))
+      (refl, (refl, name), (refl, own), (names held rights, ap (λ items. Some (array items)) (items-named held rights), names-are-rights held rights, is-named held))
       (rw (are-whole held) refl) (rw (are-flat held) (omega arith))
 
   asks-period : (bucket : List ℕ) (mode : Mode) (period : Period) → IsTrue (is_bucket_name bucket) → HasBits period → Asks (by (command.SetDefault (record { bucket = bucket; default = Some (record { mode = mode; period = period }) })))

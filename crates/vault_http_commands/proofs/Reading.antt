@@ -50,8 +50,8 @@ module _ (text : List ℕ) (d : Data) (t : Timed) (is : d ≡ line_value t) (spe
 
   is-value : IsUtf8 text → (depth d ≤ max_depth → read text ≡ Some d) → json_of (without_cr text) ≡ Some (line_value t)
   is-value utf8 reads =
-      let deep : depth d ≤ max_depth = rw is ((asks t spelled).flat) in
-      rw (kept, is_utf8-from_IsUtf8 text utf8, reads deep, is) refl
+      let deep : depth d ≤ max_depth = subst (λ x. depth x ≤ max_depth) (sym is) (asks t spelled).flat in
+      ap json_of kept ∙ ap (λ b. if b then read text else None) (is_utf8-from_IsUtf8 text utf8) ∙ reads deep ∙ ap (λ x. Some x) is
 
   pub text-asks : IsUtf8 text → (depth d ≤ max_depth → read text ≡ Some d) → length text ≤ 4194304 → line_of text ≡ line.Command t
   text-asks utf8 reads short =

@@ -1,6 +1,6 @@
 -- The compact text of a value has no LF, and that of an object ends with its brace.
-use Rattle.std.proofs.Common.{◌≡◌, ◌≢◌, ◌+◌, ◌/◌, ◌%◌, ℕ, zero, suc, ℤ, pos, negsuc, Bool, true, false, cond, List, [], ◌∷◌, ◌++◌, refl, sym, ◌∙◌, ap, subst, append_assoc, arith}
-use Rattle.std.specs.Prelude.{◌==◌, ◌||◌, nat_lt, if◌then◌else◌, decimal}
+use Rattle.std.proofs.Common.{◌≡◌, ◌≢◌, ◌+◌, ℕ, zero, suc, Bool, true, false, cond, List, [], ◌∷◌, ◌++◌, refl, sym, ◌∙◌, ap, subst, append_assoc, arith}
+use Rattle.std.specs.Prelude.{◌/◌, ◌%◌, ◌==◌, ◌||◌, ℤ, pos, negsuc, nat_lt, if◌then◌else◌, decimal}
 use Rattle.std.specs.Char.{digit_char}
 use Rattle.std.specs.Fmt.{digit_glyph, digits, digits_onto, signed_decimal}
 use Rattle.std.proofs.lemmas.Bool.{ltb-false}
@@ -68,12 +68,12 @@ either : (b : Bool) (xs ys : List ℕ) → HasNoLf xs → HasNoLf ys → HasNoLf
 either true xs ys h k = h
 either false xs ys h k = k
 
+chosen : (b : Bool) (n rest : ℕ) → n ≢ 10 → rest ≢ 10 → (if b then n else rest) ≢ 10
+chosen true n rest e f = e
+chosen false n rest e f = f
+
 glyph : (d : ℕ) → digit_glyph false d ≢ 10
-glyph d = of-test (nat_lt d 10)
-  where
-    of-test : (b : Bool) → (let n : ℕ = if b then 48 + d else 87 + d in n) ≢ 10
-    of-test true = omega arith
-    of-test false = omega arith
+glyph d = chosen (nat_lt d 10) (48 + d) (87 + d) (omega arith) (omega arith)
 
 digits-before : (k base n : ℕ) (acc : List ℕ) → HasNoLf acc → HasNoLf (digits_onto k base false n acc)
 digits-before zero base n acc h = h
@@ -122,4 +122,4 @@ pub ends-with-brace : (later : Bool) (ms : Members) → (front : List ℕ) × (m
 ends-with-brace later no_members = ([], refl)
 ends-with-brace later (member k d ms) =
     let rest = ends-with-brace true ms in
-    (comma_if later ++ (quoted k ++ 58 ∷ (compact_text d ++ rest.0)), rw (rest.1) (simp append_assoc))
+    (comma_if later ++ (quoted k ++ 58 ∷ (compact_text d ++ rest.0)), ap (λ text. comma_if later ++ (quoted k ++ 58 ∷ (compact_text d ++ text))) rest.1 ∙ simp append_assoc)

@@ -130,6 +130,10 @@ members_of (command.Report c) = of_dept verb.Report c.dept
 members_of (command.Certificate c) = with_id c.id (of_bucket verb.Certificate c.bucket)
 members_of (command.Intake c) = with_put c.put (put (codes "line") (whole c.line) (put (codes "batch") (string c.batch) (of_bucket verb.Intake c.put.bucket)))
 
+-- a command with its reading and the caller who asks
+abbrev pub timed : ℕ → List ℕ → Command → Timed
+timed at who c = record { at = at; who = who; command = c }
+
 -- the whole line
 abbrev pub line_value : Timed → Data
 line_value t = object (put (codes "at") (string (moment_text t.at)) (put (codes "as") (string t.who) (members_of t.command)))

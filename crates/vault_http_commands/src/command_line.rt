@@ -11,7 +11,9 @@ use crate::members::{of_bucket, of_entry, of_key};
 use crate::{config_members, entry_members, lock_members, record_members};
 use serde_json::{Map, Value};
 use std::alloc::{AllocError, Global};
-use vault_core_model::command::{Command, Timed};
+use vault_base::moment::Moment;
+use vault_base::name::CallerName;
+use vault_core_model::command::Command;
 use vault_http_lines::verb::Verb;
 use vault_http_replies::object::{Plain, put_plain};
 
@@ -48,18 +50,23 @@ fn members_of(alloc: Global, command: &Command) -> Result<Map<String, Value>, Al
     }
 }
 
-fn line_value(alloc: Global, timed: &Timed) -> Result<Value, AllocError>
-    ensures value { IfOk result (λ value. view value ≡ spec.line_value timed.now) }
-    ensures spelled { IfOk result (λ value. IsTimedSpelled timed.now) }
+fn line_value(
+    alloc: Global,
+    at: Moment,
+    who: &CallerName,
+    command: &Command,
+) -> Result<Value, AllocError>
+    ensures value { IfOk result (λ value. view value ≡ spec.line_value (spec.timed at who.now command.now)) }
+    ensures spelled { IfOk result (λ value. IsTimedSpelled (spec.timed at who.now command.now)) }
 {
-    let at = timed.at.text(alloc)?;
-    let mut members = members_of(alloc, &timed.command)?;
+    let text = at.text(alloc)?;
+    let mut members = members_of(alloc, command)?;
     put_plain(
         &mut members,
         alloc,
         &[
-            ("as", Plain::Text(timed.who.as_str())),
-            ("at", Plain::Text(at.as_str())),
+            ("as", Plain::Text(who.as_str())),
+            ("at", Plain::Text(text.as_str())),
         ],
     )?;
     Ok(Value::Object(members))
@@ -69,11 +76,16 @@ fn line_value(alloc: Global, timed: &Timed) -> Result<Value, AllocError>
 ///
 /// Where it is no longer than a line may be, it is read as that command again. The bytes of a content are
 /// printed in hex digits.
-pub fn command_line(alloc: Global, timed: &Timed) -> Result<String, AllocError>
-    ensures reads { IfOk result (λ text. length (string_bytes text) ≤ 4194304 → line_of (string_bytes text) ≡ line.Command timed.now) }
+pub fn command_line(
+    alloc: Global,
+    at: Moment,
+    who: &CallerName,
+    command: &Command,
+) -> Result<String, AllocError>
+    ensures reads { IfOk result (λ text. length (string_bytes text) ≤ 4194304 → line_of (string_bytes text) ≡ line.Command (spec.timed at who.now command.now)) }
     ensures one_line { IfOk result (λ text. HasNoLf (string_bytes text)) }
 {
-    let value = line_value(alloc, timed)?;
+    let value = line_value(alloc, at, who, command)?;
     let text = value.to_string(alloc)?;
     let _text = text.as_str();
     Ok(text)

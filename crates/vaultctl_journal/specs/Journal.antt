@@ -14,7 +14,7 @@ use Rattle.vaultctl_replay.specs.Lines.{HasNoLf, ended}
 
 -- the last line of a journal whose next change no line makes again
 abbrev pub end_line : List ℕ
-end_line = codes "{\"end\":\"no line makes the next change again\"}"
+end_line = codes "# The journal ends here: no line makes the next change again."
 
 -- a line, with its LF, that asks for the command
 abbrev pub IsRecord : Timed → List ℕ → Type 0

@@ -1,19 +1,22 @@
 //! Lines to a journal.
 ghost use Rattle.std.specs.Prelude.{◌≡◌, IfOk, OnOk, OnErr, string_bytes};
 ghost use Rattle.vault_core_journal_laws.specs.Changes as changes;
-ghost use Rattle.vaultctl_journal.specs.Journal.{Begun, IsLastRecord, IsNoted, IsRecordOf};
+ghost use Rattle.vault_http_commands.specs.Members.{timed};
+ghost use Rattle.vaultctl_journal.specs.Journal.{Begun, IsLastRecord, IsNoted, IsRecordOf, IsWritten};
 
 use crate::fault::JournalFault;
 use std::alloc::{AllocError, Global};
 use std::io::Write;
-use vault_core_model::command::Timed;
+use vault_base::moment::Moment;
+use vault_base::name::CallerName;
+use vault_core_model::command::Command;
 use vault_core_model::reply::{Answer, Reply, Stop};
 use vault_http::read_line::LONGEST_LINE;
 use vault_http_commands::command_line::command_line;
 use vault_io::writing::write_bytes;
 
 /// The last line of a journal whose next change no line makes again. `replay` refuses it.
-const END: &str = "{\"end\":\"no line makes the next change again\"}\n";
+const END: &str = "# The journal ends here: no line makes the next change again.\n";
 
 /// Whether an answer is that of a command that changed the vault.
 fn is_change_answer(answer: &Answer) -> bool
@@ -55,34 +58,56 @@ pub fn is_cut(reply: &Reply) -> bool
 
 /// A line of a journal with its LF, and whether it is the last.
 #[derive(Drop)]
-struct Record {
+struct Written {
     text: String,
     is_last: bool,
 }
 
 /// The last line.
-fn last_record(alloc: Global) -> Result<Record, AllocError>
-    ensures { IfOk result (λ record_. IsLastRecord record_.is_last (string_bytes record_.text)) }
+fn last_record(alloc: Global) -> Result<Written, AllocError>
+    ensures { IfOk result (λ made. IsLastRecord made.is_last (string_bytes made.text)) }
 {
-    Ok(Record {
+    Ok(Written {
         text: String::from_str(alloc, END)?,
         is_last: true,
     })
 }
 
 /// The line that makes a change again. Where it is longer than a line may be, it is the last line.
-fn record_of(alloc: Global, timed: &Timed) -> Result<Record, AllocError>
-    ensures { IfOk result (λ record_. IsRecordOf timed.now record_.is_last (string_bytes record_.text)) }
+fn record_of(
+    alloc: Global,
+    at: Moment,
+    who: &CallerName,
+    command: &Command,
+) -> Result<Written, AllocError>
+    ensures { IfOk result (λ made. IsRecordOf (timed at who.now command.now) made.is_last (string_bytes made.text)) }
 {
-    let mut text = command_line(alloc, timed)?;
+    let mut text = command_line(alloc, at, who, command)?;
     if text.len() > LONGEST_LINE {
         return last_record(alloc);
     }
     text.push_str("\n")?;
-    Ok(Record {
+    Ok(Written {
         text,
         is_last: false,
     })
+}
+
+/// What a change becomes in a journal: its line, or the last line where a fault cut it.
+fn written(
+    alloc: Global,
+    at: Moment,
+    who: &CallerName,
+    command: &Command,
+    reply: &Reply,
+) -> Result<Written, AllocError>
+    ensures { IfOk result (λ made. IsWritten (changes.is_cut reply.now) (timed at who.now command.now) made.is_last (string_bytes made.text)) }
+{
+    if is_cut(reply) {
+        last_record(alloc)
+    } else {
+        record_of(alloc, at, who, command)
+    }
 }
 
 /// A journal of the commands that changed a vault.
@@ -120,18 +145,13 @@ impl<W: Write> Journal<W> {
         if self.has_ended || !is_change(reply) {
             return Ok(());
         }
-        let made = if is_cut(reply) {
-            last_record(alloc)
-        } else {
-            record_of(alloc, timed)
-        };
-        let Ok(record) = made else {
+        let Ok(made) = written(alloc, at, who, command, reply) else {
             return Err(JournalFault::Memory);
         };
-        if write_bytes(&mut self.writer, record.text.as_bytes()).is_err() {
+        if write_bytes(&mut self.writer, made.text.as_bytes()).is_err() {
             return Err(JournalFault::Write);
         }
-        self.has_ended = record.is_last;
+        self.has_ended = made.is_last;
         Ok(())
     }
 }
