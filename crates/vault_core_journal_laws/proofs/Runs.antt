@@ -1,5 +1,5 @@
 -- The commands of a run that changed the vault, by themselves.
-use Rattle.std.proofs.Common.{◌≡◌, ℕ, Bool, true, false, List, [], ◌∷◌, refl, sym, ◌∙◌, ap, subst}
+use Rattle.std.proofs.Common.{◌≡◌, ℕ, Bool, true, false, List, [], ◌∷◌, refl, sym, ◌∙◌, ap, ap₂, subst}
 use Rattle.std.specs.Prelude.{◌||◌, filter, cond}
 use Rattle.std.specs.List.{list_any}
 use Rattle.vault_core_model.specs.Step.{IsRun, IsStep}
@@ -23,7 +23,7 @@ pub lead-there : (v v' : Vault) (cs : List Timed) (rs : List Reply) → IsRun v 
 lead-there v v' [] [] h = h
 lead-there v v' [] (r ∷ rs) h = absurd h
 lead-there v v' (c ∷ cs) [] h = absurd h
-lead-there v v' (c ∷ cs) (r ∷ rs) (mid, step, later) = one-more v mid v' c r _ _ (is_change r) refl step (lead-there mid v' cs rs later)
+lead-there v v' (c ∷ cs) (r ∷ rs) (mid, step, later) = one-more v mid v' c r (changing cs rs) (filter is_change rs) (is_change r) refl step (lead-there mid v' cs rs later)
 
 -- ---- they lead nowhere else
 
@@ -52,7 +52,7 @@ kept false r rs e f later = later
 
 pub changes-are-faultless : (rs : List Reply) → list_any is_cut rs ≡ false → list_any reports_fault (filter is_change rs) ≡ false
 changes-are-faultless [] e = refl
-changes-are-faultless (r ∷ rs) e = kept (is_change r) r (filter is_change rs) refl (left-of (is_cut r) _ e) (changes-are-faultless rs (right-of (is_cut r) _ e))
+changes-are-faultless (r ∷ rs) e = kept (is_change r) r (filter is_change rs) refl (left-of (is_cut r) (list_any is_cut rs) e) (changes-are-faultless rs (right-of (is_cut r) (list_any is_cut rs) e))
 
 -- two runs of the same commands without a fault are one
 pub one-run : OneAnswer → (v v' w : Vault) (cs : List Timed) (rs qs : List Reply) → list_any reports_fault rs ≡ false → list_any reports_fault qs ≡ false → IsRun v cs rs v' → IsRun v cs qs w → (w ≡ v') × (qs ≡ rs)
@@ -62,12 +62,12 @@ one-run one v v' w [] (r ∷ rs) qs e f h k = absurd h
 one-run one v v' w (c ∷ cs) [] qs e f h k = absurd h
 one-run one v v' w (c ∷ cs) (r ∷ rs) [] e f h k = absurd k
 one-run one v v' w (c ∷ cs) (r ∷ rs) (q ∷ qs) e f (mid, step, later) (other, step', later') =
-    let a = one v c.at c.who c.command r mid (left-of (reports_fault r) _ e) step in
-    let b = one v c.at c.who c.command q other (left-of (reports_fault q) _ f) step' in
+    let a = one v c.at c.who c.command r mid (left-of (reports_fault r) (list_any reports_fault rs) e) step in
+    let b = one v c.at c.who c.command q other (left-of (reports_fault q) (list_any reports_fault qs) f) step' in
     let same : other ≡ mid = b.1 ∙ sym a.1 in
-    let rest = one-run one mid v' w cs rs qs (right-of (reports_fault r) _ e) (right-of (reports_fault q) _ f) later (subst (λ x. IsRun x cs qs w) same later') in
+    let rest = one-run one mid v' w cs rs qs (right-of (reports_fault r) (list_any reports_fault rs) e) (right-of (reports_fault q) (list_any reports_fault qs) f) later (subst (λ x. IsRun x cs qs w) same later') in
     let first : q ≡ r = b.0 ∙ sym a.0 in
-    (rest.0, cc)
+    (rest.0, ap₂ (λ a b. a ∷ b) first rest.1)
 
 pub lead-nowhere-else : OneAnswer → (v v' w : Vault) (cs : List Timed) (rs qs : List Reply) → IsRun v cs rs v' → list_any is_cut rs ≡ false → IsRun v (changing cs rs) qs w → list_any reports_fault qs ≡ false → (w ≡ v') × (qs ≡ filter is_change rs)
 lead-nowhere-else one v v' w cs rs qs h e k f = one-run one v v' w (changing cs rs) (filter is_change rs) qs (changes-are-faultless rs e) f (lead-there v v' cs rs h) k

@@ -38,7 +38,7 @@ Shows v judged = IfOk judged (λ done. is_change_answer done.0 ≡ false → don
 
 then-shows : {A : Type 0} (v : Vault) (x : Result A Refusal) (f : A → Result (Answer × Vault) Refusal) → ((a : A) → Shows v (f a)) → Shows v (x >>= f)
 then-shows v (Ok a) f later = later a
-then-shows v (Err refusal) f later = tt
+then-shows v (Err x) f later = tt
 
 shows-intake : (v : Vault) (t : ℕ) (who : List ℕ) (c : Intake) (a : Access) (note : Option Note) → Shows v (intake_by v t who c a note)
 shows-intake v t who c a None = then-shows v (lock_to_take_in v t c a) _ (λ lock. then-shows v (free_id v) _ (λ id e. absurd cc))

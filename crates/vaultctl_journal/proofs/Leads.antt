@@ -1,6 +1,6 @@
 -- A journal's lines, carried out one after another, lead to the vault.
-use Rattle.std.proofs.Common.{◌≡◌, ℕ, Bool, true, false, List, [], ◌∷◌, ◌++◌, refl, sym, ◌∙◌, ap, ap₂, subst, append_assoc, append-nil, map}
-use Rattle.std.specs.Prelude.{◌≢◌, All, filter}
+use Rattle.std.proofs.Common.{◌≡◌, ℕ, zero, suc, Bool, true, false, List, [], ◌∷◌, ◌++◌, refl, sym, ◌∙◌, ap, ap₂, subst, append_assoc, append-nil, map}
+use Rattle.std.specs.Prelude.{◌≢◌, All, filter, take}
 use Rattle.std.specs.List.{flat_map, list_any}
 use Rattle.std.proofs.lemmas.List.Elements.{All-nil, All-cons}
 use Rattle.vault_core_examples.specs.Outcome.{reports_fault}
@@ -14,15 +14,15 @@ use Rattle.vault_http.specs.Line.TheVariants as line
 use Rattle.vault_http.specs.ReadLine.{line_of}
 use Rattle.vaultctl_replay.specs.Lines.{AskFor, HasNoLf, Splits, ended, last_of}
 use Rattle.vaultctl_replay.specs.Runs.{Answers, Runs}
-use Rattle.vaultctl_journal.specs.Journal.{IsJournal, IsRecord, Records}
+use Rattle.vaultctl_journal.specs.Journal.{IsJournal, IsRecord, Records, end_line}
 
 -- the lines of a journal
-pub record Lines (bytes : List ℕ) (cs : List Timed) : Type 0 where
+pub record Parts (bytes : List ℕ) (cs : List Timed) : Type 0 where
   pub lines : List (List ℕ)
   pub splits : Splits bytes lines []
   pub asked : map line_of lines ≡ map (λ c. line.Command c) cs
 
-split : (bytes : List ℕ) (cs : List Timed) → Records bytes cs → Lines bytes cs
+split : (bytes : List ℕ) (cs : List Timed) → Records bytes cs → Parts bytes cs
 split bytes [] e =
     record { lines = []; splits = record { whole = e; each = All-nil HasNoLf; last = All-nil (λ b. b ≢ 10) }; asked = refl }
 split bytes (c ∷ cs) (first, later, (text, no_lf, asks, is), whole, records) =
@@ -65,3 +65,19 @@ pub lead : NowhereElse → OneReading → (v v' w : Vault) (cs : List Timed) (rs
 lead nowhere one v v' w cs rs qs text asked n m run (records, whole) ask runs clear =
     let is = asks-for one text (changing cs rs) asked records ask in
     nowhere v v' w cs rs qs run whole (run-of v w n m (changing cs rs) qs (subst (λ l. Runs (Unit {0}) v n l qs w m) is runs)) clear
+
+-- ---- a journal that has ended
+
+run-take : (n : ℕ) (v v' : Vault) (cs : List Timed) (rs : List Reply) → IsRun v cs rs v' → (mid : Vault) × IsRun v (take n cs) (take n rs) mid
+run-take zero v v' cs rs h = (v, refl)
+run-take (suc n) v v' [] [] h = (v, refl)
+run-take (suc n) v v' [] (r ∷ rs) h = absurd h
+run-take (suc n) v v' (c ∷ cs) [] h = absurd h
+run-take (suc n) v v' (c ∷ cs) (r ∷ rs) (mid, step, later) =
+    let rest = run-take n mid v' cs rs later in
+    (rest.0, (mid, step, rest.1))
+
+pub lead-to-end : (v v' : Vault) (cs : List Timed) (rs : List Reply) (text : List ℕ) → IsRun v cs rs v' → IsJournal true text cs rs → (front : List ℕ) × (n : ℕ) × (mid : Vault) × (text ≡ front ++ ended end_line) × IsRun v (take n cs) (take n rs) mid × IsJournal false front (take n cs) (take n rs)
+lead-to-end v v' cs rs text run (front, n, is, records, whole) =
+    let part = run-take n v v' cs rs run in
+    (front, n, part.0, is, part.1, (records, whole))

@@ -1,5 +1,5 @@
 //! Laws of journals. Each is the contract of a public function that does nothing.
-ghost use Rattle.std.specs.Prelude.{◌≡◌, ◌++◌, ℕ, Bool, false, List, Some, filter};
+ghost use Rattle.std.specs.Prelude.{◌≡◌, ◌++◌, ℕ, Bool, true, false, List, Some, filter, take};
 ghost use Rattle.std.specs.List.{list_any};
 ghost use Rattle.vault_base.specs.declared.refusal.Refusal.TheVariants.{MalformedBody};
 ghost use Rattle.vault_core_examples.specs.Outcome.{reports_fault};
@@ -12,7 +12,7 @@ ghost use Rattle.vault_http.specs.Line.{Line};
 ghost use Rattle.vault_http.specs.Line.TheVariants as line;
 ghost use Rattle.vault_http.specs.ReadLine.{line_of};
 ghost use Rattle.vaultctl_journal.specs.Journal.{AreNoted, IsJournal, end_line};
-ghost use Rattle.vaultctl_replay.specs.Lines.{AskFor};
+ghost use Rattle.vaultctl_replay.specs.Lines.{AskFor, ended};
 ghost use Rattle.vaultctl_replay.specs.Runs.{Runs};
 
 use vault_core_journal_laws::changes_lead_nowhere_else;
@@ -33,6 +33,13 @@ pub fn journals_lead_to_the_vault()
     changes_lead_nowhere_else();
     input_has_one_reading();
 }
+
+/// Before its last line a journal that has ended is a journal of the first commands, which lead to some vault: the one
+/// that a fault found as it cut a lifecycle run, or that a change found whose line is too long.
+pub fn ended_journals_lead_to_their_end()
+    ensures { (v v' : Vault) (cs : List Timed) (rs : List Reply) (text : List ℕ) → IsRun v cs rs v' → IsJournal true text cs rs
+        → (front : List ℕ) × (n : ℕ) × (mid : Vault) × (text ≡ front ++ ended end_line) × IsRun v (take n cs) (take n rs) mid × IsJournal false front (take n cs) (take n rs) }
+{}
 
 /// The line that ends a journal asks for nothing, and is refused.
 pub fn last_lines_are_refused()
