@@ -130,6 +130,17 @@ impl<W> Journal<W> {
             has_ended: false,
         }
     }
+
+    /// The writer that it goes to.
+    pub fn into_writer(self) -> W
+        ensures { result ≡ self.writer }
+    {
+        let Journal {
+            writer,
+            has_ended: _,
+        } = self;
+        writer
+    }
 }
 
 impl<W: Write> Journal<W> {
