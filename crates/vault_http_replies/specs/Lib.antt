@@ -1,4 +1,3 @@
 pub mod ReplyLine
 pub mod Putting
 pub mod Object
-pub mod Spelled

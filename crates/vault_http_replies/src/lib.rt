@@ -1,6 +1,6 @@
 //! Replies, printed as lines of JSON.
 #![tactic(auto)]
 
-pub mod object;
+mod object;
 pub mod reply_line;
-pub mod rule_value;
+mod rule_value;

@@ -10,7 +10,7 @@ use std::alloc::{AllocError, Global};
 
 /// A value that has no values inside.
 #[derive(Clone, Copy)]
-pub enum Plain<'a> {
+pub(crate) enum Plain<'a> {
     Text(&'a str),
     Whole(u64),
     Flag(bool),
@@ -27,7 +27,7 @@ fn plain_value(alloc: Global, plain: Plain) -> Result<Value, AllocError>
 }
 
 /// Puts in each of these members.
-pub fn put_plain(
+pub(crate) fn put_plain(
     members: &mut Map<String, Value>,
     alloc: Global,
     plain: &[(&str, Plain)],
@@ -42,7 +42,7 @@ pub fn put_plain(
 }
 
 /// The object of these members.
-pub fn plain_object(alloc: Global, plain: &[(&str, Plain)]) -> Result<Value, AllocError>
+pub(crate) fn plain_object(alloc: Global, plain: &[(&str, Plain)]) -> Result<Value, AllocError>
     ensures { IfOk result (λ value. view value ≡ object (fold (λ ms m. with_member m.0.now (plain_data m.1) ms) no_members plain.now)) }
 {
     let mut members = Map::new(alloc);
@@ -51,7 +51,7 @@ pub fn plain_object(alloc: Global, plain: &[(&str, Plain)]) -> Result<Value, All
 }
 
 /// The object of this member alone.
-pub fn object_of(alloc: Global, name: &str, value: Value) -> Result<Value, AllocError>
+pub(crate) fn object_of(alloc: Global, name: &str, value: Value) -> Result<Value, AllocError>
     ensures { IfOk result (λ made. view made ≡ object (member name.now (view value) no_members)) }
 {
     let mut members = Map::new(alloc);

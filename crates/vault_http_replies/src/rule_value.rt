@@ -1,9 +1,7 @@
 //! Lifecycle rules as S3's JSON has them (API Reference, "GetBucketLifecycleConfiguration").
-ghost use Rattle.std.specs.Prelude.{◌≡◌, All, IfOk, IsTrue, OnOk, codes, map, option_map};
+ghost use Rattle.std.specs.Prelude.{◌≡◌, IfOk, OnOk, codes, map, option_map};
 ghost use Rattle.serde_json.specs.View.{view, members_view};
-ghost use Rattle.vault_base.specs.Name.{is_key_prefix};
 ghost use Rattle.vault_http_replies.specs.Putting.{put_if};
-ghost use Rattle.vault_http_replies.specs.Spelled.{IsSpelledRule};
 ghost use Rattle.vault_http_replies.specs.ReplyLine as spec;
 
 use crate::object::{Plain, object_of, plain_object, put_plain};
@@ -21,10 +19,8 @@ pub(crate) fn rules_value(alloc: Global, rules: &RuleSet) -> Result<Value, Alloc
     object_of(alloc, "rules", list)
 }
 
-/// The value of each rule, in order. Each rule has an id and a prefix, as its type says.
-pub fn rule_values(alloc: Global, rules: &[Rule]) -> Result<Vec<Value>, AllocError>
-    ensures values { IfOk result (λ list. map view list.items ≡ map spec.rule_value rules.now) }
-    ensures spelled { IfOk result (λ list. All IsSpelledRule rules.now) }
+fn rule_values(alloc: Global, rules: &[Rule]) -> Result<Vec<Value>, AllocError>
+    ensures { IfOk result (λ list. map view list.items ≡ map spec.rule_value rules.now) }
 {
     let mut list = Vec::new(alloc);
     for rule in rules {
@@ -35,16 +31,14 @@ pub fn rule_values(alloc: Global, rules: &[Rule]) -> Result<Vec<Value>, AllocErr
 
 /// What is absent is left out; a prefix is printed also where it is empty.
 fn rule_value(alloc: Global, rule: &Rule) -> Result<Value, AllocError>
-    ensures value { IfOk result (λ value. view value ≡ spec.rule_value rule.now) }
-    ensures spelled { IfOk result (λ value. IsSpelledRule rule.now) }
+    ensures { IfOk result (λ value. view value ≡ spec.rule_value rule.now) }
 {
     Ok(Value::Object(rule_members(alloc, rule)?))
 }
 
 /// The members of a rule that are always there, but for its id.
 fn named_members(alloc: Global, rule: &Rule) -> Result<Map<String, Value>, AllocError>
-    ensures members { IfOk result (λ members. members_view members.entries ≡ spec.named_members rule.now) }
-    ensures prefix { IfOk result (λ members. IsTrue (is_key_prefix rule.now.prefix)) }
+    ensures { IfOk result (λ members. members_view members.entries ≡ spec.named_members rule.now) }
 {
     let mut members = Map::new(alloc);
     put_plain(
@@ -76,8 +70,7 @@ fn put_size(
 /// Those, with the bounds of sizes.
 #[tactic(auto, using(crate::proofs::RuleLemmas::bounded))]
 fn bounded_members(alloc: Global, rule: &Rule) -> Result<Map<String, Value>, AllocError>
-    ensures members { IfOk result (λ members. members_view members.entries ≡ spec.bounded_members rule.now) }
-    ensures prefix { IfOk result (λ members. IsTrue (is_key_prefix rule.now.prefix)) }
+    ensures { IfOk result (λ members. members_view members.entries ≡ spec.bounded_members rule.now) }
 {
     let mut members = named_members(alloc, rule)?;
     put_size(&mut members, alloc, "ObjectSizeLessThan", rule.smaller)?;
@@ -88,8 +81,7 @@ fn bounded_members(alloc: Global, rule: &Rule) -> Result<Map<String, Value>, All
 /// All members of a rule.
 #[tactic(auto, using(crate::proofs::RuleLemmas::all_members))]
 fn rule_members(alloc: Global, rule: &Rule) -> Result<Map<String, Value>, AllocError>
-    ensures members { IfOk result (λ members. members_view members.entries ≡ spec.rule_members rule.now) }
-    ensures spelled { IfOk result (λ members. IsSpelledRule rule.now) }
+    ensures { IfOk result (λ members. members_view members.entries ≡ spec.rule_members rule.now) }
 {
     let mut members = bounded_members(alloc, rule)?;
     put_noncurrent(&mut members, alloc, rule.noncurrent)?;
