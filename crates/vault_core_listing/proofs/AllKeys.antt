@@ -1,6 +1,6 @@
 -- The whole listing: what is left of the key at which it begins, and the keys after it, a page at a time.
 use Rattle.std.proofs.Common.{◌≡◌, ℕ, ◌+◌, ◌-◌, ◌<◌, ◌≤◌, ◌++◌, ◌&&◌, ◌||◌, Bool, true, false, Option, Some, None, List, [], ◌∷◌, length, map, take, drop, get_or, refl, sym, ap, subst, ◌∙◌, arith, append_assoc}
-use Rattle.std.specs.Prelude.{not, filter, flat_map, if◌then◌else◌, reverse, ◌==◌, nat_eq, nat_le, slice_get, is_none}
+use Rattle.std.specs.Prelude.{not, filter, flat_map, if◌then◌else◌, reverse, ◌==◌, nat_eq, nat_le, slice_get, is_some}
 use Rattle.std.specs.Str.{bytes_eq}
 use Rattle.std.specs.Ordering.{is_gt}
 use Rattle.std.specs.List.{starts_with, take-map}
@@ -24,10 +24,10 @@ use Rattle.vault_core_model.specs.Places.{is_held, is_held_at, is_held_in, is_be
 use Rattle.vault_core_model.specs.Reads.{keys_after}
 use Rattle.vault_core_model.specs.Sound.{Sound}
 use Rattle.vault_core_model.specs.Vault.{Vault}
-use Rattle.vault_core_listing.specs.Walk.{has_prefix, is_past, EndsOrAdvances, asked_at, asked_first, completed, filled, keys_behind, page_of}
+use Rattle.vault_core_listing.specs.Walk.{has_prefix, is_past, EndsOrAdvances, asked_at, asked_first, beginning, completed, filled, has_first, is_prefix_later, keys_behind, page_of}
 use Rattle.vault_core_listing.proofs.Keys.{IsOver, greater, over_behind, IsRising, among-set, behind_page, cmp, is_among, rising_set, split_at}
 use Rattle.vault_core_listing.proofs.KeyWalk.{nothing_asked, without_prefix}
-use Rattle.vault_core_listing.proofs.Prefixes.{past}
+use Rattle.vault_core_listing.proofs.Prefixes.{before, past}
 use Rattle.vault_core_listing.proofs.Pages.{cut_off, filled-append, from_empty}
 
 -- ---- keys without a held entry
@@ -73,9 +73,16 @@ nothing_at v c key absent =
 eq_less : (j k : List ℕ) → cmp j k ≡ Less → bytes_eq j k ≡ false
 eq_less j k e = rw (← is_eq-slice_cmp j k, e) refl
 
-nothing_before : (v : Vault) (c : ListVersions) → Sound v → (length c.after_key == 0) ≡ false → (key : List ℕ) → cmp key c.after_key ≡ Less → asked_at v c key ≡ []
-nothing_before v c sound named key less =
+before_after : (v : Vault) (c : ListVersions) → Sound v → (length c.after_key == 0) ≡ false → (key : List ℕ) → cmp key c.after_key ≡ Less → asked_at v c key ≡ []
+before_after v c sound named key less =
     nothing_asked v c key sound (λ id. rw (named, less, eq_less key c.after_key less) (and_right (starts_with nat_eq key c.prefix) false refl))
+
+nothing_before : (v : Vault) (c : ListVersions) → Sound v → (length (beginning c) == 0) ≡ false → (key : List ℕ) → cmp key (beginning c) ≡ Less → asked_at v c key ≡ []
+nothing_before v c sound named key less = by_order (is_prefix_later c) named less
+  where
+    by_order : (b : Bool) → (length (if b then c.prefix else c.after_key) == 0) ≡ false → cmp key (if b then c.prefix else c.after_key) ≡ Less → asked_at v c key ≡ []
+    by_order true n l = without_prefix v c key sound (before c.prefix key l)
+    by_order false n l = before_after v c sound n key l
 
 -- ---- the listing, key by key
 
@@ -92,25 +99,25 @@ by_keys v c (k ∷ ks) =
     ∙ ap (λ (ls : List Listed). asked_at v c k ++ ls) (by_keys v c ks)
 
 -- what is asked for: of the key at which the listing begins, and of those after it
-parts : (v : Vault) (c : ListVersions) → Sound v → flat_map (asked_at v c) (keys_of v c.bucket) ≡ asked_first v c ++ flat_map (asked_at v c) (keys_behind v c.bucket c.after_key)
-parts v c sound = by_length (length c.after_key == 0) refl
+parts : (v : Vault) (c : ListVersions) → Sound v → flat_map (asked_at v c) (keys_of v c.bucket) ≡ asked_first v c ++ flat_map (asked_at v c) (keys_behind v c.bucket (beginning c))
+parts v c sound = by_length (length (beginning c) == 0) refl
   where
     all : (ks : List (List ℕ)) → filter (λ k. true) ks ≡ ks
     all [] = refl
     all (k ∷ ks) = ap (λ (l : List (List ℕ)). k ∷ l) (all ks)
 
-    by_length : (b : Bool) → (length c.after_key == 0) ≡ b → flat_map (asked_at v c) (keys_of v c.bucket) ≡ (if b then [] else asked_at v c c.after_key) ++ flat_map (asked_at v c) (filter (λ k. b || is_gt (cmp k c.after_key)) (keys_of v c.bucket))
+    by_length : (b : Bool) → (length (beginning c) == 0) ≡ b → flat_map (asked_at v c) (keys_of v c.bucket) ≡ (if b then [] else asked_at v c (beginning c)) ++ flat_map (asked_at v c) (filter (λ k. b || is_gt (cmp k (beginning c))) (keys_of v c.bucket))
     by_length true e = ap (flat_map (asked_at v c)) (sym (all (keys_of v c.bucket)))
-    by_length false e = split_at (asked_at v c) c.after_key (keys_of v c.bucket) (rising_keys v c.bucket) (nothing_before v c sound e) (nothing_at v c c.after_key)
+    by_length false e = split_at (asked_at v c) (beginning c) (keys_of v c.bucket) (rising_keys v c.bucket) (nothing_before v c sound e) (nothing_at v c (beginning c))
 
-pub page_is : (v mid : Vault) (c : ListVersions) (page first : Page) → Sound v → mid ≡ v → first ≡ filled c.most (record { entries = []; more = false }) (asked_first v c) → page ≡ completed mid c first c.after_key → page ≡ page_of v c
+pub page_is : (v mid : Vault) (c : ListVersions) (page first : Page) → Sound v → mid ≡ v → first ≡ filled c.most (record { entries = []; more = false }) (asked_first v c) → page ≡ completed mid c first (beginning c) → page ≡ page_of v c
 page_is v mid c page first sound same begun done =
     let all : List Listed = flat_map (asked_at v c) (keys_of v c.bucket) in
     let cut : List Listed → Page = cut_off c.most in
     done
-    ∙ ap (λ w. completed w c first c.after_key) same
-    ∙ ap (λ (p : Page). completed v c p c.after_key) begun
-    ∙ sym (filled-append c.most (record { entries = []; more = false }) (asked_first v c) (flat_map (asked_at v c) (keys_behind v c.bucket c.after_key)))
+    ∙ ap (λ w. completed w c first (beginning c)) same
+    ∙ ap (λ (p : Page). completed v c p (beginning c)) begun
+    ∙ sym (filled-append c.most (record { entries = []; more = false }) (asked_first v c) (flat_map (asked_at v c) (keys_behind v c.bucket (beginning c))))
     ∙ ap (filled c.most (record { entries = []; more = false })) (sym (parts v c sound))
     ∙ from_empty c.most all
     ∙ ap cut (sym (by_keys v c (keys_of v c.bucket)))
@@ -167,16 +174,16 @@ few_keys v bucket after sound =
     omega (arith, sound.enough_ids, filter_few (λ h. is_held_in bucket h.entry) v.histories, length-map held (λ (h : History). h.entry.key), set_few keys, filter_few (λ k. is_behind k after) (keys_of v bucket))
 
 pub walk_ends : (v mid : Vault) (c : ListVersions) (page0 page page' : Page) (after : List ℕ) (next : Option (List ℕ))
-    → mid ≡ v → next ≡ None → completed v c page after ≡ completed v c page0 c.after_key → EndsOrAdvances mid c page after page' next
-    → page' ≡ completed v c page0 c.after_key
+    → mid ≡ v → next ≡ None → completed v c page after ≡ completed v c page0 (beginning c) → EndsOrAdvances mid c page after page' next
+    → page' ≡ completed v c page0 (beginning c)
 walk_ends v mid c page0 page page' after next same none left goes =
     let P : Option (List ℕ) → Type 0 = λ o. EndsOrAdvances mid c page after page' o in
     let Q : Vault → Type 0 = λ w. page' ≡ completed w c page after in
     subst Q same (subst P none goes) ∙ left
 
 pub walk_goes_on : (v mid : Vault) (c : ListVersions) (page0 page page' : Page) (after : List ℕ) (next : Option (List ℕ)) (key : List ℕ)
-    → mid ≡ v → next ≡ Some key → completed v c page after ≡ completed v c page0 c.after_key → EndsOrAdvances mid c page after page' next
-    → (completed v c page' key ≡ completed v c page0 c.after_key) × (length (keys_behind v c.bucket key) + 256 ≤ length (keys_behind v c.bucket after))
+    → mid ≡ v → next ≡ Some key → completed v c page after ≡ completed v c page0 (beginning c) → EndsOrAdvances mid c page after page' next
+    → (completed v c page' key ≡ completed v c page0 (beginning c)) × (length (keys_behind v c.bucket key) + 256 ≤ length (keys_behind v c.bucket after))
 walk_goes_on v mid c page0 page page' after next key same some left goes =
     let P : Option (List ℕ) → Type 0 = λ o. EndsOrAdvances mid c page after page' o in
     let Q : Vault → Type 0 = λ w. EndsOrAdvances w c page after page' (Some key) in
@@ -230,25 +237,35 @@ next_page v mid c page page' after last next keys same whole is at own named now
 tied : (key : List ℕ) → is_gt (cmp key key) ≡ false
 tied key = ap is_gt (tied_itself nat_list_cmp_total key)
 
--- with no id given nothing of that key is asked for
-pub none_first : (v : Vault) (c : ListVersions) → Sound v → is_none c.after_id ≡ true → asked_first v c ≡ []
-none_first v c sound absent = by_length (length c.after_key == 0) refl
+-- nothing is asked for of the key after which the listing begins, where no id is given
+pub none_first : (v : Vault) (c : ListVersions) → Sound v → has_first c ≡ false → asked_first v c ≡ []
+none_first v c sound absent =
+    let parts = or_parts (is_some c.after_id) (is_prefix_later c) absent in
+    rw parts.1 (at_after parts.0 (length c.after_key == 0) refl)
   where
-    below : (o : Option ℕ) (id : ℕ) → is_none o ≡ true → is_below o id ≡ false
+    below : (o : Option ℕ) (id : ℕ) → is_some o ≡ false → is_below o id ≡ false
     below None id e = refl
     below (Some after) id e = absurd (cc e)
 
-    by_length : (b : Bool) → (length c.after_key == 0) ≡ b → (if b then [] else asked_at v c c.after_key) ≡ []
-    by_length true e = refl
-    by_length false e = nothing_asked v c c.after_key sound (λ id. rw (e, tied c.after_key, below c.after_id id absent, and_right (bytes_eq c.after_key c.after_key) false refl) (and_right (starts_with nat_eq c.after_key c.prefix) false refl))
+    at_after : is_some c.after_id ≡ false → (b : Bool) → (length c.after_key == 0) ≡ b → (if b then [] else asked_at v c c.after_key) ≡ []
+    at_after none true e = refl
+    at_after none false e = nothing_asked v c c.after_key sound (λ id. rw (e, tied c.after_key, below c.after_id id none, and_right (bytes_eq c.after_key c.after_key) false refl) (and_right (starts_with nat_eq c.after_key c.prefix) false refl))
 
 -- where the listing begins at no key
-pub no_first : (v : Vault) (c : ListVersions) (key : Option (List ℕ)) → key ≡ None → key ≡ (if length c.after_key == 0 then None else Some c.after_key) → asked_first v c ≡ []
-no_first v c key none is = by_length (length c.after_key == 0) (sym none ∙ is)
+pub no_first : (v : Vault) (c : ListVersions) (begun : List ℕ) (key : Option (List ℕ)) → begun ≡ beginning c → key ≡ None → key ≡ (if length begun == 0 then None else Some begun) → asked_first v c ≡ []
+no_first v c begun key same none is = rw (← same) (by_length (length begun == 0) (sym none ∙ is))
   where
-    by_length : (b : Bool) → None ≡ (if b then None else Some c.after_key) → (if b then [] else asked_at v c c.after_key) ≡ []
+    by_length : (b : Bool) → None ≡ (if b then None else Some begun) → (if b then [] else asked_at v c begun) ≡ []
     by_length true e = refl
     by_length false e = absurd (cc e)
+
+-- where it begins at one, that is the first
+pub is_first : (v : Vault) (c : ListVersions) (begun : List ℕ) (found : Option (List ℕ)) (key : List ℕ) → begun ≡ beginning c → found ≡ Some key → found ≡ (if length begun == 0 then None else Some begun) → asked_at v c key ≡ asked_first v c
+is_first v c begun found key same some is = rw (← same) (by_length (length begun == 0) (sym some ∙ is))
+  where
+    by_length : (b : Bool) → Some key ≡ (if b then None else Some begun) → asked_at v c key ≡ (if b then [] else asked_at v c begun)
+    by_length true e = absurd (cc e)
+    by_length false e = ap (asked_at v c) (cc e)
 
 -- a key isn't empty
 pub key_named : (key : List ℕ) → is_object_key key ≡ true → (length key == 0) ≡ false

@@ -1,5 +1,5 @@
 -- A listing's page as it fills, key by key.
-use Rattle.std.specs.Prelude.{◌≡◌, ◌==◌, ℕ, ◌+◌, ◌≤◌, Bool, true, false, ◌&&◌, ◌||◌, not, nat_lt, nat_eq, List, [], ◌∷◌, ◌++◌, length, map, filter, flat_map, take, reverse, Option, Some, None, if◌then◌else◌}
+use Rattle.std.specs.Prelude.{◌≡◌, ◌==◌, ℕ, ◌+◌, ◌≤◌, Bool, true, false, ◌&&◌, ◌||◌, not, nat_lt, nat_eq, List, [], ◌∷◌, ◌++◌, length, map, filter, flat_map, take, reverse, Option, Some, None, is_some, if◌then◌else◌}
 use Rattle.std.specs.List.{starts_with}
 use Rattle.std.specs.Str.{bytes_eq}
 use Rattle.std.specs.Ordering.{nat_cmp, is_gt}
@@ -39,9 +39,21 @@ is_asked c key id =
 abbrev pub asked_at : Vault → ListVersions → List ℕ → List Listed
 asked_at v c key = map (listed v) (filter (λ h. is_asked_for c h.entry) (reverse (held_at v c.bucket key)))
 
+-- the prefix comes after the key after which the listing begins
+abbrev pub is_prefix_later : ListVersions → Bool
+is_prefix_later c = is_gt (slice_cmp nat_cmp c.prefix c.after_key)
+
+-- the key at which the listing begins: nothing is asked for of the keys before it
+abbrev pub beginning : ListVersions → List ℕ
+beginning c = if is_prefix_later c then c.prefix else c.after_key
+
+-- something may be asked for of it: older entries than one, or all of a prefix that is a key
+abbrev pub has_first : ListVersions → Bool
+has_first c = is_some c.after_id || is_prefix_later c
+
 -- of the key at which the listing begins, where it is one
 abbrev pub asked_first : Vault → ListVersions → List Listed
-asked_first v c = if length c.after_key == 0 then [] else asked_at v c c.after_key
+asked_first v c = if length (beginning c) == 0 then [] else asked_at v c (beginning c)
 
 -- the keys of the bucket after that one
 abbrev pub keys_behind : Vault → List ℕ → List ℕ → List (List ℕ)

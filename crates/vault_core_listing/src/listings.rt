@@ -7,9 +7,9 @@ ghost use Rattle.vault_core_model.specs.Reads.{entry_of};
 ghost use Rattle.std.specs.Str.{bytes_eq};
 ghost use Rattle.vault_core_model.specs.Places.{is_behind};
 ghost use Rattle.vault_core_model.specs.ListingOutcome as outcome;
-ghost use Rattle.vault_core_listing.specs.Walk.{EndsOrAdvances, asked_at, asked_first, completed, filled, grown, has_prefix, is_asked, is_past, page_of};
+ghost use Rattle.vault_core_listing.specs.Walk.{EndsOrAdvances, asked_at, asked_first, beginning, completed, filled, grown, has_first, has_prefix, is_asked, is_past, is_prefix_later, page_of};
 
-use std::alloc::Global;
+use std::alloc::{AllocError, Global};
 use vault_base::moment::Moment;
 use vault_base::name::{CallerName, KeyPrefix, ObjectKey, VersionId};
 use vault_base::refusal::Refusal;
@@ -55,8 +55,8 @@ fn check_most(most: u32) -> Result<(), Halt>
     }
 }
 
-/// The page that is asked for: first what is left of the key at which the listing begins, then the keys
-/// after it.
+/// The page that is asked for: first what is asked for of the key at which the listing begins, then the
+/// keys after it.
 fn find_page<K: Keeper>(
     alloc: Global,
     keeper: &mut K,
@@ -74,6 +74,32 @@ fn find_page<K: Keeper>(
     Ok(page)
 }
 
+/// The key at which the listing begins, whether or not the bucket has it: what is asked for of the keys
+/// before it is nothing, and no such key is read.
+fn beginning(command: &ListVersions) -> Result<KeyPrefix, AllocError>
+    ensures { IfOk result (λ key. key ≡ beginning command.now) }
+{
+    if is_prefix_later(command) {
+        command.prefix.clone()
+    } else {
+        command.after_key.clone()
+    }
+}
+
+/// Whether the prefix comes after the key after which the listing begins.
+fn is_prefix_later(command: &ListVersions) -> bool
+    ensures { result ≡ is_prefix_later command.now }
+{
+    command.prefix.as_str() > command.after_key.as_str()
+}
+
+/// Whether something may be asked for of the key at which the listing begins.
+fn has_first(command: &ListVersions) -> bool
+    ensures { result ≡ has_first command.now }
+{
+    command.after_id.is_some() || is_prefix_later(command)
+}
+
 /// Lists what is asked for of the key at which the listing begins.
 fn list_first<K: Keeper>(
     keeper: &mut K,
@@ -83,10 +109,11 @@ fn list_first<K: Keeper>(
     ensures value { K.is_honest keeper.new → IfOk result (λ _. page.new ≡ filled command.now.most page.old (asked_first (K.vault keeper.old) command.now)) }
     ensures leaves { ReadsAs K.Kept keeper.old keeper.new result }
 {
-    if command.after_id.is_none() {
+    if !has_first(command) {
         return Ok(());
     }
-    let Some(key) = command.after_key.to_key()? else {
+    let begun = beginning(command)?;
+    let Some(key) = begun.to_key()? else {
         return Ok(());
     };
     list_key(keeper, page, command, &key)
@@ -99,10 +126,10 @@ fn list_behind<K: Keeper>(
     page: &mut Page,
     command: &ListVersions,
 ) -> Result<(), Fault>
-    ensures value { K.is_honest keeper.new → IfOk result (λ _. page.new ≡ completed (K.vault keeper.old) command.now page.old command.now.after_key) }
+    ensures value { K.is_honest keeper.new → IfOk result (λ _. page.new ≡ completed (K.vault keeper.old) command.now page.old (beginning command.now)) }
     ensures leaves { ReadsAs K.Kept keeper.old keeper.new result }
 {
-    let mut after = command.after_key.clone()?;
+    let mut after = beginning(command)?;
     for _ in 0..MOST_PAGES {
         let Some(next) = list_keys_behind(keeper, page, command, &after)? else {
             return Ok(());

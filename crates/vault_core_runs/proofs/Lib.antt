@@ -1,9 +1,13 @@
 mod Answering
 mod Begin
 mod Causes
+mod Cuts
 mod Making
+mod Nearest
 mod One
 mod OverKeys
-mod OverPages
+mod OverRanges
 mod Parts
+mod Prefixes
 mod Rising
+mod Unruled

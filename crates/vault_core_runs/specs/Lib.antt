@@ -1,2 +1,3 @@
 pub mod Making
+pub mod Ranges
 pub mod Replies

@@ -13,7 +13,7 @@ use Rattle.vault_core_model.specs.Vault.{Vault, next_id}
 use Rattle.vault_core_model.specs.Allowed.{Allows}
 use Rattle.vault_core_model.specs.Checks.{most_ids}
 use Rattle.vault_core_model.specs.Plan.{change_at, after_steps, counts, with_ids}
-use Rattle.vault_core_run_laws.specs.KeyRuns.{HaveIds, last_key}
+use Rattle.vault_core_run_laws.specs.KeyRuns.{HaveIds, last_key, plan_at}
 
 -- the place of the rule that is the cause of a step
 abbrev pub place_of : Step → ℕ
@@ -77,6 +77,10 @@ pub record MakesUpTo (v : Vault) (bucket : List ℕ) (t : ℕ) (ps : List Planne
 abbrev pub MakesSteps : {X : Type 0} → Result X Halt → Vault → List ℕ → ℕ → List Planned → Counts → Counts → Vault → Type 0
 MakesSteps (Ok x) v bucket t ps old new v' = MakesAll v bucket t ps old new v'
 MakesSteps (Err e) v bucket t ps old new v' = MakesUpTo v bucket t ps e old new v'
+
+-- the same of all steps of a key's plan
+abbrev pub MakesPlanAt : {X : Type 0} → Result X Halt → Vault → List ℕ → ℕ → List ℕ → Counts → Counts → Vault → Type 0
+MakesPlanAt r v bucket t key old new v' = MakesSteps r v bucket t (plan_at v bucket t key) old new v'
 
 -- the last of these keys, which has a byte
 pub record IsLastKey (keys : List (List ℕ)) (k : List ℕ) : Type 0 where

@@ -4,11 +4,12 @@ ghost use Rattle.vault_core_model.specs.Leaves.{Leaves};
 ghost use Rattle.vault_core_model.specs.Halts.{is_device};
 ghost use Rattle.vault_core_model.specs.Plan.{rules_in};
 ghost use Rattle.vault_core_model.specs.Reads.{entries_of};
-ghost use Rattle.vault_core_run_laws.specs.KeyRuns.{MayRun, plan_at};
-ghost use Rattle.vault_core_runs.specs.Making.{HaveCauses, MakesSteps};
+ghost use Rattle.vault_core_run_laws.specs.KeyRuns.{MayRun};
+ghost use Rattle.vault_core_runs.specs.Making.{HaveCauses, MakesPlanAt, MakesSteps};
 ghost use Rattle.vault_rules.specs.KeyPlan.{at_key, ids_rise, key_plan};
 
 use crate::change::{BucketRun, make_step};
+use crate::ranges::is_key_ruled;
 use std::alloc::{AllocError, Global};
 use vault_base::name::ObjectKey;
 use vault_core_model::halt::Halt;
@@ -16,7 +17,8 @@ use vault_core_model::keeper::Keeper;
 use vault_core_model::reply::Counts;
 use vault_rules::plan::{Held, Step, plan_key};
 
-/// Makes the plan of one key: its entries are read, and then each change is made by itself.
+/// Makes the plan of one key: its entries are read, and then each change is made by itself. Of a key that no
+/// enabled rule's prefix begins nothing is read.
 pub fn run_key<K: Keeper>(
     alloc: Global,
     keeper: &mut K,
@@ -26,9 +28,12 @@ pub fn run_key<K: Keeper>(
 ) -> Result<(), Halt>
     requires may { K.is_honest keeper.old → MayRun (K.vault keeper.old) run.now.bucket run.now.at }
     requires given { K.is_honest keeper.old → rules_in (K.vault keeper.old) run.now.bucket ≡ run.now.rules }
-    ensures makes { K.is_honest keeper.new → MakesSteps result (K.vault keeper.old) run.now.bucket run.now.at (plan_at (K.vault keeper.old) run.now.bucket run.now.at key.now) counts.old counts.new (K.vault keeper.new) }
+    ensures makes { K.is_honest keeper.new → MakesPlanAt result (K.vault keeper.old) run.now.bucket run.now.at key.now counts.old counts.new (K.vault keeper.new) }
     ensures leaves { Leaves K.Kept keeper.old keeper.new (is_device result) }
 {
+    if !is_key_ruled(&run.rules, key) {
+        return Ok(());
+    }
     let held = keeper.entries(&run.bucket, key)?;
     let steps = plan_of(alloc, run, key, &held)?;
     make_steps(alloc, keeper, run, key, &steps, counts)

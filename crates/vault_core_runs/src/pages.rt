@@ -1,14 +1,16 @@
-//! The keys of a bucket, page by page.
-ghost use Rattle.std.specs.Prelude.{◌≡◌, ◌<◌, [], length, IfOk, MatchOption};
+//! The keys of a bucket that a rule may be for, page by page.
+ghost use Rattle.std.specs.Prelude.{◌≡◌, ◌≤◌, ◌<◌, [], length, IfOk, MatchOption};
 ghost use Rattle.vault_core_model.specs.Leaves.{Leaves};
 ghost use Rattle.vault_core_model.specs.Halts.{is_device};
 ghost use Rattle.vault_core_model.specs.Plan.{plan, rules_in};
 ghost use Rattle.vault_core_run_laws.specs.KeyRuns.{MayRun, plans_at};
-ghost use Rattle.vault_core_runs.specs.Making.{IsLastKey, MakesSteps};
+ghost use Rattle.vault_core_runs.specs.Making.{IsLastKey, MakesPlanAt, MakesSteps};
+ghost use Rattle.vault_core_runs.specs.Ranges.{GoesOn};
 ghost use Rattle.vault_rules_laws.specs.BucketLaws.{IsRising};
 
 use crate::change::BucketRun;
 use crate::key::run_key;
+use crate::ranges::{is_place_ruled, nearest};
 use std::alloc::{AllocError, Global};
 use vault_base::name::{KeyPrefix, ObjectKey};
 use vault_core_model::halt::{Fault, Halt};
@@ -18,7 +20,7 @@ use vault_core_model::reply::Counts;
 /// How many keys are asked for at once.
 const PAGE: u32 = 256;
 
-/// Makes the plan of a bucket, page by page.
+/// Makes the plan of a bucket, range by range and in pages of keys.
 pub fn run_pages<K: Keeper>(
     alloc: Global,
     keeper: &mut K,
@@ -30,17 +32,98 @@ pub fn run_pages<K: Keeper>(
     ensures makes { K.is_honest keeper.new → MakesSteps result (K.vault keeper.old) run.now.bucket run.now.at (plan (K.vault keeper.old) run.now.bucket run.now.at) counts.old counts.new (K.vault keeper.new) }
     ensures leaves { Leaves K.Kept keeper.old keeper.new (is_device result) }
 {
-    let mut after = before_all(alloc)?;
+    let mut place = before_all(alloc)?;
     for _ in 0..u64::MAX {
-        let keys = keeper.keys(&run.bucket, &after, PAGE)?;
-        run_page(alloc, keeper, run, &keys, counts)?;
-        let Some(last) = last_seen(&keys)? else {
+        let Some(next) = run_next(alloc, keeper, run, &place, counts)? else {
             return Ok(());
         };
-        after = last;
+        place = next;
     }
     // No bucket has n pages.
     Err(Halt::Fault(Fault::Memory))
+}
+
+/// Goes on from a place: where no rule reaches, to the next that one does, and then a page of keys further.
+fn run_next<K: Keeper>(
+    alloc: Global,
+    keeper: &mut K,
+    run: &BucketRun,
+    place: &KeyPrefix,
+    counts: &mut Counts,
+) -> Result<Option<KeyPrefix>, Halt>
+    requires may { K.is_honest keeper.old → MayRun (K.vault keeper.old) run.now.bucket run.now.at }
+    requires given { K.is_honest keeper.old → rules_in (K.vault keeper.old) run.now.bucket ≡ run.now.rules }
+    ensures goes { K.is_honest keeper.new → GoesOn result (K.vault keeper.old) run.now.bucket run.now.at place.now counts.old counts.new (K.vault keeper.new) }
+    ensures leaves { Leaves K.Kept keeper.old keeper.new (is_device result) }
+{
+    let Some(start) = run_start(alloc, keeper, run, place, counts)? else {
+        return Ok(None);
+    };
+    run_after(alloc, keeper, run, &start, counts)
+}
+
+/// Goes on from a place to the nearest at which a rule reaches. A prefix is the first text that it begins,
+/// so no key between them is ruled; it may be a key itself.
+fn run_start<K: Keeper>(
+    alloc: Global,
+    keeper: &mut K,
+    run: &BucketRun,
+    place: &KeyPrefix,
+    counts: &mut Counts,
+) -> Result<Option<KeyPrefix>, Halt>
+    requires may { K.is_honest keeper.old → MayRun (K.vault keeper.old) run.now.bucket run.now.at }
+    requires given { K.is_honest keeper.old → rules_in (K.vault keeper.old) run.now.bucket ≡ run.now.rules }
+    ensures goes { K.is_honest keeper.new → GoesOn result (K.vault keeper.old) run.now.bucket run.now.at place.now counts.old counts.new (K.vault keeper.new) }
+    ensures leaves { Leaves K.Kept keeper.old keeper.new (is_device result) }
+{
+    if is_place_ruled(&run.rules, place) {
+        let same = place.clone()?;
+        return Ok(Some(same));
+    }
+    let Some(start) = nearest(&run.rules, place)? else {
+        return Ok(None);
+    };
+    run_prefix(alloc, keeper, run, &start, counts)?;
+    Ok(Some(start))
+}
+
+/// Makes the plan of the key that a prefix is.
+fn run_prefix<K: Keeper>(
+    alloc: Global,
+    keeper: &mut K,
+    run: &BucketRun,
+    prefix: &KeyPrefix,
+    counts: &mut Counts,
+) -> Result<(), Halt>
+    requires named { 1 ≤ length prefix.now }
+    requires may { K.is_honest keeper.old → MayRun (K.vault keeper.old) run.now.bucket run.now.at }
+    requires given { K.is_honest keeper.old → rules_in (K.vault keeper.old) run.now.bucket ≡ run.now.rules }
+    ensures makes { K.is_honest keeper.new → MakesPlanAt result (K.vault keeper.old) run.now.bucket run.now.at prefix.now counts.old counts.new (K.vault keeper.new) }
+    ensures leaves { Leaves K.Kept keeper.old keeper.new (is_device result) }
+{
+    let Some(key) = prefix.to_key()? else {
+        return Ok(());
+    };
+    run_key(alloc, keeper, run, &key, counts)
+}
+
+/// Goes on from a place over the next page of keys.
+fn run_after<K: Keeper>(
+    alloc: Global,
+    keeper: &mut K,
+    run: &BucketRun,
+    place: &KeyPrefix,
+    counts: &mut Counts,
+) -> Result<Option<KeyPrefix>, Halt>
+    requires may { K.is_honest keeper.old → MayRun (K.vault keeper.old) run.now.bucket run.now.at }
+    requires given { K.is_honest keeper.old → rules_in (K.vault keeper.old) run.now.bucket ≡ run.now.rules }
+    ensures goes { K.is_honest keeper.new → GoesOn result (K.vault keeper.old) run.now.bucket run.now.at place.now counts.old counts.new (K.vault keeper.new) }
+    ensures leaves { Leaves K.Kept keeper.old keeper.new (is_device result) }
+{
+    let keys = keeper.keys(&run.bucket, place, PAGE)?;
+    run_page(alloc, keeper, run, &keys, counts)?;
+    let last = last_seen(&keys)?;
+    Ok(last)
 }
 
 /// The place before every key.

@@ -1,5 +1,6 @@
 //! Tests that cross crates: what faults of a reader, a writer or a device leave, and growths that are refused in a run;
-//! limits, also those that no vault can be filled up to; and what a run asks of its keeper, in full vaults too.
+//! limits, also those that no vault can be filled up to; and what runs and listings ask of their keeper, a run in full
+//! vaults too.
 #![tactic(auto)]
 
 #[cfg(test)]
@@ -12,3 +13,5 @@ mod growths;
 mod limits;
 #[cfg(test)]
 mod pages;
+#[cfg(test)]
+mod ranges;

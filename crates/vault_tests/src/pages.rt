@@ -12,7 +12,7 @@ const RULES: &str = r#"
 "#;
 
 /// What each key gets, as the texts round its name and its id, and what a run does with it.
-struct Filling {
+pub struct Filling {
     before: &'static str,
     between: &'static str,
     behind: &'static str,
@@ -21,7 +21,7 @@ struct Filling {
 }
 
 /// Versions, which a run marks; and delete markers alone, with which a run removes the key, and so asks for no id.
-const FILLINGS: [Filling; 2] = [
+pub const FILLINGS: [Filling; 2] = [
     Filling {
         before: "{\"at\":\"2024-03-01T00:00:00Z\",\"as\":\"ann\",\"do\":\"put\",\"bucket\":\"docs\",\"key\":\"k",
         between: "\",\"text\":\"x\"}\n {\"ok\":{\"version_id\":",
@@ -60,7 +60,7 @@ fn fill_key<K: Keeper>(
     play(alloc, keeper, lines.as_str())
 }
 
-fn fill<K: Keeper>(
+pub fn fill<K: Keeper>(
     alloc: Global,
     keeper: &mut K,
     filling: &Filling,

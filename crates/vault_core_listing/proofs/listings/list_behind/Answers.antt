@@ -6,7 +6,7 @@ use Rattle.vault_core_listing.proofs.listings.list_behind.Goals as goal
 pub loop-init : goal.loop-init
 loop-init g c = record {
   leaves = search rules;
-  left = λ honest. ap (completed (g.K.Kept.vault c.args.keeper.now) c.args.command.now c.args.page.now) c.in_ok-after.ensures.cases;
+  left = λ honest. ap (completed (g.K.Kept.vault c.args.keeper.now) c.args.command.now c.args.page.now) c.in_ok-after.ensures;
   few = λ honest. let few = few_keys (g.K.Kept.vault c.args.keeper.now) c.args.command.now.bucket c.in_ok-after.after (g.K.Kept.sound _ honest) in omega arith;
 }
 

@@ -1,10 +1,22 @@
-use Rattle.std.proofs.Common.{◌∙◌}
+use Rattle.std.proofs.Common.{refl, sym, ap, ◌∙◌}
 use Rattle.vault_core_model.specs.declared.halt.Fault.TheVariants as fault
 use Rattle.vault_core_model.specs.declared.halt.Halt.TheVariants as halt
 use Rattle.vault_core_run_laws.specs.KeyRuns.{plan_at}
 use Rattle.vault_core_runs.proofs.Making.{MakesSteps-err, MakesUpTo-fault}
+use Rattle.vault_core_runs.specs.Ranges.{is_ruled}
 use Rattle.vault_core_runs.proofs.OverKeys.{planned_as_read, made_as_planned}
+use Rattle.vault_core_runs.proofs.OverRanges.{makes_none}
+use Rattle.vault_core_runs.proofs.Unruled.{unruled_plan}
 use Rattle.vault_core_runs.proofs.key.run_key.Goals as goal
+
+-- no rule makes anything due
+pub returns-then-not-is_key_ruled-clause-makes : goal.returns-then-not-is_key_ruled-clause-makes
+returns-then-not-is_key_ruled-clause-makes g c = λ h.
+    let v = g.K.Kept.vault c.args.keeper.now in
+    let b = c.args.run.now.bucket in
+    let t = c.args.run.now.at in
+    let none = ap (λ rs. is_ruled rs c.args.key.now) (c.requires.given h) ∙ sym c.is_key_ruled.ensures ∙ c.if-not-is_key_ruled.true in
+    makes_none v v b t (plan_at v b t c.args.key.now) c.args.counts.now (unruled_plan v b t c.args.key.now none) refl
 
 -- what is planned is the plan over the entries that the vault has
 pub make_steps-requires-clause-planned : goal.make_steps-requires-clause-planned

@@ -1,5 +1,5 @@
 use Rattle.std.proofs.Common.{◌≤◌, [], length, arith}
-use Rattle.vault_core_runs.proofs.OverPages.{IsLastKey-of}
+use Rattle.vault_core_runs.proofs.OverRanges.{IsLastKey-of}
 use Rattle.vault_core_runs.proofs.pages.last_seen.Goals as goal
 
 pub returns : goal.returns
