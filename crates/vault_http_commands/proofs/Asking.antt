@@ -26,12 +26,10 @@ use Rattle.vault_rules.specs.declared.rule_set.RuleFault.{RuleFault}
 use Rattle.vault_http_values.specs.Shape.{all_items, is_rule, is_text}
 use Rattle.vault_http_lines.specs.Grammar.{has_shape, Spells, SpellsCommand}
 use Rattle.vault_http_replies.specs.ReplyLine.{rule_value}
-use Rattle.vault_http_replies.specs.Spelled.{IsSpelledRule}
-use Rattle.vault_http_replies.proofs.ReplyLemmas.{rules-whole}
+use Rattle.vault_http_commands.specs.Spelled.{HasBits, HasPeriodIfGiven, IsIdIfGiven, IsNameIfGiven, IsPutSpelled, IsSpelled, IsSpelledRule, IsTimedSpelled, ReadsBack, ReadsBackIfGiven}
 use Rattle.vault_http_commands.specs.Members.{line_value, right_values}
-use Rattle.vault_http_commands.specs.Spelled.{IsIdIfGiven, IsNameIfGiven, HasPeriodIfGiven, HasBits, IsPutSpelled, IsSpelled, IsTimedSpelled, ReadsBack, ReadsBackIfGiven}
 use Rattle.vault_http_commands.proofs.RightsNames.{are-flat, are-texts, are-whole, is-named, items-named, names, names-are-rights}
-use Rattle.vault_http_commands.proofs.RuleMembers.{rules-flat, rules-shaped, rules-spelled}
+use Rattle.vault_http_commands.proofs.RuleMembers.{rules-flat, rules-shaped, rules-spelled, rules-whole}
 
 -- the value has the shape of its line, its members spell that command, and it can be printed and read
 pub record Asks (t : Timed) : Type 0 where

@@ -1,3 +1,4 @@
+pub mod RulePuts
 pub mod RightsNames
 pub mod RuleMembers
 pub mod Texts

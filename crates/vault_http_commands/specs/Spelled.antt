@@ -2,7 +2,7 @@
 use Rattle.std.specs.Prelude.{◌≡◌, ◌<◌, ℕ, List, All, IsTrue, Option, Some, None, Ok}
 use Rattle.hex.specs.Hex.{IsBytes}
 use Rattle.vault_base.specs.Moment.{moment_of, moment_text}
-use Rattle.vault_base.specs.Name.{is_bucket_name, is_key_prefix, is_object_key, is_plain_name, is_version_id}
+use Rattle.vault_base.specs.Name.{is_bucket_name, is_key_prefix, is_object_key, is_plain_name, is_rule_id, is_version_id}
 use Rattle.vault_core_model.specs.declared.command.Command.{Command}
 use Rattle.vault_core_model.specs.declared.command.Command.TheVariants as command
 use Rattle.vault_core_model.specs.declared.command.Put.{Put}
@@ -12,7 +12,7 @@ use Rattle.vault_lock.specs.declared.retention.Period.{Period}
 use Rattle.vault_lock.specs.declared.retention.Period.TheVariants.{Days, Years}
 use Rattle.vault_lock.specs.declared.retention.Retention.{Retention}
 use Rattle.vault_rules.specs.Rules.{is_rule_set}
-use Rattle.vault_http_replies.specs.Spelled.{IsSpelledRule}
+use Rattle.vault_rules.specs.declared.rule.Rule.{Rule}
 
 -- the text of the moment is read as it
 abbrev pub ReadsBack : ℕ → Type 0
@@ -43,6 +43,10 @@ IsBucketKey bucket key = IsTrue (is_bucket_name bucket) × IsTrue (is_object_key
 
 abbrev pub IsPlaceSpelled : List ℕ → List ℕ → Option ℕ → Type 0
 IsPlaceSpelled bucket key id = IsTrue (is_bucket_name bucket) × IsTrue (is_object_key key) × IsIdIfGiven id
+
+-- a rule's id and prefix
+abbrev pub IsSpelledRule : Rule → Type 0
+IsSpelledRule r = IsTrue (is_rule_id r.id) × IsTrue (is_key_prefix r.prefix)
 
 -- what is put, but for its bucket
 abbrev pub IsPutSpelled : Put → Type 0

@@ -8,6 +8,7 @@ ghost use Rattle.vault_http_commands.specs.Members as spec;
 ghost use Rattle.vault_http_commands.specs.Spelled.{IsSpelled, IsTimedSpelled};
 
 use crate::members::{of_bucket, of_entry, of_key};
+use crate::object::{Plain, put_plain};
 use crate::{config_members, entry_members, lock_members, record_members};
 use serde_json::{Map, Value};
 use std::alloc::{AllocError, Global};
@@ -15,7 +16,6 @@ use vault_base::moment::Moment;
 use vault_base::name::CallerName;
 use vault_core_model::command::Command;
 use vault_http_lines::verb::Verb;
-use vault_http_replies::object::{Plain, put_plain};
 
 /// The members of a command's line, but for its reading and the caller who asks.
 fn members_of(alloc: Global, command: &Command) -> Result<Map<String, Value>, AllocError>

@@ -6,12 +6,12 @@ ghost use Rattle.vault_http_commands.specs.Members as spec;
 ghost use Rattle.vault_http_commands.specs.Spelled.{HasPeriodIfGiven, IsSpelled};
 
 use crate::members::of_bucket;
+use crate::object::{Plain, put_plain};
+use crate::rule_value::rule_values;
 use serde_json::{Map, Value, put};
 use std::alloc::{AllocError, Global};
 use vault_core_model::command::{SetDefault, SetRules};
 use vault_http_lines::verb::Verb;
-use vault_http_replies::object::{Plain, put_plain};
-use vault_http_replies::rule_value::rule_values;
 use vault_lock::retention::{Default, Period};
 use vault_values::words::mode_name;
 

@@ -8,12 +8,12 @@ ghost use Rattle.vault_http_commands.specs.Spelled.{IsPutSpelled, IsSpelled};
 
 use crate::lock_members::{put_hold_if, put_retention_if};
 use crate::members::{of_bucket, of_key, put_id};
+use crate::object::{Plain, put_plain};
 use serde_json::{Map, Value};
 use std::alloc::{AllocError, Global};
 use vault_base::content::Content;
 use vault_core_model::command::{DeleteVersion, Intake, ListVersions, Put};
 use vault_http_lines::verb::Verb;
-use vault_http_replies::object::{Plain, put_plain};
 
 /// Puts in a content, in hex digits.
 fn put_content(

@@ -8,4 +8,6 @@ mod config_members;
 mod entry_members;
 mod lock_members;
 mod members;
+mod object;
 mod record_members;
+mod rule_value;

@@ -6,11 +6,11 @@ ghost use Rattle.vault_http_commands.specs.Members as spec;
 ghost use Rattle.vault_http_commands.specs.Spelled.{IsSpelled, ReadsBack, ReadsBackIfGiven};
 
 use crate::members::of_entry;
+use crate::object::{Plain, put_plain};
 use serde_json::{Map, Value};
 use std::alloc::{AllocError, Global};
 use vault_core_model::command::{SetHold, SetRetention};
 use vault_http_lines::verb::Verb;
-use vault_http_replies::object::{Plain, put_plain};
 use vault_lock::retention::Retention;
 use vault_values::words::{hold_name, mode_name};
 

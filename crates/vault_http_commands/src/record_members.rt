@@ -8,6 +8,7 @@ ghost use Rattle.vault_http_commands.specs.Members as spec;
 ghost use Rattle.vault_http_commands.specs.Spelled.{IsNameIfGiven, IsSpelled};
 
 use crate::members::{named, of_bucket, of_bucket_and_dept, of_dept};
+use crate::object::{Plain, put_plain};
 use serde_json::{Map, Value, json, put};
 use std::alloc::{AllocError, Global};
 use vault_base::name::DeptName;
@@ -17,7 +18,6 @@ use vault_core_model::command::{
 };
 use vault_core_model::rights::Rights;
 use vault_http_lines::verb::Verb;
-use vault_http_replies::object::{Plain, put_plain};
 
 /// Every right, in the order in which a line names them.
 const RIGHTS: [Right; 12] = [
