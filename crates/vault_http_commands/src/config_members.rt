@@ -31,11 +31,13 @@ fn put_default(
     match default.period {
         Period::Days(days) => {
             let days = ("days", Plain::Whole(u64::from(days)));
-            put_plain(members, alloc, &[mode, days])
+            put_plain(members, alloc, &[mode, days])?;
+            Ok(())
         }
         Period::Years(years) => {
             let years = ("years", Plain::Whole(u64::from(years)));
-            put_plain(members, alloc, &[mode, years])
+            put_plain(members, alloc, &[mode, years])?;
+            Ok(())
         }
     }
 }

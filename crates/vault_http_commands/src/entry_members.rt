@@ -25,7 +25,8 @@ fn put_content(
     ensures spelled { OnOk result (IsBytes content.now) }
 {
     let digits = hex::encode(alloc, content.as_slice())?;
-    put_plain(members, alloc, &[("hex", Plain::Text(digits.as_str()))])
+    put_plain(members, alloc, &[("hex", Plain::Text(digits.as_str()))])?;
+    Ok(())
 }
 
 /// Puts in what is put, but for its bucket.
@@ -36,7 +37,8 @@ fn put_version(members: &mut Map<String, Value>, alloc: Global, put: &Put) -> Re
     put_plain(members, alloc, &[("key", Plain::Text(put.key.as_str()))])?;
     put_content(members, alloc, &put.content)?;
     put_retention_if(members, alloc, put.retention)?;
-    put_hold_if(members, alloc, put.hold)
+    put_hold_if(members, alloc, put.hold)?;
+    Ok(())
 }
 
 pub fn put(alloc: Global, command: &Put) -> Result<Map<String, Value>, AllocError>

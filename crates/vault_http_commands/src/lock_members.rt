@@ -31,7 +31,8 @@ fn put_retention(
             ("mode", Plain::Text(mode_name(retention.mode))),
             ("until", Plain::Text(until.as_str())),
         ],
-    )
+    )?;
+    Ok(())
 }
 
 /// Puts in a retention, where one is given.

@@ -34,7 +34,9 @@ pub fn of_dept(alloc: Global, verb: Verb, dept: &DeptName) -> Result<Map<String,
     ensures members { IfOk result (λ members. members_view members.entries ≡ spec.of_dept verb dept.now) }
     ensures spelled { IfOk result (λ members. IsTrue (is_plain_name dept.now)) }
 {
-    named(alloc, verb, &[("dept", Plain::Text(dept.as_str()))])
+    let dept = Plain::Text(dept.as_str());
+    let members = named(alloc, verb, &[("dept", dept)])?;
+    Ok(members)
 }
 
 /// The members of a line on a bucket.
@@ -46,7 +48,9 @@ pub fn of_bucket(
     ensures members { IfOk result (λ members. members_view members.entries ≡ spec.of_bucket verb bucket.now) }
     ensures spelled { IfOk result (λ members. IsTrue (is_bucket_name bucket.now)) }
 {
-    named(alloc, verb, &[("bucket", Plain::Text(bucket.as_str()))])
+    let bucket = Plain::Text(bucket.as_str());
+    let members = named(alloc, verb, &[("bucket", bucket)])?;
+    Ok(members)
 }
 
 /// The members of a line on a bucket and a department.
@@ -59,14 +63,10 @@ pub fn of_bucket_and_dept(
     ensures members { IfOk result (λ members. members_view members.entries ≡ spec.of_bucket_and_dept verb bucket.now dept.now) }
     ensures spelled { IfOk result (λ members. IsTrue (is_bucket_name bucket.now) × IsTrue (is_plain_name dept.now)) }
 {
-    named(
-        alloc,
-        verb,
-        &[
-            ("bucket", Plain::Text(bucket.as_str())),
-            ("dept", Plain::Text(dept.as_str())),
-        ],
-    )
+    let bucket = Plain::Text(bucket.as_str());
+    let dept = Plain::Text(dept.as_str());
+    let members = named(alloc, verb, &[("bucket", bucket), ("dept", dept)])?;
+    Ok(members)
 }
 
 /// The members of a line on a key of a bucket.
@@ -79,14 +79,10 @@ pub fn of_key(
     ensures members { IfOk result (λ members. members_view members.entries ≡ spec.of_key verb bucket.now key.now) }
     ensures spelled { IfOk result (λ members. IsTrue (is_bucket_name bucket.now) × IsTrue (is_object_key key.now)) }
 {
-    named(
-        alloc,
-        verb,
-        &[
-            ("bucket", Plain::Text(bucket.as_str())),
-            ("key", Plain::Text(key.as_str())),
-        ],
-    )
+    let bucket = Plain::Text(bucket.as_str());
+    let key = Plain::Text(key.as_str());
+    let members = named(alloc, verb, &[("bucket", bucket), ("key", key)])?;
+    Ok(members)
 }
 
 /// Puts in an id, where one is given.
@@ -102,11 +98,9 @@ pub fn put_id(
     let Some(id) = id else {
         return Ok(());
     };
-    put_plain(
-        members,
-        alloc,
-        &[(name, Plain::Whole(u64::from(id.number())))],
-    )
+    let id = Plain::Whole(u64::from(id.number()));
+    put_plain(members, alloc, &[(name, id)])?;
+    Ok(())
 }
 
 /// The members of a line on an entry of a key; without an id the current one is meant.

@@ -54,7 +54,8 @@ fn put_dept(
     let Some(dept) = dept else {
         return Ok(());
     };
-    put_plain(members, alloc, &[("dept", Plain::Text(dept.as_str()))])
+    put_plain(members, alloc, &[("dept", Plain::Text(dept.as_str()))])?;
+    Ok(())
 }
 
 /// Adds the name of a right, if it is among these.
@@ -100,7 +101,8 @@ pub fn close_caller(alloc: Global, command: &CloseCaller) -> Result<Map<String, 
     ensures spelled { IfOk result (λ members. IsSpelled (command_of.CloseCaller command.now)) }
 {
     let caller = Plain::Text(command.caller.as_str());
-    named(alloc, Verb::CloseCaller, &[("caller", caller)])
+    let members = named(alloc, Verb::CloseCaller, &[("caller", caller)])?;
+    Ok(members)
 }
 
 pub fn add_bucket(alloc: Global, command: &AddBucket) -> Result<Map<String, Value>, AllocError>
