@@ -210,6 +210,26 @@ def closing(server: Server) -> None:
     equal(server.http_get("b"), b"hello", "a get after another start, where the old socket was")
 
 
+def status(server: Server) -> None:
+    """A caller with the right to administer is answered how things are, and nobody else is."""
+    began = time.strftime("%Y-%m-%dT%H:%M:%SZ", time.gmtime())
+    first = json.loads(server.lines(line("registrar", "status"))[0])["ok"]
+    check(first["since"] <= began, f"it began at {first['since']}, and the clock shows {began}")
+    equal(ok_puts(server.lines(put("a") + put("b"))), [1, 2], "two puts")
+    second = json.loads(server.lines(line("registrar", "status"))[0])["ok"]
+    equal(second["last"] >= first["last"], True, "the last moment")
+    entries, failures, version = second["entries"], second["failures"], second["version"]
+    equal([first["entries"], entries, failures, second["since"]], [0, 2, 0, first["since"]], "what it counts")
+    equal(f"vaultctl {version}", printed("--version").splitlines()[0].partition(", commit")[0], "the version")
+    refused = b'{"error":{"code":"AccessDenied","n":3,"reason":"right:admin"}}'
+    more = line("registrar", "status", more=1)
+    dated = line("registrar", "status", at="2024-01-15T10:30:00Z")
+    equal(server.lines(line("ann", "status") + more + dated), [refused, MALFORMED, MALFORMED], "others")
+    script = b'{"at":"2024-01-15T10:30:00Z","as":"registrar","do":"status"}\n'
+    said = subprocess.run([PROGRAM, "replay"], input=script, capture_output=True, check=True).stdout
+    equal(said, MALFORMED + b"\n", "the same in a script")
+
+
 def at_a_port(server: Server) -> None:
     """Lines at a port."""
     equal(server.said, f"serving {server.file} at {HOST}:{server.port}, lines at {HOST}:{server.where}\n", "what it says")
@@ -253,6 +273,7 @@ TRIALS: dict[str, Trial] = {
     "resetting": (resetting, []),
     "flooding": (flooding, []),
     "closing": (closing, []),
+    "status": (status, []),
     "at-a-port": (at_a_port, []),
     "counted": (counted, ["--count", "3"]),
     "no-places": (no_places, []),

@@ -53,6 +53,10 @@ EDITS = [
     ("deliveries", "        differing = _differing(engine, words.bucket, taken)\n    except EngineError as error:\n",
      "        differing = _differing(engine, words.bucket, taken)\n    except UnicodeEncodeError as error:\n",
      ALONE + "test_a_delivery_is_reported_also_where_it_cant_be_compared"),
+    ("deliveries", "        if not engine.is_served:\n            raise\n", "        raise\n",
+     ALONE + "test_a_delivery_is_reported_also_where_it_cant_be_compared"),
+    ("deliveries", "            if error.code == \"AccessDenied\":\n", "            if False:\n",
+     ALONE + "test_a_delivery_is_reported_also_where_it_cant_be_compared"),
     ("deliveries", "    if why:\n", "    if False:\n",
      ALONE + "test_a_delivery_is_reported_also_where_it_cant_be_compared"),
     # deliveries
@@ -78,8 +82,14 @@ EDITS = [
     ("glue", "while not _takes_lines(", "while False and not _takes_lines(", STARTED + "test_its_door_is_waited_for"),
     ("units", "os.O_CREAT, 0o600), \"wb\")", "os.O_CREAT, 0o644), \"wb\")", LOCKS + "test_who_works_on_a_vault_is_for_root_to_lock"),
     ("conf", "        place.chmod(0o755)\n", "        pass\n", LOCKS + "test_who_works_on_a_vault_is_for_root_to_lock"),
+    # how things are
+    ("status", "    if reply[\"error\"][\"code\"] == \"MalformedBody\":\n", "    if False:\n",
+     "test_status.Status.test_an_earlier_server_doesnt_say_it"),
+    ("status", "    if found[\"failures\"]:\n", "    if False:\n", "test_status.Status.test_a_file_that_failed"),
+    ("status", "    if engine.at is not None:\n", "    if False:\n", "test_status.Status.test_it_is_of_now"),
+    ("status", "    if door is None:\n", "    if False:\n", "test_status.Status.test_where_no_server_is_it_says_so"),
     # the gateway
-    ("s3/objects", "    if not told.is_certain:\n", "    if False:\n",
+    ("s3/objects", "told.at if told.is_certain else _admission(asked, version)", "told.at",
      S3 + "Served.test_an_etag_is_noted_for_just_the_second_of_the_admission"),
     ("s3/words", "    if given.buckets is not None:\n", "    if False:\n",
      S3 + "Served.test_the_buckets_are_those_of_the_vault_or_of_the_settings"),

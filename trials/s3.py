@@ -3,162 +3,32 @@
 They are boto3, boto3 whose answers are lost, boto3 through nginx, aws, s3cmd and rclone. boto3 is the one of the Python
 that runs this, and aws is each that is on the path or in /usr/bin; `tools/setup-trials` installs Debian's. Each client
 has a vault and a gateway of its own; in `Served` a server has the vault meanwhile, and the gateway asks that server's
-door for lines. Afterwards the vault is sound, and no refusal has left a version. The requests that these clients sent
-once, byte for byte, are in `desk/tests`, which need none of them and no network.
+door for lines. `Each` has every client do the same there, in its own words: odd keys, pages, many at once, what is
+refused, late, sent again or cut off (s3_each.py). Afterwards the vault is sound, and no refusal has left a version. The
+requests that these clients sent once, byte for byte, are in `desk/tests`, which need none of them and no network.
 """
 
-import contextlib
 import datetime as dt
 import importlib.util
 import json
 import os
 import shutil
-import socket
 import subprocess
-import threading
 import time
 import unittest
 import unittest.mock
 from concurrent.futures import ThreadPoolExecutor
 
-from trials.program import DESK, PROGRAM, TOP, Case, check, needs
+from trials import s3_each
+from trials.program import PROGRAM, TOP, Case, a_test_each, check, needs
+from trials.s3_each import MANY, ODD, TOO_LARGE
+from trials.s3_gateway import Between, Door, Gateway, made_tree, sent
+from trials.s3_tools import TOOLS, missing
 from trials.servers import free_port
 
 TAKES_LONG = True
-RIGHTS = ["config", "put", "retain", "hold", "get", "list", "delete", "delete-version", "run", "report", "bypass"]
-PLAIN = ["put", "retain", "get", "list", "delete", "delete-version"]
-OPENING = [
-    {"do": "add-dept", "dept": "records"},
-    {"do": "add-caller", "caller": "ann", "dept": "records", "rights": RIGHTS},
-    {"do": "add-caller", "caller": "bea", "dept": "records", "rights": PLAIN},
-    {"do": "add-bucket", "bucket": "docs", "dept": "records"},
-    {"do": "add-bucket", "bucket": "scans", "dept": "records"},
-]
 END = dt.datetime(2040, 1, 1, tzinfo=dt.timezone.utc)
-ODD = ["a b", "a+b", "100%", "%2F", "?", "#", ";=:@&$,!*'()", '"quoted"', " blanks ", "a//b", "ü", "日本", "\U0001f4dc",
-       "<&>", "\\back", "..", "a" * 1_024]
-TOO_LARGE = 1_048_577
-TRIED = 300  # seconds for one run of a client, and for what the gateway is waited for; a busy machine takes long
-
-
-class Gateway:
-    """A vault with callers `ann`, who may all, and `bea`, and its gateway, before a server of the vault if `served`."""
-
-    served = False
-
-    def __init__(self, program, folder, **settings):
-        self.program, self.folder = program, folder
-        self.file = folder / "records.vault"
-        self.env = {it: value for it, value in os.environ.items() if "CA_BUNDLE" not in it and not it.startswith("AWS_")}
-        self.env |= {"VAULTCTL": str(program), "HOME": str(folder), "PYTHONDONTWRITEBYTECODE": "1"}
-        subprocess.run([program, "init", self.file], check=True)
-        self.lines(*OPENING)
-        self.port = free_port()
-        given = {"vault": str(self.file), "keys": str(folder / "keys.toml"), "etags": str(folder / "etags"), "port": self.port,
-                 **settings}
-        self.settings = folder / "s3.toml"
-        self.settings.write_text("".join(f"{it} = {json.dumps(value)}\n" for it, value in given.items()))
-        self.keys = {it: json.loads(self.desk("key", "add", it, "--json")) for it in ("ann", "bea")}
-        self.scheme = "https" if "certificate" in settings else "http"
-        self.child = self.server = None
-
-    def desk(self, *words):
-        ran = subprocess.run([DESK, "s3", *words, "--settings", self.settings], env=self.env, capture_output=True, text=True)
-        check(ran.returncode == 0, ran.stderr)
-        return ran.stdout
-
-    def lines(self, *lines):
-        """The replies of the engine to lines, by the registrar where none says who asks; the gateway stands still."""
-        at = dt.datetime.now(dt.timezone.utc).strftime("%Y-%m-%dT%H:%M:%SZ")
-        script = "".join(json.dumps({"at": at, "as": "registrar", **it}) + "\n" for it in lines)
-        ran = subprocess.run([self.program, "replay", self.file], input=script, capture_output=True, text=True, check=True)
-        return [json.loads(it) for it in ran.stdout.splitlines()]
-
-    def start_server(self):
-        """Has the vault served, with a door where a gateway looks for one."""
-        with socket.create_server(("127.0.0.1", 0)) as free:
-            port = free.getsockname()[1]
-        words = [self.program, "serve", self.file, str(port), "--lines", self.folder / "records.lines"]
-        said = self.folder / "server"
-        with open(said, "w") as log:
-            self.server = subprocess.Popen(words, stderr=log)
-        deadline = time.monotonic() + TRIED
-        while "lines at" not in said.read_text():
-            check(time.monotonic() < deadline and self.server.poll() is None, said.read_text())
-            time.sleep(0.1)
-
-    def end_server(self):
-        """Ends the server by its door, in good order."""
-        words = [DESK, "close", "--vault", self.file, "--as", "registrar"]
-        ran = subprocess.run(words, env=self.env, capture_output=True, text=True)
-        check(ran.returncode == 0, f"close: {ran.stderr}")
-        check(self.server.wait(TRIED) == 0, f"the server ended with {self.server.returncode}")
-        self.server = None
-
-    def start(self):
-        if self.served and not self.server:
-            self.start_server()
-        with open(self.folder / "log", "a") as log:
-            self.child = subprocess.Popen([DESK, "s3", "serve", "--settings", self.settings], env=self.env, stderr=log)
-        deadline = time.monotonic() + TRIED
-        while True:
-            with contextlib.suppress(OSError), socket.create_connection(("127.0.0.1", self.port), timeout=5):
-                return
-            check(time.monotonic() < deadline and self.child.poll() is None, (self.folder / "log").read_text())
-            time.sleep(0.1)
-
-    def stop(self):
-        self.child.terminate()
-        check(self.child.wait(TRIED) == 0, f"the gateway ended with {self.child.returncode}")
-        if self.server:
-            self.end_server()
-
-    def kill(self):
-        self.child.kill()
-        self.child.wait()
-
-    def versions(self, bucket="docs"):
-        """What the bucket holds; the gateway stands still."""
-        found, more = [], {}
-        while True:
-            told = self.lines({"as": "ann", "do": "list-versions", "bucket": bucket, **more})[0]["ok"]
-            found += told["entries"]
-            if not told["more"]:
-                return found
-            more = {"after_key": found[-1]["key"], "after_id": found[-1]["version_id"]}
-
-    def __enter__(self):
-        self.start()
-        return self
-
-    def __exit__(self, kind, error, trace):
-        if self.child.poll() is None:
-            self.stop()
-        if self.server:
-            self.server.kill()
-            self.server.wait()
-        if kind is None:
-            ran = subprocess.run([self.program, "verify", self.file], capture_output=True, text=True)
-            check(ran.stdout == "sound\n", ran.stdout + ran.stderr)
-
-    def run(self, *words, status=0, **env):
-        """The output of a client's command, and the status that is wanted."""
-        ran = subprocess.run([str(it) for it in words], cwd=self.folder, env={**self.env, **env}, capture_output=True, text=True,
-                             timeout=TRIED)
-        check(ran.returncode == status, f"{words}: status {ran.returncode}\n{ran.stdout}{ran.stderr}")
-        return ran.stdout + ran.stderr
-
-
-def made_tree(folder):
-    """A folder of files to be synced."""
-    tree = folder / "tree"
-    (tree / "sub folder").mkdir(parents=True)
-    (tree / "one.txt").write_text("one\n")
-    (tree / "sub folder" / "two ü+.txt").write_text("two\n")
-    (tree / "three.gz").write_bytes(bytes(range(256)) * 4)
-    (tree / "big.bin").write_bytes(os.urandom(300_000))
-    (tree / "empty").write_bytes(b"")
-    return tree
+WRONG = 2_000  # signatures of the flood
 
 
 # ---- boto3
@@ -289,7 +159,7 @@ def refused_url(url):
 def boto3_many(gateway):
     """2,500 puts, a hundred at once, and their lists; the bucket has a key `a` before."""
     ann = client(gateway, retries={"max_attempts": 1})
-    keys = [f"{it % 7}/{it:05}" for it in range(2_500)]
+    keys = [f"{it % 7}/{it:05}" for it in range(MANY)]
     with ThreadPoolExecutor(100) as pool:
         list(pool.map(lambda it: ann.put_object(Bucket="scans", Key=it, Body=it.encode()), keys))
 
@@ -327,37 +197,6 @@ def try_boto3(program, folder):
 # ---- answers that are lost
 
 
-class Cutting:
-    """Stands before a gateway, and cuts the first answers of it off; before each it does what it is told."""
-
-    def __init__(self, gateway, cuts, meanwhile):
-        self.gateway, self.cuts, self.meanwhile = gateway, cuts, meanwhile
-        self.listener = socket.create_server(("127.0.0.1", 0))
-        self.port = self.listener.getsockname()[1]
-        threading.Thread(target=self.serve, daemon=True).start()
-
-    def serve(self):
-        with contextlib.suppress(OSError):
-            while True:
-                self.pass_on(self.listener.accept()[0])
-
-    def pass_on(self, connection):
-        """One request, and its answer, or none."""
-        with connection, socket.create_connection(("127.0.0.1", self.gateway.port), timeout=TRIED) as there:
-            connection.settimeout(TRIED)
-            whole = connection.recv(65_536)
-            if b"Expect: 100-continue" in whole:
-                connection.sendall(b"HTTP/1.1 100 Continue\r\n\r\n")
-                whole = whole.replace(b"Expect: 100-continue\r\n", b"") + connection.recv(65_536)
-            there.sendall(whole.replace(f":{self.port}".encode(), f":{self.port}".encode()))
-            answer = there.recv(65_536)
-            if self.cuts:
-                self.cuts -= 1
-                self.meanwhile()
-                return
-            connection.sendall(answer.replace(b"Connection: keep-alive", b"Connection: close"))
-
-
 def try_again(program, folder):
     """An answer that is lost, and a gateway that is killed meanwhile: boto3 sends its put again, and one version stands."""
     for name in ("cut", "killed"):
@@ -368,8 +207,8 @@ def try_again(program, folder):
                 gateway.kill()
                 gateway.start()
 
-            cutting = Cutting(gateway, 3, anew if name == "killed" else lambda: None)
-            port, gateway.port = gateway.port, cutting.port
+            between = Between(gateway, 3, is_before=False, meanwhile=anew if name == "killed" else None)
+            port, gateway.port = gateway.port, between.port
             sender = client(gateway)
             gateway.port = port
             done = sender.put_object(Bucket="docs", Key="deed", Body=b"a deed", ObjectLockMode="COMPLIANCE",
@@ -583,3 +422,37 @@ class S3(Case):
 
 class Served(S3):
     is_served = True
+
+
+NAMED = {name: (tool, case) for name, tool, case in s3_each.named()}
+
+
+@a_test_each(NAMED)
+class Each(Case):
+    """Each client before a server of the vault."""
+
+    def look_at(self, name):
+        tool, case = NAMED[name]
+        if missing(tool):
+            self.skipTest(missing(tool))
+        case(TOOLS[tool], self.folder)
+
+
+class Flood(Case):
+    """Whoever has no right signature gets no further than the gateway."""
+
+    def test_wrong_signatures(self):
+        gateway, door = s3_each.made(self.folder, door=str(self.folder / "between.lines")), Door(self.folder)
+        with gateway:
+            door.lines.clear()  # it asks one as it begins
+            put = b"PUT /docs/a HTTP/1.1\r\nHost: a\r\nContent-Length: 7\r\nConnection: close\r\n%s\r\ncontent"
+            date = time.strftime("%Y%m%dT%H%M%SZ", time.gmtime()).encode()
+            scope = b"%s/%s/us-east-1/s3/aws4_request" % (gateway.keys["ann"]["access_key"].encode(), date[:8])
+            who = b"Authorization: AWS4-HMAC-SHA256 Credential=%s, SignedHeaders=host;x-amz-date, Signature=%064x\r\n"
+            for number in range(WRONG):
+                heads = b"x-amz-date: %s\r\n%s" % (date, who % (scope, number))
+                check(b"SignatureDoesNotMatch" in sent(gateway, put % heads), f"number {number} is let in")
+            check(b"AccessDenied" in sent(gateway, put % b""), "who doesn't sign is let in")
+            check(door.lines == [], f"the server got {len(door.lines)} lines")
+            gateway.stop()
+            check(gateway.versions() == [], gateway.versions())

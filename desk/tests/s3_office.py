@@ -5,6 +5,7 @@ from __future__ import annotations
 import contextlib
 import hashlib
 import hmac
+import itertools
 import re
 import socket
 import threading
@@ -17,6 +18,7 @@ from typing import Any
 from tests.office import PROGRAM, OfficeTest
 from vaultdesk.config import Desk
 from vaultdesk.engine import Engine
+from vaultdesk.s3.again import Unanswered
 from vaultdesk.s3.asked import Vault
 from vaultdesk.s3.door import OwnEngine
 from vaultdesk.s3.etags import Etags
@@ -33,6 +35,7 @@ ANN, BEA, CID = "VKTESTKEYOFANNANN234", "VKTESTKEYOFBEABEA234", "VKTESTKEYOFCIDC
 # What clients sent on 28 November 2026: boto3 1.43.11, aws 2.9.19, s3cmd 2.3.0, rclone 1.60.1.
 KEPT = Path(__file__).parent / "s3_requests"
 EMPTY = hashlib.sha256(b"").hexdigest()
+COUNT = itertools.count(1)
 
 
 @dataclass(frozen=True)
@@ -70,9 +73,10 @@ def signature(lines: list[str], secret: str = SECRET, day: str = DATE[:8], regio
 def request(
     method: str, target: str, body: bytes = b"", headers: Mapping[str, str] | None = None, access_key: str = ANN
 ) -> bytes:
-    """A request as a client signs it, whose headers are all signed."""
+    """A request as a client signs it, whose headers are all signed. Its signature is its own: one of them counts."""
     path, _, query = target.partition("?")
-    given = {"host": "vault", "x-amz-date": DATE, "x-amz-content-sha256": hashlib.sha256(body).hexdigest()}
+    given = {"host": "vault", "user-agent": f"tests/{next(COUNT)}", "x-amz-date": DATE}
+    given["x-amz-content-sha256"] = hashlib.sha256(body).hexdigest()
     given |= {name.lower(): value for name, value in (headers or {}).items()}
     date = given["x-amz-date"]
     pairs = sorted(tuple(it.split("=", 1)) if "=" in it else (it, "") for it in query.split("&") if it)
@@ -160,10 +164,12 @@ class GatewayTest(OfficeTest):
     def start(self) -> None:
         """Starts a gateway."""
         given = Settings(
-            str(self.file), self.keys, self.etags, 0, presigned=self.PRESIGNED, dropped_metadata=self.DROPPED
-        )
+            str(self.file), self.keys, self.etags, 0, presigned=self.PRESIGNED, dropped_metadata=self.DROPPED,
+            unanswered=self.folder / "unanswered",
+        )  # fmt: skip
         self.door = OwnEngine(Engine(Desk(PROGRAM, self.file), self.at))
-        self.vault = Vault(self.door, Etags(given.etags), given, ["cases", "docs"])
+        notes = Unanswered(given.unanswered)
+        self.vault = Vault(self.door, Etags(given.etags), given, ["cases", "docs"], notes)
         self.server = Server(given, Gateway(self.vault, Keys(self.keys), lambda: self.now), is_quiet=True)
         threading.Thread(target=self.server.serve_forever, args=(0.01,), daemon=True).start()
 

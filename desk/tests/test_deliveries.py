@@ -170,6 +170,50 @@ class Deliveries(OfficeTest):
         self.assertEqual(done.out.count("the vault holds the same content"), 1)
         self.assertEqual(len(json.loads(self.done("ls", "docs", "--json"))), 1)
 
+    def test_what_is_in_folders_is_taken_in_where_that_is_asked(self) -> None:
+        (self.scans / "2024" / "a").mkdir(parents=True)
+        (self.scans / "2024" / "a" / "scan 0.pdf").write_bytes(b"within")
+        os.symlink(self.scans / "2024", self.scans / "link")
+        done = self.desk(*self.deliver("--json"))
+        self.assertEqual((done.status, json.loads(done.out)["taken_in"]), (0, 4))
+        self.assertIn("1 files are in folders", done.err)
+        words = ("deliver", str(self.scans), "--bucket", "docs", "--batch", "b2", "--recursive", "--yes", "--json")
+        self.assertEqual(json.loads(self.done(*words))["taken_in"], 5)
+        self.assertEqual(self.done("get", "docs", "2024/a/scan 0.pdf"), "within")
+        listed = self.listed("file,key\n2024/a/scan 0.pdf,within\n2024/../scan 1.pdf,k\n")
+        done = self.desk(*self.deliver("--inventory", listed, "--dry-run"))
+        self.assertIn("1 of 2 rows would be taken in", done.err)
+
+    def test_what_is_held_already_may_be_left_out(self) -> None:
+        (self.scans / "scan 4.pdf").write_bytes(b"scan 3")
+        self.lines({"do": "put", "bucket": "docs", "key": "old", "text": "scan 1"})
+        done = json.loads(self.desk(*self.deliver("--skip-held", "--json")).out)
+        self.assertEqual((done["taken_in"], done["skipped"]), (3, [2, 5]))
+        again = self.desk(*self.deliver("--skip-held"))
+        self.assertEqual(again.status, 0, again.err)
+        self.assertIn("5 were left out", again.out)
+        self.assertEqual(len(json.loads(self.done("ls", "docs", "--json"))), 4)
+
+    def test_a_key_that_is_held_already_is_asked_for(self) -> None:
+        self.lines({"do": "put", "bucket": "docs", "key": "a", "text": "another"})
+        words = self.deliver("--inventory", self.listed("file,key\nscan 0.pdf,a\nscan 1.pdf,b\n"))
+        done = self.desk(*words)
+        self.assertEqual(done.status, 2)
+        self.assertIn("1 keys are held already", done.err)
+        self.assertIn("the bucket holds that key already", done.out)
+        self.assertEqual(self.desk(*words, "--yes").status, 0)
+        self.assertEqual(self.desk(*words).status, 0)  # the batch is known, and nothing comes twice
+
+    def test_the_inventory_itself_is_kept_once(self) -> None:
+        text = "file;key;Scanned by\nscan 0.pdf;a;M\u00fcller\n"
+        listed = self.listed(text)
+        words = self.deliver("--inventory", listed, "--keep-inventory", "lists/b1.csv")
+        for _ in range(2):
+            self.assertEqual(self.desk(*words).status, 0)
+        self.assertEqual(self.done("get", "docs", "lists/b1.csv"), text)
+        self.assertEqual(len(json.loads(self.done("ls", "docs", "lists/", "--json"))), 1)
+        self.assertEqual(self.desk(*self.deliver("--keep-inventory", "lists/b1.csv")).status, 2)
+
     def test_no_delivery_is_dated_ahead_of_the_clock(self) -> None:
         done = self.desk(*self.deliver(), at="2206-01-15T10:00:00Z")
         self.assertEqual((done.status, done.out), (2, ""))

@@ -2,6 +2,7 @@
 
 from __future__ import annotations
 
+import base64
 import csv
 import json
 import unittest
@@ -26,6 +27,33 @@ class PutAndGet(OfficeTest):
         [head] = self.lines({"do": "head", "bucket": "docs", "key": "deed"}, at="2024-01-15T10:00:00Z")
         self.assertEqual(head["ok"]["retention"], {"mode": "COMPLIANCE", "until": "2034-01-01T00:00:00Z"})
         self.assertEqual(head["ok"]["hold"], "ON")
+
+    def test_what_is_only_to_be_new_is_put_once(self) -> None:
+        path = self.written("a.txt", b"hello")
+        self.assertEqual(self.done("put", "docs", "a", path, "--new"), "1\n")
+        done = self.desk("put", "docs", "a", path, "--new")
+        self.assertEqual((done.status, done.out), (1, ""))
+        self.assertIn("a has version 1 already", done.err)
+        self.done("rm", "docs", "a")
+        self.assertEqual(self.done("put", "docs", "a", path, "--new"), "3\n")
+
+    def test_a_version_has_its_lock_and_its_digest(self) -> None:
+        path = self.written("a.txt", b"hello")
+        put = json.loads(self.done("put", "docs", "a", path, "--until", "2034-01-01", "--hold", "--json"))
+        self.done("put", "docs", "a", path)
+        found = json.loads(self.done("info", "docs", "a", "--version", "1", "--json"))
+        self.assertEqual(found["sha256"], put["sha256"])
+        wanted = {"version": 1, "size": 5, "mode": "GOVERNANCE", "until": "2034-01-01T00:00:00Z", "hold": "ON"}
+        self.assertEqual({name: found[name] for name in wanted}, wanted)
+        self.assertRegex(self.done("info", "docs", "a"), r"(?s)version +2\n.*mode +none\n.*hold +OFF\n")
+
+    def test_a_content_is_json_too(self) -> None:
+        content = bytes(range(256))
+        self.done("put", "docs", "a", self.written("a.bin", content))
+        self.assertEqual(base64.b64decode(json.loads(self.done("get", "docs", "a", "--json"))["base64"]), content)
+        target = str(self.folder / "back.bin")
+        self.assertEqual(json.loads(self.done("get", "docs", "a", target, "--json"))["file"], target)
+        self.assertEqual(Path(target).read_bytes(), content)
 
     def test_nothing_is_overwritten_unasked(self) -> None:
         path = self.written("a.txt", b"hello")
@@ -117,6 +145,22 @@ class Export(OfficeTest):
         self.done("export", "docs", str(self.out), "--prefix", "a/", "--all-versions")
         self.assertEqual({it.name for it in self.out.iterdir()}, {"1.pdf", "5.pdf", "documents.csv"})
         self.assertEqual((self.out / "1.pdf").read_bytes(), b"one")
+
+    def test_files_have_the_names_of_their_keys_where_they_can(self) -> None:
+        put = {"do": "put", "bucket": "docs", "text": "x"}
+        keys = ["a", "b", "b/c/d", "../e", "/f", "g//h", "documents.csv", "5.pdf"]
+        self.lines(*({**put, "key": it} for it in keys))
+        self.done("export", "docs", str(self.out), "--names")
+        self.assertEqual({**self.listed(), **dict.fromkeys(keys, b"x")}, self.listed())
+        with (self.out / "documents.csv").open(encoding="utf-8", newline="") as file:
+            names = {it["key"]: it["file"] for it in csv.DictReader(file)}
+        for key in ("a", "b", "100%25 M\u00fcller", "5.pdf"):
+            self.assertEqual(names[key], key)
+        # Of `a` and `a/b.pdf` one alone can be a file of that name; so of `b` and `b/c/d`.
+        others = {"a/b.pdf": "_5.pdf", "b/c/d": "10", "../e": "11", "documents.csv": "14.csv", "..": "3"}
+        self.assertEqual({key: names[key] for key in others}, others)
+        self.assertEqual(len(set(names.values())), len(names))
+        self.assertEqual({it for it in self.folder.iterdir() if it.name in ("e", "f")}, set())
 
     def test_nothing_is_written_over_unasked(self) -> None:
         self.out.mkdir()

@@ -348,11 +348,18 @@ class DoorAlone(ServedTest):
         scans.mkdir()
         scans.chmod(0o755)
         (scans / "a.pdf").write_bytes(b"a scan")
+        may = {"do": "add-caller", "as": "registrar", "dept": "records"}
+        self.lines({**may, "caller": "bob", "rights": ["put"]})
         self.serve(self.where)
         self.where.chmod(0o666)
-        done = self.as_nobody("deliver", str(scans), "--bucket", "docs", "--batch", "b1")
+        words = ("deliver", str(scans), "--bucket", "docs", "--batch", "b1")
+        done = self.as_nobody(*words, "--as", "bob")
         self.assertEqual((done.status, done.out), (1, "1 of 1 rows are in the vault\n"))
-        self.assertIn("wasn't compared with the folder", done.err)
+        self.assertIn("wasn't compared with the folder: AccessDenied right:get", done.err)
+        # Who may read what came is answered by the server which digests it has.
+        done = self.as_nobody(*words)
+        told = "1 of 1 rows are in the vault, 1 of them with the digest of their file\n"
+        self.assertEqual((done.status, done.out), (0, told), done.err)
         self.assertEqual(self.as_nobody("get", "docs", "a.pdf"), Done(0, "a scan", ""))
 
 

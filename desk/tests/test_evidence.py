@@ -9,8 +9,10 @@ import shutil
 import sqlite3
 from pathlib import Path
 
-from tests.office import OfficeTest
+from tests.office import PROGRAM, OfficeTest
 from vaultdesk import recheck
+from vaultdesk.config import Desk
+from vaultdesk.engine import Engine
 
 DAYS = [f"2024-02-{day:02}T00:00:00Z" for day in range(1, 13)]
 
@@ -39,6 +41,22 @@ class Evidence(OfficeTest):
         with recheck.audited(self.file) as base:
             recheck.events.write_events(base, recheck.vault.moment_of(moment), out)
         return out.getvalue()
+
+
+class Verify(Evidence):
+    def test_a_sound_vault_and_one_that_isnt(self) -> None:
+        self.assertEqual(self.done("verify"), "sound\n")
+        forged = self.forged("UPDATE departments SET held = held + 1, admitted = admitted + 1")
+        done = self.desk("verify", "--vault", str(forged))
+        self.assertEqual((done.status, done.out), (1, ""))
+        self.assertIn("damaged departments", done.err)
+        told = json.loads(self.desk("verify", "--vault", str(forged), "--json").out)
+        self.assertEqual(told, {"sound": False, "verdict": "damaged departments", "of_a_copy": False})
+
+    def test_while_a_program_has_it_a_copy_is_audited(self) -> None:
+        with Engine(Desk(PROGRAM, self.file, "ann")) as engine:
+            engine.ask("list-versions", bucket="docs")
+            self.assertEqual(self.done("verify"), "sound, by a copy of the vault as it is now\n")
 
 
 class Seals(Evidence):

@@ -52,6 +52,7 @@ class Rules(OfficeTest):
         wanted = [
             ("2024-01-19T00:00:00Z", "marked", 1, "a"),
             ("2024-01-21T00:00:00Z", "removed for good", 1, "a"),
+            ("2024-01-22T00:00:00Z", "marker removed", 2, "a"),
         ]
         self.assertEqual(found, wanted)
         self.assertEqual(self.done("rules", "list", "docs"), "")
@@ -69,14 +70,29 @@ class Expire(OfficeTest):
         done = self.desk("expire", "records", "--until", "2024-02-01", "--json", at=at)
         self.assertEqual(done.status, 2)
         self.assertIn("--yes", done.err)
-        rows = json.loads(done.out)
+        told = json.loads(done.out)
         wanted = [(at, "marked"), ("2024-01-22T00:00:00Z", "removed for good")]
-        self.assertEqual([(it["night"], it["what"]) for it in rows], wanted)
+        wanted.append(("2024-01-23T00:00:00Z", "marker removed"))
+        self.assertEqual([(it["night"], it["what"]) for it in told["foreseen"]], wanted)
+        self.assertEqual(told["done"], [])
         done = self.desk("expire", "records", "--yes", at=at)
         self.assertEqual(done.status, 0, done.err)
         self.assertIn("docs: 1 marked, 0 removed", done.err)
         done = self.desk("expire", "records", "--yes", at="2024-01-22T00:00:00Z")
         self.assertIn("docs: 0 marked, 1 removed", done.err)
+
+    def test_where_markers_alone_go_they_go(self) -> None:
+        for at in ("2024-01-20T00:00:00Z", "2024-01-22T00:00:00Z"):
+            self.assertEqual(self.desk("expire", "records", "--yes", at=at).status, 0)
+        done = self.desk("expire", "records", "--yes", "--json", at="2024-01-23T00:00:00Z")
+        self.assertEqual(done.status, 0, done.err)
+        self.assertEqual([it["lone"] for it in json.loads(done.out)["done"]], [1])
+        self.assertEqual(self.done("ls", "docs", at="2024-01-23T00:00:00Z"), "")
+
+    def test_where_nothing_is_due_it_says_so(self) -> None:
+        done = self.desk("expire", "records", "--until", "2024-01-16")
+        self.assertEqual((done.status, done.out), (0, ""))
+        self.assertIn("nothing is due up to 2024-01-16", done.err)
 
     def test_a_department_without_rules(self) -> None:
         self.done("rules", "remove", "docs", "old")

@@ -5,6 +5,7 @@ from __future__ import annotations
 import contextlib
 import io
 import os
+import re
 import signal
 import socket
 import sqlite3
@@ -17,9 +18,11 @@ from pathlib import Path
 from unittest import mock
 
 from tests.office import PROGRAM
-from tests.s3_office import ANN, BEA, GatewayTest, read_replies, request
+from tests.s3_office import ANN, BEA, SECRET, GatewayTest, read_replies, request
 from vaultdesk import reading, ways
-from vaultdesk.s3 import server
+from vaultdesk.errors import DeskError, EngineError
+from vaultdesk.s3 import again, server
+from vaultdesk.s3.door import Told
 
 LOCK = {"x-amz-object-lock-mode": "COMPLIANCE", "x-amz-object-lock-retain-until-date": "2034-01-01T00:00:00Z"}
 ONCE = {"amz-sdk-invocation-id": "d969f1fc-afca-45f4-93cf-bb107518bc68"}
@@ -119,6 +122,190 @@ class Again(GatewayTest):
         said = self.replay()._said
         assert said
         self.assertLess(os.fstat(said.fileno()).st_size, 1_500)
+
+
+class Unsaid(GatewayTest):
+    """Puts whose client gives them no id."""
+
+    PRESIGNED = True
+
+    def lost(self, target: str, body: bytes, headers: dict[str, str] | None = None) -> None:
+        """Sends a put, and breaks the connection off before its answer; returns once that is noted."""
+        with self.connected() as connection:
+            connection.sendall(request("PUT", target, body, headers))
+            connection.setsockopt(socket.SOL_SOCKET, socket.SO_LINGER, b"\1\0\0\0\0\0\0\0")
+        deadline = time.monotonic() + 100
+        notes = self.vault.unanswered
+        while self.server.working or not any(it.is_lost is again._always for it in notes.puts.values()):
+            self.assertLess(time.monotonic(), deadline)
+            time.sleep(0.01)
+
+    def put(self, target: str, body: bytes, headers: dict[str, str] | None = None, who: str = ANN) -> str:
+        """The version that a put makes, which is signed for itself."""
+        return self.done("PUT", target, body, headers, who).headers["x-amz-version-id"]
+
+    def versions(self) -> list[int]:
+        return sorted(it["version_id"] for it in self.entries())
+
+    def test_the_same_request_is_the_same_put(self) -> None:
+        whole = request("PUT", "/docs/a", b"hello", LOCK)
+        self.assertEqual([self.send(whole)[0].headers["x-amz-version-id"] for _ in range(2)], ["1", "1"])
+        self.stop()
+        self.start()
+        self.assertEqual(self.send(whole)[0].headers["x-amz-version-id"], "1")
+        self.assertEqual(self.versions(), [1])
+
+    def test_what_is_signed_anew_is_put_anew(self) -> None:
+        self.assertEqual([self.put("/docs/a", b"hello", LOCK) for _ in range(2)], ["1", "2"])
+
+    def test_the_same_request_never_brings_back_what_was_replaced(self) -> None:
+        whole = request("PUT", "/docs/a", b"hello")
+        self.assertEqual(self.send(whole)[0].status, 200)
+        self.put("/docs/a", b"other")
+        self.refused("OperationAborted", 409, self.send(whole)[0])
+        self.done("DELETE", "/docs/a")
+        self.refused("OperationAborted", 409, self.send(whole)[0])
+        self.assertEqual(self.versions(), [1, 2, 3])
+
+    def test_who_may_not_look_is_answered(self) -> None:
+        self.lines({"do": "add-caller", "as": "registrar", "caller": "bea", "dept": "records", "rights": ["put"]})
+        whole = request("PUT", "/docs/a", b"hello", access_key=BEA)
+        self.assertEqual([self.send(whole)[0].headers["x-amz-version-id"] for _ in range(2)], ["1", "1"])
+
+    def test_an_answer_that_is_lost(self) -> None:
+        self.lost("/docs/a", b"hello", LOCK)
+        self.assertEqual(self.put("/docs/a", b"hello", LOCK), "1")
+        # That one was answered.
+        self.assertEqual(self.put("/docs/a", b"hello", LOCK), "2")
+        self.assertEqual(self.versions(), [1, 2])
+
+    def test_the_request_that_took_a_lost_one_over_is_the_same_put(self) -> None:
+        self.lost("/docs/a", b"hello")
+        whole = request("PUT", "/docs/a", b"hello")
+        self.assertEqual([self.send(whole)[0].headers["x-amz-version-id"] for _ in range(2)], ["1", "1"])
+        self.put("/docs/a", b"other")
+        self.refused("OperationAborted", 409, self.send(whole)[0])
+        self.assertEqual(self.versions(), [1, 2])
+
+    def test_an_answer_that_is_lost_after_another_has_come(self) -> None:
+        notes = self.vault.unanswered
+        first = notes.begin("a" * 64, again.name_of(), None, lambda: True)
+        second = notes.begin("a" * 64, again.name_of(), None, lambda: False)
+        self.assertEqual(second.name, first.name)
+        notes.end(second)
+        notes.lose(first)
+        self.assertEqual(notes.puts, {})
+
+    def test_another_put_isnt_the_one_whose_answer_was_lost(self) -> None:
+        self.lost("/docs/a", b"hello")
+        self.assertEqual(self.put("/docs/b", b"hello"), "2")
+        self.assertEqual(self.put("/docs/a", b"hello", who=BEA), "3")
+        self.assertEqual(self.put("/docs/a", b"hello", LOCK), "4")
+        self.assertEqual(self.put("/docs/a", b"other"), "5")
+
+    def test_another_content_of_one_signature_is_another_put(self) -> None:
+        whole = request("PUT", "/docs/a", b"hello", {"x-amz-content-sha256": "UNSIGNED-PAYLOAD"})
+        sent = [whole, whole.replace(b"\r\n\r\nhello", b"\r\n\r\nother")]
+        self.assertEqual([self.send(it)[0].headers["x-amz-version-id"] for it in sent], ["1", "2"])
+
+    def test_two_that_are_under_way_at_once_are_two(self) -> None:
+        asked, both = self.door.ask, threading.Barrier(2)
+
+        def together(who: str, do: str, **members: object) -> Told:
+            if do == "intake":
+                both.wait(300)
+            return asked(who, do, **members)
+
+        with mock.patch.object(self.door, "ask", together), self.connected() as first, self.connected() as second:
+            for it in (first, second):
+                it.sendall(request("PUT", "/docs/a", b"hello"))
+            answers = [it.recv(65_536) for it in (first, second)]
+        self.assertTrue(all(b" 200 " in it for it in answers), answers)
+        self.assertEqual(self.versions(), [1, 2])
+
+    def test_a_lost_one_that_was_replaced_since_is_put_anew(self) -> None:
+        self.lost("/docs/a", b"hello")
+        self.put("/docs/a", b"other")
+        self.assertEqual(self.put("/docs/a", b"hello"), "3")
+        self.assertEqual(self.done("GET", "/docs/a").body, b"hello")
+
+    def test_a_lost_one_is_kept_over_a_restart_for_fifteen_minutes(self) -> None:
+        self.lost("/docs/a", b"hello")
+        self.stop()
+        self.start()
+        self.assertEqual(self.put("/docs/a", b"hello"), "1")
+        self.lost("/docs/b", b"hello")
+        self.stop()
+        for it in (self.folder / "unanswered").iterdir():
+            os.utime(it, (0, time.time() - again.MEMORY - 1))
+        self.start()
+        self.assertEqual(self.put("/docs/b", b"hello"), "3")
+        self.assertEqual(list((self.folder / "unanswered").iterdir()), [])
+        self.lost("/docs/c", b"hello")
+        with mock.patch.object(again, "MEMORY", -1):
+            self.assertEqual(self.put("/docs/c", b"hello"), "5")
+
+    def test_a_gateway_that_is_killed_before_it_answers(self) -> None:
+        killed = mock.patch.object(again.Unanswered, "end"), mock.patch.object(again.Unanswered, "lose")
+        with killed[0], killed[1]:
+            self.put("/docs/a", b"hello")
+        self.stop()
+        self.start()
+        self.assertEqual(self.put("/docs/a", b"hello"), "1")
+        self.assertEqual(self.versions(), [1])
+
+    def test_an_engine_that_gives_no_answer(self) -> None:
+        asked = self.door.engine.ask
+
+        def lost(do: str, who: str, /, **members: object) -> dict[str, object]:
+            done = asked(do, who, **members)
+            if do == "intake":
+                raise EngineError("no answer")
+            return done
+
+        with mock.patch.object(self.door.engine, "ask", lost), contextlib.redirect_stderr(io.StringIO()):
+            self.refused("InternalError", 500, self.ask("PUT", "/docs/a", b"hello"))
+        self.assertEqual(self.put("/docs/a", b"hello"), "1")
+        self.assertEqual(self.versions(), [1])
+
+    def test_what_is_refused_or_answered_isnt_noted(self) -> None:
+        self.refused("NoSuchBucket", 404, self.ask("PUT", "/nothing/a", b"hello"))
+        self.put("/docs/a", b"hello")
+        with self.connected() as connection:
+            for number in range(3):
+                connection.sendall(request("PUT", f"/docs/{number}", b"x"))
+                self.assertIn(b" 200 ", connection.recv(65_536))
+        deadline = time.monotonic() + 100
+        while self.vault.unanswered.puts:
+            self.assertLess(time.monotonic(), deadline)
+            time.sleep(0.01)
+        self.assertEqual(list((self.folder / "unanswered").iterdir()), [])
+
+    def test_a_presigned_url_may_be_used_again(self) -> None:
+        url = self.kept("boto3-presigned-put")
+        self.assertEqual([self.send(url)[0].headers["x-amz-version-id"] for _ in range(2)], ["1", "2"])
+
+    def test_a_request_with_another_id_is_no_other_put(self) -> None:
+        plain = request("PUT", "/docs/a", b"hello")
+
+        def named(name: bytes) -> bytes:
+            return plain.replace(b"Authorization", b"amz-sdk-invocation-id: " + name + b"\r\nAuthorization")
+
+        self.assertEqual([self.send(named(b"x"))[0].headers["x-amz-version-id"] for _ in range(2)], ["1", "1"])
+        for it in (named(b"y"), plain):
+            self.refused("AccessDenied", 403, self.send(it)[0])
+        self.assertEqual(self.versions(), [1])
+
+    def test_notes_that_cant_be_written_are_said_once(self) -> None:
+        folder = self.folder / "unanswered"
+        folder.rmdir()
+        with contextlib.redirect_stderr(io.StringIO()) as said:
+            self.put("/docs/a", b"hello")
+            self.put("/docs/b", b"hello")
+        self.assertEqual(said.getvalue().count("noted in memory alone"), 1)
+        folder.write_bytes(b"")
+        with self.assertRaises(DeskError):
+            again.Unanswered(folder)
 
 
 class AtOnce(GatewayTest):
@@ -233,13 +420,16 @@ class Programs(GatewayTest):
             self.assertNotIn("bucket docs", "".join(said))
             raw = b"GET /docs?X-Amz-Signature=" + b"0" * 64 + b" HTTP/1.1\r\nhost: a\r\n\r\n"
             with socket.create_connection(("127.0.0.1", port), timeout=300) as connection:
-                connection.sendall(raw)
-                self.assertIn(b"403", connection.recv(65_536))
+                for it in (request("GET", "/docs", headers={"x-amz-date": "20200101T000000Z"}), raw):
+                    connection.sendall(it)
+                    self.assertIn(b"403", connection.recv(65_536))
                 child.send_signal(stop)
                 self.assertEqual(child.wait(300), 0)
             noted = "".join(said)
             self.assertIn("- GET /docs?X-Amz-Signature=.. 403 AccessDenied", noted)
             self.assertNotIn("0" * 64, noted)
+            self.assertIn("- GET /docs 403 RequestTimeTooSkewed", noted)
+            self.assertFalse(SECRET in noted or re.search("[0-9a-f]{64}", noted), noted)
         self.assertFalse(Path(f"{self.file}-wal").exists() and Path(f"{self.file}-wal").stat().st_size > 100)
         self.start()
 

@@ -75,6 +75,21 @@ class Locks(GatewayTest):
         self.done("DELETE", "/docs/a?versionId=1")
         self.assertEqual(self.entries(), [])
 
+    def test_locks_are_those_of_the_version_that_is_named(self) -> None:
+        self.done("PUT", "/docs/a", b"hello")
+        self.done("PUT", "/docs/a", b"other")
+        self.done("PUT", "/docs/a?legal-hold&versionId=1", b"<LegalHold><Status>ON</Status></LegalHold>")
+        self.done("PUT", "/docs/a?retention&versionId=1", retention("GOVERNANCE", END))
+        told = [self.door.ask("ann", "head", bucket="docs", key="a", id=it).value for it in (1, 2)]
+        self.assertEqual([it["hold"] for it in told], ["ON", "OFF"])
+        self.assertEqual([it["retention"] for it in told], [{"mode": "GOVERNANCE", "until": END}, None])
+        for version, hold, modes in (("1", "ON", ["GOVERNANCE"]), ("2", "OFF", [])):
+            found = self.done("GET", f"/docs/a?legal-hold&versionId={version}")
+            self.assertEqual(found.all("Status"), [hold])
+            self.assertEqual(self.ask("GET", f"/docs/a?retention&versionId={version}").all("Mode"), modes)
+            head = self.done("HEAD", f"/docs/a?versionId={version}")
+            self.assertEqual(head.headers["x-amz-object-lock-legal-hold"], hold)
+
     def test_parts_of_a_second_are_rounded_up(self) -> None:
         for number, (given, kept) in enumerate((
             ("2034-01-01T00:00:00.000Z", END), ("2034-01-01T00:00:00.000001Z", "2034-01-01T00:00:01Z"),

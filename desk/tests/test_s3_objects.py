@@ -64,6 +64,10 @@ class Put(GatewayTest):
         listed = self.done("GET", "/docs?list-type=2")
         self.assertEqual(listed.all("Key"), sorted(KEYS, key=str.encode))
 
+    def test_a_plus_in_a_path_is_a_plus(self) -> None:
+        self.done("PUT", "/docs/a+b", b"hello")
+        self.assertEqual([it["key"] for it in self.entries()], ["a+b"])
+
     def test_keys_that_nothing_could_list(self) -> None:
         for key, code in (("\ufffe", "InvalidArgument"), ("\uffff", "InvalidArgument"), ("a\n", "InvalidArgument"),
                           ("\x7f", "InvalidArgument"), ("a" * 1_025, "KeyTooLongError")):

@@ -3,10 +3,13 @@
 from __future__ import annotations
 
 import contextlib
+import hashlib
 import io
 import itertools
 import json
+from collections.abc import Callable
 from pathlib import Path
+from typing import Any
 from unittest import mock
 
 from tests.s3_office import NOW, GatewayTest
@@ -15,6 +18,8 @@ from vaultdesk import moments
 from vaultdesk.config import Desk
 from vaultdesk.engine import Engine
 from vaultdesk.s3 import settings, words
+from vaultdesk.s3.door import Told
+from vaultdesk.s3.faults import Fault
 from vaultdesk.ways import Replay
 
 ONCE = {"amz-sdk-invocation-id": "d969f1fc-afca-45f4-93cf-bb107518bc68"}
@@ -45,10 +50,25 @@ class Served(GatewayTest):
         seconds = (moments.of_seconds(it) for it in itertools.count(NOW))
         with mock.patch("vaultdesk.moments.now", side_effect=seconds):
             self.done("PUT", "/docs/a", b"x")
-        self.assertEqual(self.vault.etags.known, {})
+            admitted = self.door.ask("ann", "head", bucket="docs", key="a").value["admitted"]
+            with mock.patch.object(self.door, "ask", side_effect=self.without_get(self.door.ask)):
+                self.done("PUT", "/docs/b", b"x")
+        # A second that isn't certain is asked for; where the caller may not read, nothing is noted.
+        self.assertEqual(self.vault.etags.known, {1: (admitted, hashlib.md5(b"x").hexdigest())})
         with mock.patch("vaultdesk.moments.now", return_value="2026-11-28T01:12:00Z"):
-            reply = self.done("PUT", "/docs/b", b"x")
-        self.assertEqual(list(self.vault.etags.known), [int(reply.headers["x-amz-version-id"])])
+            reply = self.done("PUT", "/docs/c", b"x")
+        self.assertEqual(list(self.vault.etags.known), [1, int(reply.headers["x-amz-version-id"])])
+
+    @staticmethod
+    def without_get(ask: Callable[..., Told]) -> Callable[..., Told]:
+        """What is answered to a caller who lacks the right get."""
+
+        def answered(caller: str, do: str, **members: Any) -> Told:
+            if do in ("get", "head"):
+                raise Fault("AccessDenied", "right:get")
+            return ask(caller, do, **members)
+
+        return answered
 
     def test_others_work_on_the_vault_meanwhile(self) -> None:
         self.done("PUT", "/docs/a", b"hello")

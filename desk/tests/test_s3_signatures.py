@@ -5,7 +5,9 @@ from __future__ import annotations
 import contextlib
 import hashlib
 import io
+import re
 import unittest
+from unittest import mock
 
 from tests.s3_office import ANN, BEA, CID, DATE, EMPTY, NOW, SECRET, GatewayTest, request, signature
 from vaultdesk.s3 import bodies, request as requests, signature as signatures
@@ -184,7 +186,11 @@ class Refused(GatewayTest):
         unknown = request("PUT", "/docs/a", b"hello", access_key="VKTESTKEYOFNOBODY234")
         self.refused("InvalidAccessKeyId", 403, self.send(unknown)[0])
         self.keys.write_text(self.keys.read_text().replace(SECRET, SECRET + "x"))
-        self.refused("SignatureDoesNotMatch", 403, self.send(self.put())[0])
+        with mock.patch.object(signatures, "signature_of", wraps=signatures.signature_of) as made:
+            reply = self.send(self.put())[0]
+        self.refused("SignatureDoesNotMatch", 403, reply)
+        right = signatures.signature_of(*made.call_args.args)
+        self.assertNotIn(right.encode(), reply.body)
 
     def test_a_key_is_removed_at_once(self) -> None:
         self.assertEqual(self.ask("GET", "/docs").status, 200)
@@ -244,6 +250,21 @@ class Refused(GatewayTest):
         ):
             self.assertEqual(self.send(right.replace(old, new))[0].code, code)
         self.refused("InvalidToken", 400, self.send(self.put(x_amz_security_token="t"))[0])
+
+    def test_the_engine_is_asked_nothing_and_no_body_is_read(self) -> None:
+        right = request("PUT", "/docs/a", b"hello", {"expect": "100-continue"}).removesuffix(b"hello")
+        wrong = (
+            right.replace(b"Signature=", b"Signature=f", 1), right.replace(ANN.encode(), b"VKTESTKEYOFNOBODY234"),
+            re.sub(rb"Signature=\w{8}", b"Signature=00000000", right),
+            re.sub(rb"Authorization: [^\r]*\r\n", b"", right),
+            request("PUT", "/docs/a", b"", {"x-amz-date": "20261127T011200Z", "expect": "100-continue"}),
+        )  # fmt: skip
+        with mock.patch.object(self.door, "ask") as asked:
+            for it in wrong:
+                with self.connected() as connection:
+                    connection.sendall(it)
+                    self.assertRegex(connection.recv(65_536), b"^HTTP/1.1 40[03] ")
+            asked.assert_not_called()
 
     def test_the_engine_decides_who_may_what(self) -> None:
         self.refused("AccessDenied", 403, self.ask("PUT", "/docs/a", b"hello", who=CID))

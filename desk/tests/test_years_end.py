@@ -42,6 +42,16 @@ class YearsEnd(OfficeTest):
             at="2024-01-18T00:00:00Z",
         )
 
+    def test_one_certificate_by_the_number_alone(self) -> None:
+        [reply] = self.lines({"do": "certificate", "bucket": "docs", "id": 2}, at=LATER)
+        for words in (["--as", "ann"], ["--as", "registrar", "--any-caller"]):
+            self.assertEqual(self.done("certificate", "2", *words, at=LATER), reply["ok"]["text"])
+        self.lines({"do": "put", "bucket": "docs", "key": "held", "text": "x"}, at=LATER)
+        for number, why in (("4", "is held still"), ("99", "was never there")):
+            done = self.desk("certificate", number, at=LATER)
+            self.assertEqual((done.status, done.out), (1, ""))
+            self.assertIn(why, done.err)
+
     def test_each_removed_document_has_its_certificate(self) -> None:
         out = self.folder / "out"
         self.done("certificates", str(out), at=LATER)

@@ -7,6 +7,7 @@ import argparse
 from vaultdesk.door import LinesDoor
 from vaultdesk.engine import Engine
 from vaultdesk.errors import DeskError
+from vaultdesk.output import print_done
 from vaultdesk.refusals import refused
 
 ABOUT = """Ends the server of a vault in good order: what is under way is answered, the log is copied into the file, and
@@ -28,6 +29,7 @@ def close(engine: Engine, words: argparse.Namespace) -> None:
     if door is None:
         raise DeskError("no server of the vault takes lines: there is none to be ended so")
     end(door, engine.desk.caller)
+    print_done(words.json, door=door.where, done="ended")
 
 
 def add(commands: argparse._SubParsersAction[argparse.ArgumentParser], common: argparse.ArgumentParser) -> None:

@@ -12,6 +12,12 @@ An option is asked first, then the environment, then a file of settings (TOML)::
     [doors]
     records = "/run/vaultctl/records/lines"    # where its server takes lines, if that is another place than usual
 
+    [least]
+    letters = "6 years"      # the shortest retention that the desk sets in that bucket
+
+    [greatest]
+    letters = "30 years"     # the longest one; a number of days or of years
+
 A name that isn't there is that of a vault with units, if there is one: /var/lib/vaultctl/NAME.vault.
 """
 
@@ -24,8 +30,9 @@ from dataclasses import dataclass
 from pathlib import Path
 from typing import Any
 
-from vaultdesk import conf
+from vaultdesk import conf, limits
 from vaultdesk.errors import UsageError
+from vaultdesk.limits import Limits
 
 PLACES = (Path("~/.config/vaultdesk.toml"), Path("/etc/vaultctl/desk.toml"))
 
@@ -39,6 +46,7 @@ class Settings:
     program: str | None = None
     vaults: Mapping[str, str] | None = None
     doors: Mapping[str, str] | None = None
+    limits: Limits = limits.NONE
 
     def file_of(self, vault: str) -> Path:
         """The file of the vault that is named so, or else that path itself."""
@@ -49,13 +57,14 @@ class Settings:
 
 @dataclass(frozen=True)
 class Desk:
-    """The engine's program, and where these were named, which vault is meant, who asks, and where a server takes lines.
-    """
+    """The engine's program, and where these were named, which vault is meant, who asks, where a server takes lines, and
+    how long retentions may be."""
 
     program: str
     vault: Path | None = None
     asker: str | None = None
     door: str | None = None
+    limits: Limits = limits.NONE
 
     @property
     def file(self) -> Path:
@@ -79,6 +88,13 @@ def _text(found: Mapping[str, Any], name: str) -> str | None:
     return value
 
 
+def _periods(found: Mapping[str, Any], name: str) -> dict[str, limits.Period]:
+    given = found.get(name, {})
+    if not _are_texts(given):
+        raise UsageError(f"settings: [{name}] has buckets, each with a period: 6 years, or 90 days")
+    return {bucket: limits.period(text) for bucket, text in given.items()}
+
+
 def _are_texts(found: Any) -> bool:
     return isinstance(found, dict) and all(isinstance(it, str) for it in found.values())
 
@@ -94,7 +110,10 @@ def read_settings(path: Path) -> Settings:
         raise UsageError(f"settings {path}: [vaults] has names, each with the path of a file")
     if not _are_texts(doors):
         raise UsageError(f"settings {path}: [doors] has names, each with the path of a socket, or a port in quotes")
-    return Settings(_text(found, "vault"), _text(found, "caller"), _text(found, "program"), vaults, doors)
+    within = Limits(_periods(found, "least"), _periods(found, "greatest"))
+    return Settings(
+        _text(found, "vault"), _text(found, "caller"), _text(found, "program"), vaults, doors, within
+    )  # fmt: skip
 
 
 def settings() -> Settings:
@@ -129,4 +148,4 @@ def desk(vault: str | None, caller: str | None, door: str | None = None) -> Desk
     vault = vault or named_vault()
     caller = caller or os.environ.get("VAULT_CALLER") or given.caller
     door = door or os.environ.get("VAULT_DOOR") or (given.doors or {}).get(vault or "")
-    return Desk(program(), given.file_of(vault) if vault else None, caller, door)
+    return Desk(program(), given.file_of(vault) if vault else None, caller, door, given.limits)

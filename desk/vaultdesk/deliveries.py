@@ -4,17 +4,22 @@ from __future__ import annotations
 
 import argparse
 import datetime as dt
-from collections.abc import Mapping, Sequence
+import hashlib
+from collections.abc import Iterator, Mapping, Sequence
 from pathlib import Path
 from typing import Any
 
 from vaultdesk import inventory, moments, reading
 from vaultdesk.asking import add_yes, confirm
+from vaultdesk.documents import read_content
 from vaultdesk.engine import Engine
-from vaultdesk.errors import DeskError, EngineError
+from vaultdesk.errors import DeskError, EngineError, Refused, UsageError
 from vaultdesk.intake import Intake, results, taken_in
-from vaultdesk.items import Item, item_of, look_at_doubles, look_at_file, look_at_words, names_of, read_classes
-from vaultdesk.output import print_json, print_table, say
+from vaultdesk.items import (
+    Item, files_of, item_of, look_at_doubles, look_at_file, look_at_keys, look_at_limits, look_at_words, names_of,
+    read_classes, skip_doubles,
+)  # fmt: skip
+from vaultdesk.output import counted_off, print_json, print_table, say
 
 Row = dict[str, Any]
 
@@ -27,19 +32,22 @@ def _look_at_vault(engine: Engine, words: argparse.Namespace, items: Sequence[It
     caller = engine.desk.caller
     try:
         file = engine.tables
-        held = {it["sha256"] for it in _query_found(file, None)}
+        there = _query_found(file, None)
         batches = reading.query(file, "batches")
         callers = {it["caller"]: it for it in reading.query(file, "callers")}
     except EngineError as error:
         say(f"not looked at: what the vault holds already: {error}")
         look_at_doubles(items, frozenset())
         return False
+    held = frozenset(it["sha256"] for it in there)
     if caller not in callers or callers[caller]["department"] == "-":
         raise DeskError(f"caller {caller!r} has no department, or isn't there: it can put nothing")
     known = [it["lines"] for it in batches if (it["bucket"], it["batch"]) == (words.bucket, words.batch)]
     if known:
         say(f"batch {words.batch!r} is known: {known[0]} of its lines were taken in before")
-    look_at_doubles(items, frozenset(held))
+    look_at_doubles(items, held)
+    if not known:
+        look_at_keys(items, frozenset(it["key"] for it in there if it["bucket"] == words.bucket))
     return bool(known)
 
 
@@ -49,20 +57,28 @@ def _query_found(file: Path, bucket: str | None) -> list[Row]:
     return reading.query(file, "find", bucket=bucket, state="held", **nothing)
 
 
+def _all_files(words: argparse.Namespace, files: Sequence[str]) -> list[inventory.Row]:
+    """A row for each file: of the folder itself, and where that is asked, of those within it."""
+    taken = [it for it in files if words.recursive or "/" not in it]
+    if len(taken) < len(files):
+        left = len(files) - len(taken)
+        say(f"{left} files are in folders of {words.folder}, and left out: --recursive takes them in")
+    return [{"file": it} for it in taken]
+
+
 def look(engine: Engine, words: argparse.Namespace) -> list[Item]:
     """All items of the delivery, each with what was found of it."""
     folder = Path(words.folder)
-    names = names_of(folder)
+    files = files_of(folder)
+    names = names_of(files)
     classes = read_classes(Path(words.classes)) if words.classes else {}
     now = engine.at or moments.now()
     today = dt.date.fromisoformat(now[:10])
-    if words.inventory:
-        rows = inventory.read(Path(words.inventory), ("file",))
-    else:
-        rows = [{"file": it} for it in sorted({*names.values()}) if (folder / it).is_file()]
+    rows = inventory.read(Path(words.inventory), ("file",)) if words.inventory else _all_files(words, files)
     items = [item_of(number, row, classes, today) for number, row in enumerate(rows, start=1)]
-    for it in items:
+    for it in counted_off(items, "rows were looked at"):
         look_at_words(it, now)
+        look_at_limits(it, engine.desk.limits, words.bucket, now)
         look_at_file(it, folder, names)
     return items
 
@@ -81,6 +97,7 @@ def _questions(items: Sequence[Item], known: bool) -> str:
         "can't be removed by anybody before their end (COMPLIANCE)": sum(it.mode == "COMPLIANCE" for it in items),
         f"retentions end in more than {moments.FAR} years": sum(it.is_far for it in items),
         "documents are in the vault already, of another batch": 0 if known else sum(it.is_doubled for it in items),
+        "keys are held already, and get one more version": sum(it.is_above for it in items),
     }
     return "; ".join(f"{count} {what}" for what, count in counts.items() if count)
 
@@ -89,10 +106,26 @@ def _questions(items: Sequence[Item], known: bool) -> str:
 
 
 def _differing(engine: Engine, bucket: str, taken: Mapping[int, Item]) -> list[str]:
-    """The files whose content isn't what the vault holds, by the digests of both. `EngineError` where the vault's
-    tables can't be read."""
-    held = {it["version"]: it["sha256"] for it in _query_found(engine.tables, bucket)}
+    """The files whose content isn't what the vault holds, by the digests of both. `EngineError` where neither the
+    vault's tables can be read, nor each version may be asked for."""
+    try:
+        held = {it["version"]: str(it["sha256"]) for it in _query_found(engine.tables, bucket)}
+    except EngineError:
+        if not engine.is_served:
+            raise
+        held = dict(_asked_digests(engine, bucket, taken))
     return [it.file for version, it in taken.items() if held.get(version) != it.digest]
+
+
+def _asked_digests(engine: Engine, bucket: str, taken: Mapping[int, Item]) -> Iterator[tuple[int, str]]:
+    """The digests of versions, as the server has them. `EngineError` where the caller may not read them."""
+    for version in counted_off(list(taken), "documents were compared"):
+        try:
+            yield version, str(engine.ask("head", bucket=bucket, key=taken[version].key, id=version)["sha256"])
+        except Refused as error:
+            if error.code == "AccessDenied":
+                raise EngineError(str(error)) from error
+            yield version, ""  # it was removed in between
 
 
 def _tell(engine: Engine, words: argparse.Namespace, items: Sequence[Item], intake: Intake) -> None:
@@ -106,14 +139,16 @@ def _tell(engine: Engine, words: argparse.Namespace, items: Sequence[Item], inta
         differing = _differing(engine, words.bucket, taken)
     except EngineError as error:
         why = f"what is in the vault wasn't compared with the folder: {error}"
-    wanted = sum(not it.wrong for it in items)
+    wanted = sum(not it.is_out for it in items)
     if words.json:
         told = {"taken_in": len(taken), "refused": refused, "differing": differing, "rows": rows}
-        print_json({**told, "findings": _findings(items)})
+        print_json({**told, "findings": _findings(items), "skipped": [it.number for it in items if it.is_skipped]})
     else:
         print_table(refused, ("row", "file", "key", "value", "cause"), as_json=False)
         same = "" if differing is None else f", {len(taken) - len(differing)} of them with the digest of their file"
-        print(f"{len(taken)} of {len(items)} rows are in the vault{same}")
+        skipped = sum(it.is_skipped for it in items)
+        left = f"; {skipped} were left out, as their content is there" if skipped else ""
+        print(f"{len(taken)} of {len(items)} rows are in the vault{same}{left}")
     if differing:
         raise DeskError(f"the vault holds other content than the folder has now: {', '.join(differing)}")
     if refused or len(rows) < wanted:
@@ -123,12 +158,42 @@ def _tell(engine: Engine, words: argparse.Namespace, items: Sequence[Item], inta
         raise DeskError(why)
 
 
+# ---- the inventory itself
+
+
+def _look_at_list(words: argparse.Namespace) -> None:
+    """`DeskError` where the inventory is to be kept and can't be; before anything is taken in."""
+    if words.keep_inventory and not words.inventory:
+        raise UsageError("--keep-inventory KEY goes with --inventory FILE")
+    if words.keep_inventory:
+        read_content(words.inventory)
+
+
+def _keep_list(engine: Engine, words: argparse.Namespace) -> None:
+    """Puts the inventory as it was given, unless it is the key's current version already."""
+    content = read_content(words.inventory)
+    try:
+        there = engine.ask("head", bucket=words.bucket, key=words.keep_inventory)["sha256"]
+    except Refused as error:
+        if error.code != "NoSuchKey":
+            raise
+        there = ""
+    if there != hashlib.sha256(content).hexdigest():
+        done = engine.ask("put", bucket=words.bucket, key=words.keep_inventory, hex=content.hex())
+        say(f"the inventory is version {done['version_id']}, {words.keep_inventory}")
+
+
 def deliver(engine: Engine, words: argparse.Namespace) -> None:
     """Looks at a delivery, takes it in, and compares what the vault has with the folder."""
+    _look_at_list(words)
     items = look(engine, words)
     known = _look_at_vault(engine, words, items)
-    right = [it for it in items if not it.wrong]
-    is_refused = not right or len(right) < len(items) and not words.leave_out
+    skipped = skip_doubles(items) if words.skip_held else 0
+    if skipped:
+        say(f"{skipped} rows are left out: the vault holds their content already, or an earlier row has it")
+    right = [it for it in items if not it.is_out]
+    wrong = sum(bool(it.wrong) for it in items)
+    is_refused = not right and not skipped or bool(wrong) and not words.leave_out
     if not words.json:
         print_table(_findings(items), ("row", "file", "wrong", "note"), as_json=False)
     elif words.dry_run or is_refused:
@@ -137,11 +202,13 @@ def deliver(engine: Engine, words: argparse.Namespace) -> None:
         say(f"{len(right)} of {len(items)} rows would be taken in")
         return
     if is_refused:
-        raise DeskError(f"{len(items) - len(right)} of {len(items)} rows are wrong: mend them, or give --leave-out")
+        raise DeskError(f"{wrong} of {len(items)} rows are wrong: mend them, or give --leave-out")
     questions = _questions(right, known)
     if questions:
         confirm(words, questions)
     _tell(engine, words, items, taken_in(engine, words, items))
+    if words.keep_inventory:
+        _keep_list(engine, words)
 
 
 def add(commands: argparse._SubParsersAction[argparse.ArgumentParser], common: argparse.ArgumentParser) -> None:
@@ -155,6 +222,10 @@ def add(commands: argparse._SubParsersAction[argparse.ArgumentParser], common: a
     help_text = "CSV or xlsx with the column file, and if wanted key, class, date, mode, until, hold"
     it.add_argument("--inventory", metavar="FILE", help=help_text)
     it.add_argument("--classes", metavar="FILE", help="CSV or xlsx with the columns class, years, mode")
+    help_text = "put the inventory itself as a document under this key, with the columns that only the office knows"
+    it.add_argument("--keep-inventory", metavar="KEY", help=help_text)
+    it.add_argument("--recursive", action="store_true", help="without an inventory: also files of folders within it")
+    it.add_argument("--skip-held", action="store_true", help="leave out rows whose content the vault holds already")
     it.add_argument("--leave-out", action="store_true", help="take in the other rows where some are wrong")
     add_yes(it)
     it.set_defaults(run=deliver)

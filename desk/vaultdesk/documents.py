@@ -1,22 +1,20 @@
-"""Documents of a bucket: put, get, ls, export."""
+"""Documents of a bucket: put, get, ls, info."""
 
 from __future__ import annotations
 
 import argparse
-import csv
+import base64
 import hashlib
-import io
 import os
-import re
 import sys
-from collections.abc import Callable, Mapping
+from collections.abc import Callable
 from pathlib import Path
 from typing import Any
 
-from vaultdesk import moments
+from vaultdesk import limits, moments
 from vaultdesk.asking import confirm
 from vaultdesk.engine import Engine
-from vaultdesk.errors import DeskError
+from vaultdesk.errors import DeskError, Refused
 from vaultdesk.output import print_json, print_table
 
 MOST = 1_048_576  # bytes that a version may have
@@ -49,37 +47,98 @@ def write_content(path: Path, content: bytes, force: bool) -> None:
         raise DeskError(f"{path}: {error.strerror}") from error
 
 
+def _look_new(engine: Engine, words: argparse.Namespace) -> None:
+    """`DeskError` where the key has a current version."""
+    try:
+        head = engine.ask("head", bucket=words.bucket, key=words.key)
+    except Refused as error:
+        if error.code != "NoSuchKey":
+            raise
+        return
+    there = f"{words.key} has version {head['version_id']} already"
+    raise DeskError(f"{there}: nothing was put; without --new the content becomes one more version")
+
+
+def _below(engine: Engine, words: argparse.Namespace, version: int) -> int | None:
+    """The version that was current as that one came, if one was."""
+    there = [it for it in engine.entries(words.bucket, words.key) if it["key"] == words.key]
+    older = [it for it in there if it["version_id"] < version]
+    return int(older[0]["version_id"]) if older and not older[0]["delete_marker"] else None
+
+
+def _look_still_new(engine: Engine, words: argparse.Namespace, version: int) -> None:
+    """`DeskError` where another put came in between, which a server allows."""
+    below = _below(engine, words, version) if engine.is_served else None
+    if below is not None:
+        why = f"version {below} of the key came at the same moment, by somebody else"
+        raise DeskError(f"{why}: version {version} was put all the same, and is above it")
+
+
 def put(engine: Engine, words: argparse.Namespace) -> None:
     """Puts a file's content as a new version, and prints its number."""
     content = read_content(words.path)
     until = moments.read(words.until) if words.until else None
-    mode = words.mode if until else None
-    if until and moments.is_far(until, engine.at or moments.now()):
+    now = engine.at or moments.now()
+    if until:
+        limits.look(engine.desk.limits, words.bucket, until, now)
+    if until and moments.is_far(until, now):
         confirm(words, f"the retention ends in more than {moments.FAR} years, at {until}")
+    if words.new:
+        _look_new(engine, words)
     done = engine.ask(
         "put",
         bucket=words.bucket,
         key=words.key,
         hex=content.hex(),
-        mode=mode,
+        mode=words.mode if until else None,
         until=until,
         hold="ON" if words.hold else None,
     )
+    version = int(done["version_id"])
     if words.json:
-        print_json({"version": done["version_id"], "bucket": words.bucket, "key": words.key, "size": len(content)})
+        place = {"version": version, "bucket": words.bucket, "key": words.key}
+        print_json({**place, "size": len(content), "sha256": hashlib.sha256(content).hexdigest()})
     else:
-        print(done["version_id"])
+        print(version)
+    if words.new:
+        _look_still_new(engine, words, version)
+
+
+def checked_content(found: dict[str, Any]) -> bytes:
+    """The content of a version, whose digest is looked at. `DeskError` where it is another one."""
+    content = bytes.fromhex(found["hex"])
+    if hashlib.sha256(content).hexdigest() != found["sha256"]:
+        raise DeskError(f"version {found['version_id']}: its content has another digest: vaultdesk verify says more")
+    return content
 
 
 def get(engine: Engine, words: argparse.Namespace) -> None:
     """Writes a version's content to a file, or to standard output where no file is named."""
     found = engine.ask("get", bucket=words.bucket, key=words.key, id=words.version)
-    content = bytes.fromhex(found["hex"])
+    content = checked_content(found)
     if words.path:
         write_content(Path(words.path), content, words.force)
-    else:
+    if words.json:
+        row = {"version": found["version_id"], "bucket": words.bucket, "key": words.key, "size": found["size"]}
+        where = {"file": words.path} if words.path else {"base64": base64.b64encode(content).decode("ascii")}
+        print_json({**row, "sha256": found["sha256"], "admitted": found["admitted"], **where})
+    elif not words.path:
         sys.stdout.buffer.write(content)
         sys.stdout.buffer.flush()
+
+
+def info(engine: Engine, words: argparse.Namespace) -> None:
+    """Prints what a document is, and what guards it now."""
+    found = engine.ask("head", bucket=words.bucket, key=words.key, id=words.version)
+    retention = found["retention"] or {}
+    row = {name: found[name] for name in ("size", "sha256", "admitted")}
+    whole = {"version": found["version_id"], "bucket": words.bucket, "key": words.key, **row}
+    whole |= {"mode": retention.get("mode"), "until": retention.get("until"), "hold": found["hold"]}
+    if words.json:
+        print_json(whole)
+    else:
+        rows = [{"what": name, "is": "none" if value is None else value} for name, value in whole.items()]
+        print_table(rows, ("what", "is"), as_json=False)
 
 
 def kind_of(entry: dict[str, object]) -> str:
@@ -108,51 +167,6 @@ def ls(engine: Engine, words: argparse.Namespace) -> None:
     print_table(rows, ("version", "size", "admitted", "kind", "key"), words.json)
 
 
-LISTED = ("file", "key", "version", "size", "sha256", "admitted")
-ENDING = re.compile(r"\.[A-Za-z0-9]{1,8}$")
-
-
-def file_name(version: int, key: str) -> str:
-    """The name of a version's file: its number, as a key may have what no file's name can, and the key's ending."""
-    ending = ENDING.search(key)
-    return f"{version}{ending[0] if ending else ''}"
-
-
-def _exported(engine: Engine, words: argparse.Namespace, entry: Mapping[str, Any]) -> dict[str, Any]:
-    """Writes a version to its file, and gives its row of the list."""
-    version, key = entry["version_id"], entry["key"]
-    found = engine.ask("get", bucket=words.bucket, key=key, id=version)
-    content = bytes.fromhex(found["hex"])
-    if hashlib.sha256(content).hexdigest() != found["sha256"]:
-        raise DeskError(f"version {version}: its content has another digest: look at the vault by vaultctl verify")
-    name = file_name(version, key)
-    write_content(Path(words.folder) / name, content, words.force)
-    row = {"file": name, "key": key, "version": version, "size": len(content)}
-    return {**row, "sha256": found["sha256"], "admitted": found["admitted"]}
-
-
-def export(engine: Engine, words: argparse.Namespace) -> None:
-    """Writes the documents of a bucket to a folder, with a list that says which is which."""
-    listed = Path(words.folder) / "documents.csv"
-    if listed.exists() and not words.force:
-        raise DeskError(f"{listed} is there already: name another folder, or give --force to write over it")
-    entries = [it for it in engine.entries(words.bucket, words.prefix) if not it["delete_marker"]]
-    try:
-        Path(words.folder).mkdir(parents=True, exist_ok=True)
-    except OSError as error:
-        raise DeskError(f"{words.folder}: {error.strerror}") from error
-    rows = [_exported(engine, words, it) for it in entries if it["current"] or words.all_versions]
-    text = io.StringIO()
-    writer = csv.DictWriter(text, LISTED, lineterminator="\n")
-    writer.writeheader()
-    writer.writerows(rows)
-    write_content(listed, text.getvalue().encode(), words.force)
-    if words.json:
-        print_json(rows)
-    else:
-        print(f"{len(rows)} documents in {words.folder}; documents.csv says which is which")
-
-
 def _subcommand(
     commands: argparse._SubParsersAction[argparse.ArgumentParser],
     common: argparse.ArgumentParser,
@@ -175,6 +189,7 @@ def add(commands: argparse._SubParsersAction[argparse.ArgumentParser], common: a
     it.add_argument("--until", metavar="DATE", help="a retention that ends then")
     it.add_argument("--mode", choices=("GOVERNANCE", "COMPLIANCE"), default="GOVERNANCE", help="its mode (GOVERNANCE)")
     it.add_argument("--hold", action="store_true", help="with a legal hold")
+    it.add_argument("--new", action="store_true", help="only if nothing is held under KEY")
     it.add_argument("--yes", action="store_true", help="don't ask")
 
     example = 'get letters "2025/002 Miller" letter.pdf'
@@ -184,12 +199,9 @@ def add(commands: argparse._SubParsersAction[argparse.ArgumentParser], common: a
     it.add_argument("--version", type=int, metavar="N", help="that version, and not the current one")
     it.add_argument("--force", action="store_true", help="write over a file that is there")
 
-    what = "write all documents of a bucket to a folder, with a list that says which is which"
-    it = _subcommand(commands, common, export, what, "export letters out --prefix 2025/")
-    it.add_argument("folder", help="gets a file for each, named by its number, and documents.csv, their inventory")
-    it.add_argument("--prefix", metavar="P", help="only keys that begin so")
-    it.add_argument("--all-versions", action="store_true", help="older versions too")
-    it.add_argument("--force", action="store_true", help="write over files that are there")
-
     it = _subcommand(commands, common, ls, "list what a bucket holds", "ls letters 2025/")
     it.add_argument("prefix", nargs="?", help="only keys that begin so")
+
+    it = _subcommand(commands, common, info, "what a document is, and what guards it now", "info letters 2025/002")
+    it.add_argument("key")
+    it.add_argument("--version", type=int, metavar="N", help="that version, and not the current one")

@@ -1,12 +1,13 @@
-"""What holds against whoever may write to the vault's file: seal, check-seals, compare.
+"""Whether the vault is sound, and what holds against whoever may write to its file: verify, seal, check-seals, compare.
 
-The answers are vault-recheck's, which shares no code with the program that writes the vault.
+The answers of all but `verify` are vault-recheck's, which shares no code with the program that writes the vault.
 """
 
 from __future__ import annotations
 
 import argparse
 import os
+import subprocess
 from collections.abc import Iterable, Sequence
 from pathlib import Path
 from typing import Any
@@ -140,8 +141,27 @@ def compare(engine: Engine, words: argparse.Namespace) -> None:
         raise DeskError(f"{counted(len(found), 'difference')}: {words.new} isn't {words.old} with what came since")
 
 
+def verify(engine: Engine, words: argparse.Namespace) -> None:
+    """Says whether the engine's audit finds the vault sound: of a copy as it is now, while a server has it."""
+    tables = engine.tables
+    done = subprocess.run([engine.desk.program, "verify", str(tables)], capture_output=True, check=False)
+    verdict = done.stdout.decode("utf-8", "replace").strip() or done.stderr.decode("utf-8", "replace").strip()
+    is_sound = done.returncode == 0 and verdict == "sound"
+    is_copy = tables != engine.desk.file
+    if words.json:
+        print_json({"sound": is_sound, "verdict": verdict, "of_a_copy": is_copy})
+    elif is_sound:
+        print("sound, by a copy of the vault as it is now" if is_copy else "sound")
+    if not is_sound:
+        raise DeskError(f"{engine.desk.file}: {verdict}: docs/ENGINE.md says what each verdict means")
+
+
 def add(commands: argparse._SubParsersAction[argparse.ArgumentParser], common: argparse.ArgumentParser) -> None:
     """Adds the subcommands to the desk's words."""
+    what = "audit the vault: each table, and each byte of content; also while a server has it"
+    it = commands.add_parser("verify", parents=[common], help=what, epilog="Example: vaultdesk verify --vault records")
+    it.set_defaults(run=verify)
+
     what = "the seal of all that happened before a moment: four lines to be deposited with somebody else"
     example = "Example: vaultdesk seal --vault records.vault --append"
     it = commands.add_parser("seal", parents=[common], help=what, epilog=example)

@@ -41,23 +41,23 @@ class _Bucket:
     def __init__(self, trial: Engine, name: str) -> None:
         self.trial = trial
         self.name = name
-        self.held, self.marked = self._now()
+        self.held, self.markers, self.marked = self._now()
 
-    def _now(self) -> tuple[dict[int, str], set[str]]:
-        """The documents by their number, newest first within a key; and the keys with a delete marker on top."""
-        held, marked = {}, set()
+    def _now(self) -> tuple[dict[int, str], dict[int, str], set[str]]:
+        """The documents and the delete markers by their numbers, newest first within a key; and the keys with a marker
+        on top."""
+        held, markers, marked = dict[int, str](), dict[int, str](), set[str]()
         for it in self.trial.entries(self.name):
-            if not it["delete_marker"]:
-                held[it["version_id"]] = it["key"]
-            elif it["current"]:
+            (markers if it["delete_marker"] else held)[it["version_id"]] = it["key"]
+            if it["delete_marker"] and it["current"]:
                 marked.add(it["key"])
-        return held, marked
+        return held, markers, marked
 
     def run(self, night: str) -> Iterator[Row]:
-        """Carries out the rules, and gives a row for each document that was marked or removed."""
+        """Carries out the rules, and gives a row for each document that was marked or removed, and each marker too."""
         if not self.trial.ask("run", bucket=self.name)["changes"]:
             return
-        held, marked = self._now()
+        held, markers, marked = self._now()
         newest = {key: version for version, key in reversed(self.held.items())}
         row = {"night": night, "bucket": self.name}
         for key in sorted(marked - self.marked):
@@ -65,7 +65,10 @@ class _Bucket:
         for version, key in self.held.items():
             if version not in held:
                 yield {**row, "what": "removed for good", "version": version, "key": key}
-        self.held, self.marked = held, marked
+        for version, key in self.markers.items():
+            if version not in markers:
+                yield {**row, "what": "marker removed", "version": version, "key": key}
+        self.held, self.markers, self.marked = held, markers, marked
 
 
 def foreseen(engine: Engine, buckets: Sequence[str], last: str, more: Sequence[Rule] = ()) -> list[Row]:

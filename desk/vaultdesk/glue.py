@@ -3,16 +3,19 @@
 from __future__ import annotations
 
 import argparse
+import functools
 import grp
 import os
 import re
 import subprocess
 import time
+from collections.abc import Callable
 from pathlib import Path
 
 from vaultdesk import conf
 from vaultdesk.closing import end
 from vaultdesk.errors import DeskError
+from vaultdesk.output import print_done
 from vaultdesk.units import Busy, Served, systemctl
 
 PROCESSES = Path("/proc")
@@ -119,7 +122,8 @@ def stopped(words: argparse.Namespace) -> int:
             verdict = served.verdict(served.file)
     except Busy:
         return 0
-    print(verdict)
+    if not words.json:
+        print(verdict)
     return 0 if verdict == "sound" else 1
 
 
@@ -160,6 +164,13 @@ KINDS = {
 }
 
 
+def _done(do: Callable[[argparse.Namespace], int], words: argparse.Namespace) -> int:
+    """Does what a unit asks for, and where JSON is asked for, prints what came of it."""
+    status = do(words)
+    print_done(words.json, asked=words.kind, name=words.name, status=status)
+    return status
+
+
 def add(commands: argparse._SubParsersAction[argparse.ArgumentParser], common: argparse.ArgumentParser) -> None:
     """Adds the subcommands to the desk's words."""
     what = "what the units of a vault ask for: started, stop, stopped, failed"
@@ -168,6 +179,7 @@ def add(commands: argparse._SubParsersAction[argparse.ArgumentParser], common: a
     kinds = made.add_subparsers(dest="kind", required=True, metavar="KIND")
     for kind, (do, text) in KINDS.items():
         named = "vault-run@records" if kind == "failed" else "records"
-        it = kinds.add_parser(kind, help=text, epilog=f"Example: vaultdesk unit {kind} {named}")
+        example = f"Example: vaultdesk unit {kind} {named}"
+        it = kinds.add_parser(kind, parents=[common], help=text, epilog=example)
         it.add_argument("name", metavar="UNIT" if kind == "failed" else "NAME", help="given by systemd")
-        it.set_defaults(do=do)
+        it.set_defaults(do=functools.partial(_done, do))

@@ -19,7 +19,7 @@ from typing import Any
 from vaultdesk.engine import Engine
 from vaultdesk.errors import EngineError, Refused
 from vaultdesk.items import Item
-from vaultdesk.output import say, say_while_long
+from vaultdesk.output import counted_off, say, say_while_long
 from vaultdesk.refusals import meaning
 
 ROW = re.compile(r"(\d+) (admitted|again|refused) (\S+)")
@@ -40,14 +40,16 @@ def taken_in(engine: Engine, words: argparse.Namespace, items: Sequence[Item]) -
     """Has the engine take in these items."""
     engine.look_at_date()
     say_while_long(f"vaultctl takes in {len(items):,} rows: some seconds for each 100 MB that come or are there")
-    return _by_lines(engine, words, items) if engine.is_served else _by_program(engine, words, items)
+    # The engine's own intake takes files of the folder itself alone.
+    by_lines = engine.is_served or any("/" in it.file for it in items if not it.is_out)
+    return _by_lines(engine, words, items) if by_lines else _by_program(engine, words, items)
 
 
 def results(intake: Intake, items: Sequence[Item]) -> Iterator[Row]:
     """What became of each item that wasn't left out, as far as the engine came."""
     for line in intake.lines:
         found = ROW.fullmatch(line)
-        if found and not items[int(found[1]) - 1].wrong:
+        if found and not items[int(found[1]) - 1].is_out:
             it = items[int(found[1]) - 1]
             cause = intake.causes.get(it.number, "") if found[2] == "refused" else ""
             row: Row = {"row": it.number, "file": it.file, "key": it.key}
@@ -64,12 +66,26 @@ def _write_list(path: Path, items: Sequence[Item]) -> None:
         writer = csv.writer(file, lineterminator="\n")
         writer.writerow(("file", "key", "mode", "until", "hold"))
         for it in items:
-            writer.writerow(("",) * 5 if it.wrong else (it.file, it.key, it.mode, it.until, it.hold))
+            writer.writerow(("",) * 5 if it.is_out else (it.file, it.key, it.mode, it.until, it.hold))
 
 
 def _cause(items: Sequence[Item], number: int, words: str) -> str:
     """The cause of a refused row, without the file's name, which is beside it."""
     return words.removeprefix(f"{items[number - 1].file}: ")
+
+
+def _ran(command: Sequence[str], count: int) -> tuple[int, list[str], list[str]]:
+    """The status of the engine's intake, its lines, and what it says on standard error."""
+    how: dict[str, Any] = {"encoding": "utf-8", "errors": "replace"}
+    with tempfile.TemporaryFile("w+", **how) as said:
+        try:
+            with subprocess.Popen(command, stdout=subprocess.PIPE, stderr=said, **how) as child:
+                assert child.stdout
+                lines = [it.removesuffix("\n") for it in counted_off(child.stdout, "rows were taken in", count)]
+        except OSError as error:
+            raise EngineError(f"{command[0]}: {error.strerror}") from error
+        said.seek(0)
+        return child.returncode, lines, said.read().split("\n")
 
 
 def _by_program(engine: Engine, words: argparse.Namespace, items: Sequence[Item]) -> Intake:
@@ -80,20 +96,17 @@ def _by_program(engine: Engine, words: argparse.Namespace, items: Sequence[Item]
         command = [engine.desk.program, "intake", str(engine.desk.file), words.bucket, words.batch, str(listed)]
         command += [words.folder, "--as", engine.desk.caller]
         command += ["--at", engine.at] if engine.at else []
-        try:
-            done = subprocess.run(command, capture_output=True, encoding="utf-8", errors="replace", check=False)
-        except OSError as error:
-            raise EngineError(f"{engine.desk.program}: {error.strerror}") from error
+        status, lines, told = _ran(command, len(items))
     causes = {}
-    for line in done.stderr.split("\n"):
+    for line in told:
         found = CAUSE.fullmatch(line)
         if found:
             causes[int(found[1])] = _cause(items, int(found[1]), found[2])
         elif line:
             say(line)
-    if done.returncode not in (0, 1):
-        raise EngineError(f"the intake wasn't begun: status {done.returncode}")
-    return Intake(done.stdout.split("\n")[:-1], causes)
+    if status not in (0, 1):
+        raise EngineError(f"the intake wasn't begun: status {status}")
+    return Intake(lines, causes)
 
 
 # ---- line by line
@@ -115,8 +128,8 @@ def _line_of(words: argparse.Namespace, it: Item) -> dict[str, Any]:
 def _by_lines(engine: Engine, words: argparse.Namespace, items: Sequence[Item]) -> Intake:
     """The lines are those that the program would print."""
     lines, causes = [], {}
-    for it in items:
-        if it.wrong:
+    for it in counted_off(items, "rows were taken in"):
+        if it.is_out:
             continue
         try:
             done = engine.ask("intake", **_line_of(words, it))

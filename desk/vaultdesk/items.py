@@ -4,6 +4,7 @@ from __future__ import annotations
 
 import datetime as dt
 import hashlib
+import os
 import unicodedata
 from collections import Counter
 from collections.abc import Mapping, Sequence
@@ -13,6 +14,7 @@ from pathlib import Path
 from vaultdesk import inventory, moments
 from vaultdesk.documents import MOST
 from vaultdesk.errors import DeskError, UsageError
+from vaultdesk.limits import Limits, why_outside
 
 LONGEST_KEY = 1_024  # bytes of UTF-8
 MOST_YEARS = 1_000  # of a class
@@ -24,7 +26,9 @@ HOLDS = ("", "ON", "OFF")
 class Item:
     """A row of a delivery, and what was found of it: what is wrong has it left out, a note doesn't.
 
-    `is_far`: its retention ends in more than thirty years; `is_doubled`: the vault holds its content already."""
+    `is_far`: its retention ends in more than thirty years; `is_doubled`: the vault holds its content already;
+    `is_second`: an earlier row of the delivery has the same one; `is_skipped`: it is left out for one of the two;
+    `is_above`: the bucket holds a document of its key already."""
 
     number: int
     file: str
@@ -35,8 +39,16 @@ class Item:
     digest: str = ""
     is_far: bool = False
     is_doubled: bool = False
+    is_second: bool = False
+    is_above: bool = False
+    is_skipped: bool = False
     wrong: list[str] = field(default_factory=list)
     notes: list[str] = field(default_factory=list)
+
+    @property
+    def is_out(self) -> bool:
+        """Whether it isn't taken in."""
+        return bool(self.wrong) or self.is_skipped
 
 
 @dataclass(frozen=True)
@@ -107,10 +119,17 @@ def look_at_words(it: Item, now: str) -> None:
         it.notes.append(f"the retention ends in more than {moments.FAR} years: {it.until}")
 
 
+def look_at_limits(it: Item, given: Limits, bucket: str, now: str) -> None:
+    """What is wrong with the end of an item's retention by the limits of the settings."""
+    why = why_outside(given, bucket, it.until, now) if it.until else ""
+    if why:
+        it.wrong.append(why)
+
+
 def look_at_file(it: Item, folder: Path, names: Mapping[str, str]) -> None:
     """What is wrong with an item's file; its digest where nothing is."""
-    if "/" in it.file or it.file in ("", ".", ".."):
-        it.wrong.append("a file's name is that of a file of the folder itself")
+    if it.file.startswith("/") or not {"", ".", ".."}.isdisjoint(it.file.split("/")):
+        it.wrong.append("a file's name is that of a file of the folder itself, or its path from there")
         return
     name = names.get(it.file) or names.get(unicodedata.normalize("NFC", it.file))
     if name is None:
@@ -139,7 +158,10 @@ def look_at_doubles(items: Sequence[Item], held: frozenset[str]) -> None:
     """What comes twice: within the delivery, or in the vault already."""
     keys = Counter(it.key for it in items)
     digests = Counter(it.digest for it in items if it.digest)
+    earlier = set[str]()
     for it in items:
+        it.is_second = bool(it.digest) and it.digest in earlier
+        earlier.add(it.digest)
         if keys[it.key] > 1:
             it.notes.append("the key comes more than once in this delivery")
         if it.digest and digests[it.digest] > 1:
@@ -149,10 +171,35 @@ def look_at_doubles(items: Sequence[Item], held: frozenset[str]) -> None:
             it.notes.append("the vault holds the same content already")
 
 
-def names_of(folder: Path) -> dict[str, str]:
-    """The names in the folder, by themselves and by their composed form."""
-    try:
-        names = [it.name for it in folder.iterdir()]
-    except OSError as error:
-        raise DeskError(f"{folder}: {error.strerror}") from error
-    return {unicodedata.normalize("NFC", it): it for it in names} | {it: it for it in names}
+def look_at_keys(items: Sequence[Item], held: frozenset[str]) -> None:
+    """Which items become one more version of a document that the bucket holds."""
+    for it in items:
+        it.is_above = it.key in held
+        if it.is_above:
+            it.notes.append("the bucket holds that key already: it gets one more version")
+
+
+def skip_doubles(items: Sequence[Item]) -> int:
+    """Leaves out what the vault holds already, and what comes a second time; how many these are."""
+    for it in items:
+        it.is_skipped = not it.wrong and (it.is_doubled or it.is_second)
+    return sum(it.is_skipped for it in items)
+
+
+def files_of(folder: Path) -> list[str]:
+    """The paths of all files below a folder, from there; no link to a folder is followed.
+
+    `DeskError` where a folder can't be read."""
+
+    def fail(error: OSError) -> None:
+        raise DeskError(f"{error.filename}: {error.strerror}") from error
+
+    found = []
+    for place, _, names in os.walk(folder, onerror=fail):
+        found += [str((Path(place) / it).relative_to(folder)) for it in names]
+    return sorted(found)
+
+
+def names_of(files: Sequence[str]) -> dict[str, str]:
+    """The paths of files, by themselves and by their composed form."""
+    return {unicodedata.normalize("NFC", it): it for it in files} | {it: it for it in files}

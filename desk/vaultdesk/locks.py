@@ -8,12 +8,12 @@ import functools
 from collections.abc import Callable, Mapping, Sequence
 from typing import Any
 
-from vaultdesk import moments
+from vaultdesk import limits, moments
 from vaultdesk.asking import add_yes, confirm
 from vaultdesk.cases import HOLD, RELEASE, Cases, Note, check_name, file_beside
 from vaultdesk.engine import Engine
 from vaultdesk.errors import DeskError, Refused, UsageError
-from vaultdesk.output import print_json, print_rows
+from vaultdesk.output import counted_off, print_json, print_rows
 from vaultdesk.targets import Target, add_targets, targets
 
 COLUMNS = ("bucket", "version", "was", "is", "refused", "key")
@@ -38,7 +38,7 @@ def lock_text(head: Mapping[str, Any]) -> str:
 def _each(found: Sequence[Target], change: Change) -> list[Row]:
     """The row of each target; what is refused has its refusal in its row, and those after it are tried all the same."""
     rows: list[Row] = []
-    for it in found:
+    for it in counted_off(found, "versions were come to"):
         row: Row = {"bucket": it.bucket, "key": it.key, "version": it.version or "current", "was": "", "is": ""}
         row["refused"] = ""
         try:
@@ -159,8 +159,10 @@ def release(engine: Engine, words: argparse.Namespace) -> None:
 def retain(engine: Engine, words: argparse.Namespace) -> None:
     """Sets a retention on each version that is meant."""
     until = moments.read(words.until)
-    found = targets(engine, words)
-    far = moments.is_far(until, engine.at or moments.now())
+    found, now = targets(engine, words), engine.at or moments.now()
+    for bucket in sorted({it.bucket for it in found}):
+        limits.look(engine.desk.limits, bucket, until, now)
+    far = moments.is_far(until, now)
     if (words.mode == "COMPLIANCE" or far) and not words.dry_run:
         who = "anybody" if words.mode == "COMPLIANCE" else "whoever has no right to bypass"
         confirm(words, f"{len(found)} versions can't be removed by {who} before {until}")

@@ -9,7 +9,7 @@ from vaultdesk import reading
 from vaultdesk.asking import add_yes, confirm
 from vaultdesk.engine import Engine
 from vaultdesk.errors import DeskError, UsageError
-from vaultdesk.output import print_json, print_table
+from vaultdesk.output import print_done, print_table
 
 # Each right and its number in the column of rights.
 RIGHTS = {
@@ -40,6 +40,7 @@ def departments(engine: Engine, words: argparse.Namespace) -> None:
     """Lists the departments with what they hold, or adds one."""
     if words.add:
         engine.ask("add-dept", dept=words.add)
+        print_done(words.json, department=words.add, done="added")
         return
     statement = "SELECT name, admitted + received, held, removed FROM departments ORDER BY name"
     found = reading.rows(engine.tables, statement)
@@ -49,15 +50,17 @@ def departments(engine: Engine, words: argparse.Namespace) -> None:
 
 def _move(engine: Engine, words: argparse.Namespace) -> None:
     """Moves a bucket with all that it holds to another department."""
+    goes = {"bucket": words.move, "department": words.department}
     if words.dry_run:
-        print(f"{words.move} would go to {words.department}")
+        if not words.json:
+            print(f"{words.move} would go to {words.department}")
+        print_done(words.json, **goes, done="would be moved")
         return
     confirm(words, f"{words.move} is of {words.department} from now on, and counts against its quota")
     moved = engine.ask("move-bucket", bucket=words.move, dept=words.department)["bytes"]
-    if words.json:
-        print_json({"bucket": words.move, "department": words.department, "bytes": moved})
-    else:
+    if not words.json:
         print(f"{moved:,} bytes went with {words.move} to {words.department}")
+    print_done(words.json, **goes, bytes=moved, done="moved")
 
 
 def buckets(engine: Engine, words: argparse.Namespace) -> None:
@@ -69,6 +72,7 @@ def buckets(engine: Engine, words: argparse.Namespace) -> None:
         return
     if words.add:
         engine.ask("add-bucket", bucket=words.add, dept=words.department)
+        print_done(words.json, bucket=words.add, department=words.department, done="added")
         return
     columns = ("bucket", "department", "documents", "bytes", "markers", "rules")
     found = reading.rows(engine.tables, BUCKETS)
@@ -103,10 +107,13 @@ def _close(engine: Engine, words: argparse.Namespace) -> None:
     if found and not reading.rows(engine.tables, statement, (words.close,)):
         raise DeskError(f"{words.close} is the last caller with the right admin: nobody could add another")
     if words.dry_run:
-        print(f"{words.close} would be closed")
+        if not words.json:
+            print(f"{words.close} would be closed")
+        print_done(words.json, caller=words.close, done="would be closed")
         return
     confirm(words, f"{words.close} is closed for good")
     engine.ask("close-caller", caller=words.close)
+    print_done(words.json, caller=words.close, done="closed")
 
 
 def _add_caller(engine: Engine, words: argparse.Namespace) -> None:
@@ -114,6 +121,7 @@ def _add_caller(engine: Engine, words: argparse.Namespace) -> None:
     if not words.department and words.rights != ["admin"]:
         raise UsageError("a caller without a department can do nothing in any bucket: give --department")
     engine.ask("add-caller", caller=words.add, dept=words.department, rights=words.rights)
+    print_done(words.json, caller=words.add, department=words.department, rights=words.rights, done="added")
 
 
 def add(commands: argparse._SubParsersAction[argparse.ArgumentParser], common: argparse.ArgumentParser) -> None:

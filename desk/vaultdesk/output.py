@@ -4,8 +4,12 @@ from __future__ import annotations
 
 import json
 import sys
-from collections.abc import Mapping, Sequence
-from typing import Any
+import time
+from collections.abc import Iterable, Iterator, Mapping, Sequence, Sized
+from typing import Any, TypeVar
+
+EACH = 2.0  # seconds between two lines that say how far a subcommand has come
+It = TypeVar("It")
 
 
 def shown(text: str) -> str:
@@ -53,7 +57,25 @@ def print_table(rows: Sequence[Mapping[str, Any]], columns: Sequence[str], as_js
         print_rows(rows, columns)
 
 
+def print_done(as_json: bool, **what: Any) -> None:
+    """Prints what a subcommand did that says nothing to people, where JSON is asked for."""
+    if as_json:
+        print_json(what)
+
+
 def say_while_long(text: str) -> None:
     """A line for a person at a terminal, before what may take long."""
     if sys.stderr.isatty():
         say(text)
+
+
+def counted_off(items: Iterable[It], what: str, count: int | None = None) -> Iterator[It]:
+    """The items one by one; every two seconds a line says how many are done, for a person at a terminal.
+
+    `count` is how many they are, where they are none that can be counted."""
+    last, count = time.monotonic(), len(items) if isinstance(items, Sized) else count
+    for number, it in enumerate(items):
+        if time.monotonic() - last >= EACH:
+            last = time.monotonic()
+            say_while_long(f"{number:,} of {count:,} {what}")
+        yield it

@@ -3,15 +3,16 @@
 from __future__ import annotations
 
 import argparse
+from collections.abc import Iterator, Sequence
 from typing import Any
 
-from vaultdesk import moments, reading
+from vaultdesk import limits, moments, reading
 from vaultdesk.asking import add_yes, confirm
 from vaultdesk.engine import Engine
 from vaultdesk.errors import DeskError, UsageError
 from vaultdesk.forecast import COLUMNS as FORESEEN
 from vaultdesk.forecast import Rule, foreseen, rules_of, set_rules
-from vaultdesk.output import print_json, print_table, say
+from vaultdesk.output import print_done, print_json, print_table, say
 
 COLUMNS = ("id", "enabled", "prefix", "above", "below", "expires", "noncurrent", "keeps", "lone markers")
 
@@ -24,11 +25,19 @@ def default_text(found: dict[str, Any] | None) -> str:
     return f"{found['mode']} for {found[unit]} {unit}"
 
 
+def _look_period(engine: Engine, words: argparse.Namespace) -> None:
+    """`UsageError` where the settings have other limits for the bucket."""
+    count, unit = (words.days, "day") if words.years is None else (words.years, "year")
+    now = engine.at or moments.now()
+    limits.look(engine.desk.limits, words.bucket, limits.Period(count, unit).after(now), now)
+
+
 def default(engine: Engine, words: argparse.Namespace) -> None:
     """Sets, clears or prints the retention that later versions of a bucket get."""
     if words.none:
         engine.ask("set-default", bucket=words.bucket)
     elif words.years is not None or words.days is not None:
+        _look_period(engine, words)
         engine.ask("set-default", bucket=words.bucket, mode=words.mode, days=words.days, years=words.years)
     found = engine.ask("get-default", bucket=words.bucket)["default"]
     if words.json:
@@ -93,7 +102,9 @@ def add_rule(engine: Engine, words: argparse.Namespace) -> None:
     rules = rules_of(engine, words.bucket)
     if any(it["ID"] == words.id for it in rules):
         raise DeskError(f"the bucket has a rule {words.id!r} already: remove it first")
-    set_rules(engine, words.bucket, [*rules, rule_of(words)])
+    rule = rule_of(words)
+    set_rules(engine, words.bucket, [*rules, rule])
+    print_done(words.json, bucket=words.bucket, rule=rule, done="added")
 
 
 def remove_rule(engine: Engine, words: argparse.Namespace) -> None:
@@ -103,6 +114,7 @@ def remove_rule(engine: Engine, words: argparse.Namespace) -> None:
     if len(left) == len(rules):
         raise DeskError(f"the bucket has no rule {words.id!r}")
     set_rules(engine, words.bucket, left)
+    print_done(words.json, bucket=words.bucket, rule=words.id, done="removed")
 
 
 def try_rules(engine: Engine, words: argparse.Namespace) -> None:
@@ -112,6 +124,14 @@ def try_rules(engine: Engine, words: argparse.Namespace) -> None:
     print_table(rows, FORESEEN, words.json)
 
 
+def _carried_out(engine: Engine, buckets: Sequence[str]) -> Iterator[dict[str, Any]]:
+    """Carries out the rules of each bucket, and says what they did."""
+    for it in buckets:
+        done = engine.ask("run", bucket=it)
+        say(f"{it}: {done['marked']} marked, {done['removed']} removed, {done['lone']} lone markers")
+        yield {"bucket": it, **done}
+
+
 def expire(engine: Engine, words: argparse.Namespace) -> None:
     """Says what the rules of a department's buckets will do, asks, and carries them out."""
     statement = "SELECT DISTINCT bucket FROM rules JOIN buckets ON bucket = name WHERE dept = ? ORDER BY bucket"
@@ -119,14 +139,18 @@ def expire(engine: Engine, words: argparse.Namespace) -> None:
     if not buckets:
         raise DeskError(f"no bucket of {words.department!r} has rules")
     until = moments.read(words.until) if words.until else engine.at or moments.now()
-    rows = foreseen(engine, buckets, until)
-    print_table(rows, FORESEEN, words.json)
-    if words.dry_run or not rows:
-        return
-    confirm(words, f"the rules of {len(buckets)} buckets are carried out as of this moment")
-    for it in buckets:
-        done = engine.ask("run", bucket=it)
-        say(f"{it}: {done['marked']} marked, {done['removed']} removed, {done['lone']} lone markers")
+    rows, done = foreseen(engine, buckets, until), list[dict[str, Any]]()
+    if not words.json:
+        print_table(rows, FORESEEN, as_json=False)
+    if not rows:
+        say(f"nothing is due up to {until}")
+    try:
+        if rows and not words.dry_run:
+            confirm(words, f"the rules of {len(buckets)} buckets are carried out as of this moment")
+            done += _carried_out(engine, buckets)
+    finally:
+        if words.json:
+            print_json({"foreseen": rows, "done": done})
 
 
 def _add_rule_words(it: argparse.ArgumentParser, id_needed: bool) -> None:

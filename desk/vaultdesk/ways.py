@@ -14,7 +14,9 @@ from typing import IO, Any, Protocol
 
 from vaultdesk import moments
 from vaultdesk.errors import EngineError
+from vaultdesk.output import say_while_long
 
+LARGE = 50_000_000  # bytes of a file whose audit takes a person's time
 MOST_SAID = 1_048_576  # bytes of what the engine says of refused lines that are kept
 Line = Mapping[str, Any]
 
@@ -95,6 +97,7 @@ class Replay:
         return reply
 
     def _start(self) -> subprocess.Popen[str]:
+        self._say_if_large()
         self._said = tempfile.TemporaryFile("w+", encoding="utf-8", errors="replace")
         words = [self.program, "replay", str(self.file)]
         try:
@@ -105,6 +108,12 @@ class Replay:
         except OSError as error:
             raise missing(self.program, error) from error
         return self._child
+
+    def _say_if_large(self) -> None:
+        with contextlib.suppress(OSError):
+            size = self.file.stat().st_size
+            if size >= LARGE:
+                say_while_long(f"{self.file} has {size / 1e6:,.0f} MB, all of which is audited as it is opened")
 
     def _forget_said(self) -> None:
         """Lets go of what was said of lines long ago: an engine that is open for months would fill the disk."""

@@ -14,7 +14,8 @@ from typing import Any
 from vaultdesk import moments, reading, spreadsheet
 from vaultdesk.engine import Engine
 from vaultdesk.errors import DeskError, Refused, UsageError
-from vaultdesk.output import print_json, print_table, say
+from vaultdesk.history import number
+from vaultdesk.output import counted_off, print_json, print_table, say
 
 Row = dict[str, str]
 COLUMNS = (
@@ -86,7 +87,8 @@ def certificates(engine: Engine, words: argparse.Namespace) -> None:
     texts = []
     try:
         folder.mkdir(parents=True, exist_ok=True)
-        for path, text in zip(paths, _certified(engine, rows, callers), strict=True):
+        certified = counted_off(_certified(engine, rows, callers), "certificates", len(rows))
+        for path, text in zip(paths, certified, strict=True):
             path.write_bytes(text.encode())
             texts.append(f"<pre>{html.escape(text)}</pre>")
         page.write_text(PAGE.format("\n".join(texts)), encoding="utf-8")
@@ -96,6 +98,21 @@ def certificates(engine: Engine, words: argparse.Namespace) -> None:
         print_json([it["version"] for it in rows])
     else:
         print(f"{len(rows)} certificates in {folder}")
+
+
+def certificate(engine: Engine, words: argparse.Namespace) -> None:
+    """Prints the certificate of one removed version, by its number alone."""
+    statement = "SELECT bucket, id, removed FROM entries WHERE id = ?"
+    found = reading.rows(engine.tables, statement, (words.number,))
+    if not found or found[0][2] is None:
+        what = "is held still" if found else "was never there"
+        raise DeskError(f"version {words.number} {what}: a certificate is of a removed version")
+    row = {"bucket": str(found[0][0]), "version": words.number}
+    [text] = _certified(engine, [row], _callers(engine) if words.any_caller else {})
+    if words.json:
+        print_json({**row, "text": text})
+    else:
+        print(text, end="")
 
 
 def _print_csv(rows: Iterable[Mapping[str, Any]], columns: Sequence[str]) -> None:
@@ -185,6 +202,11 @@ def add(commands: argparse._SubParsersAction[argparse.ArgumentParser], common: a
     it.add_argument("--before", metavar="DATE", help="only of earlier removals")
     it.add_argument("--any-caller", action="store_true", help="ask as a caller of each bucket's own department")
     it.add_argument("--force", action="store_true", help="write over files that are there")
+
+    texts = ("the certificate of one removed version", "vaultdesk certificate 17 --as ann")
+    it = _subcommand(commands, common, "certificate", certificate, texts)
+    it.add_argument("number", type=number, metavar="N", help="the version's number, as find and the register print it")
+    it.add_argument("--any-caller", action="store_true", help="ask as a caller of the bucket's own department")
 
     texts = ("the register of removals, also as a spreadsheet", "vaultdesk register --xlsx register.xlsx")
     it = _subcommand(commands, common, "register", print_register, texts)

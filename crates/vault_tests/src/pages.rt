@@ -24,13 +24,13 @@ pub struct Filling {
 pub const FILLINGS: [Filling; 2] = [
     Filling {
         before: "{\"at\":\"2024-03-01T00:00:00Z\",\"as\":\"ann\",\"do\":\"put\",\"bucket\":\"docs\",\"key\":\"k",
-        between: "\",\"text\":\"x\"}\n {\"ok\":{\"version_id\":",
+        between: "\",\"text\":\"x\"}\n  {\"ok\":{\"version_id\":",
         behind: "}}\n",
         change: "next id\nadmit\n",
     },
     Filling {
         before: "{\"at\":\"2024-03-01T00:00:00Z\",\"as\":\"ann\",\"do\":\"delete\",\"bucket\":\"docs\",\"key\":\"k",
-        between: "\"}\n {\"ok\":{\"delete_marker\":true,\"version_id\":",
+        between: "\"}\n  {\"ok\":{\"delete_marker\":true,\"version_id\":",
         behind: "}}\n",
         change: "remove\n",
     },

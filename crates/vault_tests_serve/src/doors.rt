@@ -6,12 +6,14 @@ use std::alloc::Global;
 use std::cell::Cell;
 use std::test::Fail;
 use std::time::Duration;
+use vault_base::moment::Moment;
 use vault_core::fuse_keeper::FuseKeeper;
 use vault_core_model::keeper::Keeper;
 use vault_transcript::transcript::opened;
 use vaultctl_serve_lines::doors::{Arrived, Doors, Heard};
 use vaultctl_serve_lines::line::Next;
 use vaultctl_serve_lines::serve_doors;
+use vaultctl_serve_lines::service::Service;
 
 /// 2024-01-15T10:30:00Z.
 const READING: i64 = 1_705_314_600;
@@ -35,6 +37,8 @@ const GOT: &str =
 const PUT: &str = r#"{"as":"ann","do":"put","bucket":"docs","key":"a","text":"hello"}"#;
 
 const STORED: &str = "{\"ok\":{\"version_id\":1}}\n";
+
+const STATUS: &str = r#"{"as":"registrar","do":"status"}"#;
 
 /// What comes in a turn.
 #[derive(Clone, Copy)]
@@ -148,7 +152,12 @@ fn serve<K: Keeper>(
         kept: 0,
         alloc,
     };
-    let next = serve_doors(&clock, alloc, &mut doors, keeper, n, &mut reports);
+    let service = Service {
+        alloc,
+        version: "1.2 (schema 3)",
+        since: Moment::from_secs(READING - 60),
+    };
+    let next = serve_doors(&clock, &service, &mut doors, keeper, n, &mut reports);
     let (left, kept) = (doors.turns.len(), doors.kept);
     drop(doors);
     Ok(Served {
@@ -197,6 +206,47 @@ fn lines_between_requests(rt: HostRuntime) -> Result<(), Fail> {
     Ok(())
 }
 
+/// How things are is for a caller with the right to administer: how many entries there were, when the last change was, when
+/// the server began, and which program it is. Such a line has no other member, and changes nothing.
+#[test]
+fn how_things_are(rt: HostRuntime) -> Result<(), Fail> {
+    let alloc = rt.alloc();
+    let mut keeper = opened(alloc)?;
+    let turns = [
+        Coming::Line(PUT),
+        Coming::Line(STATUS),
+        Coming::Line(r#"{"as":"ann","do":"status"}"#),
+        Coming::Line(r#"{"as":"zoe","do":"status"}"#),
+        Coming::Line(r#"{"as":"","do":"status"}"#),
+        Coming::Line(r#"{"as":"registrar","do":"status","dept":"records"}"#),
+        Coming::Line(r#"{"as":"registrar","do":"statu"}"#),
+        Coming::Last("{\"do\":\"status\",\"as\":\"registrar\"}\r"),
+    ];
+    let served = serve(alloc, &mut keeper, &turns, 0, 8)?;
+    let stated =
+        "{\"ok\":{\"entries\":1,\"failures\":0,\"last\":\"2024-01-15T10:30:00Z\",\"since\":\"2024-01-15T10:29:00Z\",\"version\":\"1.2 (schema 3)\"}}\n";
+    let unknown = "{\"error\":{\"code\":\"AccessDenied\",\"n\":3,\"reason\":\"unknown-caller\"}}\n";
+    let malformed = "{\"error\":{\"code\":\"MalformedBody\",\"n\":12}}\n";
+    let wanted = [
+        STORED,
+        stated,
+        "{\"error\":{\"code\":\"AccessDenied\",\"n\":3,\"reason\":\"right:admin\"}}\n",
+        unknown,
+        unknown,
+        malformed,
+        malformed,
+        stated,
+    ];
+    let mut all = String::new(alloc);
+    for text in &wanted {
+        all.push_str(text)?;
+    }
+    assert_eq!(rt; served.taken.as_str(), all.as_str());
+    assert!(rt; served.next == Next::On);
+    assert_eq!(rt; served.kept, 7);
+    Ok(())
+}
+
 /// Turns in which nothing came don't count. After a last line without LF, the connection isn't kept; a CR alone is no empty
 /// line there.
 #[test]
@@ -239,11 +289,16 @@ fn a_reply_that_is_not_taken(rt: HostRuntime) -> Result<(), Fail> {
 fn a_device_that_fails(rt: HostRuntime) -> Result<(), Fail> {
     let alloc = rt.alloc();
     let mut keeper = FuseKeeper::new(FuseKeeper::new(opened(alloc)?, 0), 0);
-    let turns = [Coming::Line(PUT), Coming::Line(PUT), Coming::Line(PUT)];
-    let served = serve(alloc, &mut keeper, &turns, 0, 3)?;
+    let turns = [
+        Coming::Line(PUT),
+        Coming::Line(PUT),
+        Coming::Line(PUT),
+        Coming::Line(STATUS),
+    ];
+    let served = serve(alloc, &mut keeper, &turns, 0, 4)?;
     assert_eq!(rt;
         served.taken.as_str(),
-        "{\"error\":{\"code\":\"Device\",\"n\":23}}\n{\"error\":{\"code\":\"Device\",\"n\":23}}\n{\"ok\":{\"version_id\":1}}\n"
+        "{\"error\":{\"code\":\"Device\",\"n\":23}}\n{\"error\":{\"code\":\"Device\",\"n\":23}}\n{\"ok\":{\"version_id\":1}}\n{\"ok\":{\"entries\":1,\"failures\":2,\"last\":\"2024-01-15T10:30:00Z\",\"since\":\"2024-01-15T10:29:00Z\",\"version\":\"1.2 (schema 3)\"}}\n"
     );
     assert_eq!(rt;
         served.reports.as_slice(),

@@ -149,9 +149,16 @@ impl<W: Write> Journal<W> {
     /// A command that changed the vault becomes a line that asks for it. One whose change no line makes again ends the
     /// journal, and nothing is written from then on. After an error a beginning of the line may be written, and the
     /// journal lacks that change.
-    pub fn note(&mut self, alloc: Global, timed: &Timed, reply: &Reply) -> Result<(), JournalFault>
-        ensures ok { OnOk result (IsNoted self.old.has_ended self.new.has_ended (W.contents self.old.writer) (W.contents self.new.writer) timed.now reply.now) }
-        ensures err { OnErr result (Begun self.old.has_ended self.new.has_ended (W.contents self.old.writer) (W.contents self.new.writer) timed.now reply.now) }
+    pub fn note(
+        &mut self,
+        alloc: Global,
+        at: Moment,
+        who: &CallerName,
+        command: &Command,
+        reply: &Reply,
+    ) -> Result<(), JournalFault>
+        ensures ok { OnOk result (IsNoted self.old.has_ended self.new.has_ended (W.contents self.old.writer) (W.contents self.new.writer) (timed at who.now command.now) reply.now) }
+        ensures err { OnErr result (Begun self.old.has_ended self.new.has_ended (W.contents self.old.writer) (W.contents self.new.writer) (timed at who.now command.now) reply.now) }
     {
         if self.has_ended || !is_change(reply) {
             return Ok(());

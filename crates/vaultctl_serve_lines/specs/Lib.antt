@@ -1,3 +1,6 @@
+pub mod Answered
+pub mod Asked
+pub mod Asking
 pub mod Closing
 pub mod Doors
 pub mod Hearing

@@ -10,6 +10,7 @@ use crate::fault::DoorFault;
 use crate::line::Next;
 use crate::line_door::LineListener;
 use crate::place::LinePlace;
+use crate::service::Service;
 use crate::turns::serve_doors;
 use crate::two_doors::TwoDoors;
 use std::alloc::Global;
@@ -18,8 +19,9 @@ use std::io;
 use std::net::{Ipv4Addr, Net, TcpListener, TcpStream};
 use std::time::Clock;
 use vault_core_model::keeper::Keeper;
+use vaultctl_serve::clock::now;
 
-/// What is served, and where.
+/// What is served, where, and by which program.
 #[derive(Clone, Copy)]
 pub struct Places<'a> {
     /// The vault's file.
@@ -28,6 +30,8 @@ pub struct Places<'a> {
     pub port: u16,
     /// Where lines come in.
     pub lines: LinePlace<'a>,
+    /// The version of the program, which it says where it is asked how things are.
+    pub version: &'static str,
 }
 
 /// The listener of requests, at which no accept waits.
@@ -89,6 +93,11 @@ pub fn serve_with_lines<
         Err(fault) => return Err(fault),
     };
     reporter.listening_at_both(places.file, places.port, places.lines);
+    let service = Service {
+        alloc,
+        version: places.version,
+        since: now(rt),
+    };
     let mut doors = TwoDoors {
         clock: rt,
         alloc,
@@ -97,5 +106,5 @@ pub fn serve_with_lines<
         talk: None,
         line_was_last: false,
     };
-    Ok(serve_doors(rt, alloc, &mut doors, keeper, count, reporter))
+    Ok(serve_doors(rt, &service, &mut doors, keeper, count, reporter))
 }

@@ -2,6 +2,8 @@
 //! and each turn is at most one request or one line.
 #![tactic(auto)]
 
+pub mod asked;
+pub mod asking;
 mod both;
 pub mod door_reporter;
 pub mod doors;
@@ -10,6 +12,7 @@ pub mod hearing;
 pub mod line;
 mod line_door;
 mod place;
+pub mod service;
 mod talk;
 mod turns;
 mod two_doors;

@@ -9,7 +9,7 @@ ghost use Rattle.vaultctl_serve_lines.specs.Doors.{most_of, SteppedWithin, turn_
 
 use crate::doors::{Arrived, Doors, Heard};
 use crate::line::{Next, serve_line};
-use std::alloc::Global;
+use crate::service::Service;
 use std::time::{Clock, Instant};
 use vault_core_model::keeper::Keeper;
 use vaultctl_replay::ReplayFault;
@@ -37,7 +37,7 @@ pub enum Turn {
 /// Then nothing was carried out.
 fn answer_talker<C: Clock, P: Peer, K: Keeper>(
     clock: &C,
-    alloc: Global,
+    service: &Service,
     talker: &P,
     heard: &Heard,
     keeper: &mut K,
@@ -52,7 +52,7 @@ fn answer_talker<C: Clock, P: Peer, K: Keeper>(
     };
     let peer = talker;
     let mut writer = TimedAnswer::new(TimedPeer { clock, peer, since });
-    serve_line(alloc, heard, &mut writer, keeper, reading)
+    serve_line(service, heard, &mut writer, keeper, reading)
 }
 
 /// Keeps the connection of a line that was answered, where more lines may come on it; else closes it, at once where its
@@ -88,7 +88,7 @@ fn turn_of(answered: Result<Next, ReplayFault>) -> Turn
 /// One turn: waits for what comes, and serves a request or a line, at the clock's reading as it is taken.
 fn serve_turn<C: Clock, D: Doors, K: Keeper>(
     clock: &C,
-    alloc: Global,
+    service: &Service,
     doors: &mut D,
     keeper: &mut K,
 ) -> Turn
@@ -100,12 +100,12 @@ fn serve_turn<C: Clock, D: Doors, K: Keeper>(
         Arrived::Request(peer) => {
             let reading = doors.reading();
             // A fault of the connection is its own.
-            let _ = serve_connection(clock, alloc, &peer, keeper, reading);
+            let _ = serve_connection(clock, service.alloc, &peer, keeper, reading);
             Turn::Taken
         }
         Arrived::Line(heard, talker) => {
             let reading = doors.reading();
-            let answered = answer_talker(clock, alloc, &talker, &heard, keeper, reading);
+            let answered = answer_talker(clock, service, &talker, &heard, keeper, reading);
             part(clock, doors, talker, heard.is_ended, answered);
             turn_of(answered)
         }
@@ -117,7 +117,7 @@ fn serve_turn<C: Clock, D: Doors, K: Keeper>(
 /// reported.
 fn watch_turn<C: Clock, D: Doors, K: Keeper, T: Reporter>(
     clock: &C,
-    alloc: Global,
+    service: &Service,
     doors: &mut D,
     keeper: &mut K,
     since: u64,
@@ -131,7 +131,7 @@ fn watch_turn<C: Clock, D: Doors, K: Keeper, T: Reporter>(
     ensures leaves { LeavesNoLess K.Kept keeper.old keeper.new }
 {
     let had_failed = keeper.faults() != since;
-    let turn = serve_turn(clock, alloc, doors, keeper);
+    let turn = serve_turn(clock, service, doors, keeper);
     if !had_failed && keeper.faults() != since {
         reporter.failed();
     }
@@ -146,7 +146,7 @@ fn watch_turn<C: Clock, D: Doors, K: Keeper, T: Reporter>(
 /// other, and so does a line.
 pub fn serve_doors<C: Clock, D: Doors, K: Keeper, T: Reporter>(
     clock: &C,
-    alloc: Global,
+    service: &Service,
     doors: &mut D,
     keeper: &mut K,
     count: u32,
@@ -170,7 +170,7 @@ pub fn serve_doors<C: Clock, D: Doors, K: Keeper, T: Reporter>(
         if taken == count {
             return Next::On;
         }
-        match watch_turn(clock, alloc, doors, keeper, since, reporter) {
+        match watch_turn(clock, service, doors, keeper, since, reporter) {
             Turn::Idle => {}
             Turn::Taken => taken += 1,
             Turn::End => return Next::End,

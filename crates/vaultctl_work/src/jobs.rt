@@ -15,6 +15,7 @@ use vaultctl_commands::fault::JobFault;
 use vaultctl_commands::outcome::Outcome;
 use vaultctl_commands::progress_writer::ProgressWriter;
 use vaultctl_job::job::{RegisterJob, ReplayJob, ServeJob};
+use vaultctl_job::words::VERSION;
 use vaultctl_remedies::explaining::Explainer;
 use vaultctl_replay::{ReplayFault, replay_observed};
 use vaultctl_serve::{PortFault, serve};
@@ -158,6 +159,7 @@ fn serve_both<K: Keeper, E: Write>(
         file: job.file.as_str(),
         port: job.port,
         lines,
+        version: VERSION,
     };
     let ended = serve_with_lines(
         rt,

@@ -7,6 +7,7 @@ from dataclasses import dataclass
 from typing import Any
 
 from vaultdesk.s3 import xml
+from vaultdesk.s3.again import Client, Unanswered
 from vaultdesk.s3.bodies import Body
 from vaultdesk.s3.door import Door
 from vaultdesk.s3.etags import Etags
@@ -16,27 +17,37 @@ from vaultdesk.s3.settings import Settings
 
 @dataclass(frozen=True)
 class Vault:
-    """What the gateway stands before: the way to the engine, noted ETags, settings, and the names of all buckets."""
+    """What the gateway stands before: the way to the engine, noted ETags, settings, the names of all buckets, and puts
+    without an answer."""
 
     door: Door
     etags: Etags
     settings: Settings
     buckets: Sequence[str]
+    unanswered: Unanswered
 
 
 @dataclass(frozen=True)
 class Asked:
-    """A request of a caller."""
+    """A request of a caller, who waits for its answer. `signature` is None where that is a presigned URL's, with which
+    many requests may come."""
 
     request: Request
     caller: str
     body: Body
     vault: Vault
+    signature: str | None
+    client: Client
 
     @property
     def place(self) -> dict[str, str]:
         """The members of a line that say which key is meant."""
         return {"bucket": self.request.bucket, "key": self.request.key}
+
+    @property
+    def invocation(self) -> str | None:
+        """The id that AWS's SDKs give to a call, and have in each request that they send for it."""
+        return self.request.headers.get("amz-sdk-invocation-id") or None
 
     def ask(self, do: str, **members: Any) -> dict[str, Any]:
         """What the engine answers to a line of the caller. `Fault` where it refuses."""

@@ -2,6 +2,8 @@
 
 from __future__ import annotations
 
+from collections.abc import Sequence
+
 from vaultdesk.s3 import heads, xml
 from vaultdesk.s3.asked import Asked, xml_answer
 from vaultdesk.s3.faults import Fault
@@ -31,10 +33,16 @@ def _is_own(asked: Asked, bucket: str) -> bool:
     return True
 
 
+def _names(asked: Asked) -> Sequence[str]:
+    """The names of all buckets. No line of the engine lists them: they are those that were there as it began, or of the
+    settings."""
+    return asked.vault.buckets
+
+
 def list_all(asked: Asked) -> Answer:
-    """The buckets of the caller's department."""
+    """The buckets that the caller may list, or whose department is the caller's."""
     found: list[xml.Node] = [
-        ("Bucket", [("Name", it), ("CreationDate", UNKNOWN)]) for it in asked.vault.buckets if _is_own(asked, it)
+        ("Bucket", [("Name", it), ("CreationDate", UNKNOWN)]) for it in _names(asked) if _is_own(asked, it)
     ]
     owner: xml.Node = ("Owner", [("ID", heads.OWNER), ("DisplayName", heads.OWNER)])
     return xml_answer("ListAllMyBucketsResult", [owner, ("Buckets", found)])

@@ -18,6 +18,7 @@ STATUSES = {
     "MissingContentLength": 411,
     "NotImplemented": 501,
     "NotModified": 304,
+    "OperationAborted": 409,
     "PreconditionFailed": 412,
     "QuotaExceeded": 403,
     "RequestTimeTooSkewed": 403,
@@ -38,7 +39,7 @@ RENAMED = {
 }
 # What the desk's words of a refusal don't say to whom an S3 client speaks.
 SAID = {
-    "IntakeConflict": "that amz-sdk-invocation-id was used for another put, of another key, content or lock",
+    "IntakeConflict": "that amz-sdk-invocation-id, or signature, was used for a put of another key, content or lock",
     "legal-hold": "a legal hold is on: lift it first, by a caller with the right hold",
     "retention-governance": "a retention in GOVERNANCE is in force: a caller with the right bypass may bypass it",
     "unknown-caller": "the vault has no open caller of the name that this access key has",

@@ -10,6 +10,7 @@ from dataclasses import replace
 from vaultdesk.errors import DeskError
 from vaultdesk.output import say, shown
 from vaultdesk.s3 import bodies, heads, routes, signature, xml
+from vaultdesk.s3.again import Client
 from vaultdesk.s3.asked import Asked, Vault
 from vaultdesk.s3.faults import Fault
 from vaultdesk.s3.keys import Key, Keys
@@ -45,14 +46,17 @@ class Gateway:
         signature.check(request, signed, key, self.clock())
         return found.caller, signed, key
 
-    def carry_out(self, request: Request, begin: Callable[[], bodies.Source]) -> tuple[str, Answer]:
+    def carry_out(
+        self, request: Request, begin: Callable[[], bodies.Source], client: Client | None = None
+    ) -> tuple[str, Answer]:
         """The caller, and the answer. `begin` has the client send its body. `Fault` where the request is refused."""
         caller, signed, key = self.who(request)
         try:
             call = routes.call_of(request)
             heads.look_at_names(request, call.look(request, self.vault.settings))
             body = bodies.read(request, signed, key, call.most, begin)
-            return caller, call.do(Asked(request, caller, body, self.vault))
+            signature = signed.signature if signed.expires is None else None
+            return caller, call.do(Asked(request, caller, body, self.vault, signature, client or Client()))
         except Fault as fault:
             fault.caller = caller
             raise

@@ -10,9 +10,10 @@ from collections.abc import Mapping
 from dataclasses import replace
 from typing import Any, NamedTuple
 
-from vaultdesk.s3 import etags, heads, xml
+from vaultdesk.s3 import again, etags, heads, xml
 from vaultdesk.s3.asked import Asked, xml_answer
 from vaultdesk.s3.checksums import base64_of
+from vaultdesk.s3.door import Told
 from vaultdesk.s3.faults import Fault
 from vaultdesk.s3.request import Answer, Request, number, read as read_request
 
@@ -26,6 +27,7 @@ TO_ITSELF = (
     "This copy request is illegal because it is trying to copy an object to itself without changing the object's "
     "metadata, storage class, website redirect location or encryption attributes."
 )
+OVERTAKEN = "this request was carried out before, and the key has another version since: sign it anew to put it again"
 
 
 def _date(moment: str) -> str:
@@ -36,13 +38,53 @@ def _date(moment: str) -> str:
 # ---- put
 
 
-def _batch(asked: Asked) -> str | None:
-    """The intake batch of a put that may be sent again: the engine admits its line once, whoever restarts meanwhile."""
-    invocation = asked.request.headers.get("amz-sdk-invocation-id")
-    if not invocation:
-        return None
-    named = f"{asked.caller}\n{invocation}".encode("latin-1")
-    return f"s3-{hashlib.sha256(named).hexdigest()[:40]}"
+def _take_in(asked: Asked, batch: str, members: Mapping[str, Any]) -> Told:
+    """Has the engine admit a put as the line of its batch: once, however often it is asked to."""
+    return asked.vault.door.ask(asked.caller, "intake", **members, batch=batch, line=1)
+
+
+def _is_newest(asked: Asked, version: int) -> bool:
+    """Whether a version is the newest of its key, where the caller may look."""
+    try:
+        return bool(asked.ask("head", **asked.place)["version_id"] == version)
+    except Fault as fault:
+        if fault.code not in ("AccessDenied", "NoSuchKey"):
+            raise
+        return fault.code == "AccessDenied"
+
+
+def _take_in_signed(asked: Asked, own: str, members: Mapping[str, Any]) -> Told:
+    """Has a put without an id admitted, in its own batch or in that of the same put whose answer was lost.
+
+    `Fault` where this very request was carried out before, and another version of the key came since: nobody knows
+    whether it was put again or sent again."""
+    notes = asked.vault.unanswered
+    put = notes.begin(again.what_of(asked.caller, members), own, asked.signature, asked.client.is_lost)
+    try:
+        told = _take_in(asked, put.name, members)
+        is_overtaken = told.value["again"] and not _is_newest(asked, told.value["version_id"])
+    except Fault as fault:
+        # An engine that gave no answer may have admitted it.
+        (notes.lose if fault.code == "InternalError" else notes.end)(put)
+        raise
+    if not is_overtaken:
+        asked.client.put = put
+        notes.name(put, asked.signature)
+        return told
+    notes.end(put)
+    if put.is_own:
+        raise Fault("OperationAborted", OVERTAKEN)
+    return _take_in_signed(asked, own, members)
+
+
+def _put_once(asked: Asked, content: bytes) -> Told:
+    """Has a put admitted as one version, also if it was sent before."""
+    members = {**asked.place, "hex": content.hex(), **heads.locks_of(asked.request)}
+    asked.vault.unanswered.look(asked.signature, asked.invocation)
+    if asked.invocation:
+        return _take_in(asked, again.name_of("id", asked.caller, asked.invocation), members)
+    signs = ("signature", asked.caller, asked.signature, hashlib.sha256(content).hexdigest()) if asked.signature else ()
+    return _take_in_signed(asked, again.name_of(*signs), members)
 
 
 class Admitted(NamedTuple):
@@ -53,22 +95,28 @@ class Admitted(NamedTuple):
     moment: str
 
 
+def _admission(asked: Asked, version: int) -> str | None:
+    """When a version was admitted, as a server says it to a caller with the right get; none to others."""
+    try:
+        return str(asked.ask("head", **asked.place, id=version)["admitted"])
+    except Fault:
+        return None
+
+
 def _admitted(asked: Asked, content: bytes) -> Admitted:
     """Has a content admitted with the locks that are asked for."""
     if xml.UNWRITABLE.search(asked.request.key):
         raise Fault("InvalidArgument", "no list could show a key with U+FFFE or U+FFFF")
-    members = {**asked.place, "hex": content.hex(), **heads.locks_of(asked.request)}
-    batch = _batch(asked)
-    once = {"batch": batch, "line": 1} if batch else {}
-    told = asked.vault.door.ask(asked.caller, "intake" if batch else "put", **members, **once)
+    told = _put_once(asked, content)
     version = int(told.value["version_id"])
-    if told.value.get("again"):
+    if told.value["again"]:
         # Admitted by an earlier request; it may be gone by now, so nothing more is asked of it.
         return Admitted(version, etags.md5_of(content), told.at)
-    if not told.is_certain:
+    moment = told.at if told.is_certain else _admission(asked, version)
+    if moment is None:
         # By a second the MD5 would be noted of another moment: it is noted as the version is read.
         return Admitted(version, etags.md5_of(content), told.at)
-    return Admitted(version, asked.vault.etags.note(version, told.at, content), told.at)
+    return Admitted(version, asked.vault.etags.note(version, moment, content), moment)
 
 
 def put(asked: Asked) -> Answer:

@@ -2,14 +2,18 @@
 
 from __future__ import annotations
 
+import fcntl
 import http.server
 import io
 import re
 import secrets
+import select
 import socket
 import socketserver
 import ssl
+import struct
 import sys
+import termios
 import threading
 import time
 from contextlib import suppress
@@ -19,6 +23,7 @@ from typing import Any
 from vaultdesk import moments
 from vaultdesk.output import say, shown
 from vaultdesk.s3 import request as requests
+from vaultdesk.s3.again import Client, Put
 from vaultdesk.s3.bodies import Source
 from vaultdesk.s3.faults import Fault
 from vaultdesk.s3.gateway import Gateway, of_fault, without_body
@@ -61,6 +66,42 @@ class Handler(http.server.BaseHTTPRequestHandler):
     server: Server
     rfile: io.BufferedReader
     is_begun = False
+    is_answered = False
+    put: Put | None = None  # the put that was answered last, until it is known whether the answer arrived
+
+    def finish(self) -> None:
+        """Ends the connection, and notes a put whose answer didn't arrive."""
+        self._look_after_put()
+        super().finish()
+
+    def _events(self) -> int:
+        """What poll() says of the other end: POLLRDHUP where it sends no more, POLLHUP or POLLERR where it is gone."""
+        place = self.connection.fileno()
+        if place < 0:
+            return select.POLLHUP
+        poll = select.poll()
+        poll.register(place, select.POLLRDHUP)
+        return next((events for _, events in poll.poll(0)), 0)
+
+    def _is_lost(self) -> bool:
+        """Whether the answer under way is lost: the client may have given up before it, or is gone by now."""
+        gone = select.POLLHUP | select.POLLERR
+        return bool(self._events() & (gone if self.is_answered else gone | select.POLLRDHUP))
+
+    def _has_arrived(self) -> bool:
+        """Whether what was sent has reached the other end, which takes the time of the way there and back."""
+        deadline = time.monotonic() + LINGER
+        while not self._events() & (select.POLLHUP | select.POLLERR):
+            (left,) = struct.unpack("i", fcntl.ioctl(self.connection, termios.TIOCOUTQ, bytes(4)))
+            if not left or time.monotonic() > deadline:
+                return not left
+            time.sleep(0.01)
+        return False
+
+    def _look_after_put(self) -> None:
+        put, self.put = self.put, None
+        if put and not self._has_arrived():
+            self.server.gateway.vault.unanswered.lose(put)
 
     def handle_expect_100(self) -> bool:
         """The client goes on once the head has nothing that is refused."""
@@ -91,11 +132,12 @@ class Handler(http.server.BaseHTTPRequestHandler):
     def _answer(self) -> None:
         """Carries out the request, answers it, and notes it in the log."""
         request, caller, code = None, "-", "-"
-        self.is_begun = False
+        self.is_begun, self.is_answered, self.put = False, False, None  # who goes on has the answer before
+        client = Client(self._is_lost)
         with self.server.at_work():
             try:
                 request = self._read()
-                caller, answer = self.server.gateway.carry_out(request, self._begin)
+                caller, answer = self.server.gateway.carry_out(request, self._begin, client)
                 if self._has_body() and not self.is_begun:
                     self.close_connection = True
             except Fault as fault:
@@ -107,6 +149,7 @@ class Handler(http.server.BaseHTTPRequestHandler):
                 say(f"vaultdesk s3: {type(error).__name__}: {error}")
                 unknown = Fault("InternalError", "the gateway met what it doesn't know: its log says what")
                 answer, code, self.close_connection = of_fault(unknown, request), unknown.code, True
+            self.put = client.put
             self._send(answer)
         self.server.note(f"{caller} {self.command} {_noted(self.requestline.split()[1])} {answer.status} {code}")
 
@@ -124,8 +167,12 @@ class Handler(http.server.BaseHTTPRequestHandler):
             headers.setdefault("Content-Length", str(len(answer.body)))
         first = f"HTTP/1.1 {answer.status} {HTTPStatus(answer.status).phrase}"
         head = "\r\n".join([first, *(f"{name}: {value}" for name, value in headers.items()), "", ""])
+        self.is_answered = True
         self.wfile.write(head.encode("latin-1") + answer.body)
+        if self.put:
+            self.server.gateway.vault.unanswered.end(self.put)
         if self.close_connection and self._may_send():
+            self._look_after_put()
             self._linger()
 
     def _linger(self) -> None:

@@ -5,6 +5,7 @@
     door = "/run/vaultctl/records/lines"        # where its server takes lines; left out, it is found
     buckets = ["letters"]                       # which there are, where the gateway may not read the vault's file
     etags = "/var/lib/vaultctl/records.etags"   # MD5s of contents; may be lost
+    unanswered = "/var/lib/vaultctl/records.unanswered"  # a folder where puts are noted until they are answered
     port = 9000
     address = "127.0.0.1"
     region = "us-east-1"
@@ -28,8 +29,9 @@ from vaultdesk.errors import UsageError
 
 PLACE = "/etc/vaultctl/s3.toml"
 KINDS: Mapping[str, type] = {
-    "vault": str, "keys": str, "door": str, "buckets": list, "etags": str, "port": int, "address": str,
-    "region": str, "presigned": bool, "dropped_metadata": list, "certificate": str, "certificate_key": str,
+    "vault": str, "keys": str, "door": str, "buckets": list, "etags": str, "unanswered": str, "port": int,
+    "address": str, "region": str, "presigned": bool, "dropped_metadata": list, "certificate": str,
+    "certificate_key": str,
 }  # fmt: skip
 
 
@@ -49,6 +51,7 @@ class Settings:
     certificate_key: Path | None = None
     door: str | None = None
     buckets: tuple[str, ...] | None = None
+    unanswered: Path | None = None
 
 
 def _look_at(path: Path, found: Mapping[str, Any]) -> None:
@@ -78,7 +81,7 @@ def read(path: Path) -> Settings:
         raise UsageError(f"settings {path}: {error}") from error
     _look_at(path, found)
     values: dict[str, Any] = dict(found)
-    for name in ("keys", "etags", "certificate", "certificate_key"):
+    for name in ("keys", "etags", "unanswered", "certificate", "certificate_key"):
         values[name] = Path(found[name]) if found.get(name) else None
     dropped = (it.lower().removeprefix("x-amz-meta-") for it in found.get("dropped_metadata", []))
     values["dropped_metadata"] = frozenset(dropped)

@@ -4,6 +4,7 @@ from __future__ import annotations
 
 import argparse
 import signal
+import sys
 import threading
 from pathlib import Path
 
@@ -11,8 +12,9 @@ from vaultdesk import config, reading
 from vaultdesk.asking import add_yes, confirm
 from vaultdesk.engine import Engine
 from vaultdesk.errors import DeskError, UsageError
-from vaultdesk.output import print_json, print_table, say
+from vaultdesk.output import print_done, print_json, print_table, say
 from vaultdesk.s3 import keys, settings
+from vaultdesk.s3.again import Unanswered
 from vaultdesk.s3.asked import Vault
 from vaultdesk.s3.door import OwnEngine
 from vaultdesk.s3.etags import Etags
@@ -59,11 +61,14 @@ def serve(words: argparse.Namespace) -> int:
     etags = Etags(given.etags)
     door = OwnEngine(engine)
     door.open()
-    vault = Vault(door, etags, given, list(buckets))
+    vault = Vault(door, etags, given, list(buckets), Unanswered(given.unanswered))
     with _listening(given, Gateway(vault, there), words.quiet) as server:
         _say_unlocked(buckets)
         scheme = "https" if given.certificate else "http"
-        say(f"serving {desk.file} to clients of S3 at {scheme}://{given.address}:{server.server_address[1]}")
+        where = f"{scheme}://{given.address}:{server.server_address[1]}"
+        say(f"serving {desk.file} to clients of S3 at {where}")
+        print_done(words.json, vault=str(desk.file), serves=where, buckets=list(buckets))
+        sys.stdout.flush()
         _serve_until_stopped(server)
     door.close()
     etags.close()
@@ -110,11 +115,15 @@ def _remove(words: argparse.Namespace, path: Path, there: dict[str, keys.Key]) -
     found = there.pop(words.name, None)
     if found is None:
         raise DeskError(f"{words.name or 'no key'} isn't in {path}: vaultdesk s3 key list has the keys")
+    named = {"caller": found.caller, "access_key": words.name}
     if words.dry_run:
-        print(f"the key {words.name} of {found.caller} would be removed")
+        if not words.json:
+            print(f"the key {words.name} of {found.caller} would be removed")
+        print_done(words.json, **named, done="would be removed")
         return
     confirm(words, f"the key {words.name} of {found.caller} is good no more")
     keys.write(path, there)
+    print_done(words.json, **named, done="removed")
 
 
 def key(words: argparse.Namespace) -> int:
@@ -138,7 +147,8 @@ def add(commands: argparse._SubParsersAction[argparse.ArgumentParser], common: a
     text = f"the gateway's settings (TOML); left out: {settings.PLACE}"
 
     example = "Example: vaultdesk s3 serve --settings /etc/vaultctl/s3.toml"
-    it = kinds.add_parser("serve", help="serve a vault to clients of S3", description=SERVE, epilog=example)
+    what = "serve a vault to clients of S3"
+    it = kinds.add_parser("serve", parents=[common], help=what, description=SERVE, epilog=example)
     it.add_argument("--settings", metavar="FILE", default=settings.PLACE, help=text)
     it.add_argument("--quiet", action="store_true", help="write no line for each request to standard error")
     it.set_defaults(do=serve)

@@ -1,0 +1,6 @@
+//! Lines that are no commands, which a server's second door alone has: what they ask about its vault, and what is
+//! answered.
+#![tactic(auto)]
+
+pub mod inquiry;
+pub mod status_line;

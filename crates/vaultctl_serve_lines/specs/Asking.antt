@@ -1,0 +1,72 @@
+-- What is answered to what only the second door has: the end, or how things are.
+use Rattle.std.specs.Prelude.{ℕ, ◌≡◌, ◌⊎◌, ◌-◌, Bool, true, false, IsTrue, List, Option, Result, Ok, Err}
+use Rattle.std.specs.Io.KnownBytes.{Appends}
+use Rattle.vault_base.specs.declared.refusal.Refusal.{Refusal}
+use Rattle.vault_core_model.specs.Checks.{◌>>=◌, administrator}
+use Rattle.vault_core_model.specs.Halts.{is_device_refusal}
+use Rattle.vault_core_model.specs.Leaves.{Standing, count_after}
+use Rattle.vault_core_model.specs.Step.{is_fault}
+use Rattle.vault_core_model.specs.Vault.{Vault, next_id}
+use Rattle.vault_core_model.specs.declared.reply.Answer.TheVariants.{Nothing as NothingMore}
+use Rattle.vault_core_model.specs.declared.reply.Reply.TheVariants as reply
+use Rattle.vault_http.specs.ReplyLine.{reply_text}
+use Rattle.vault_http_door.specs.StatusLine.{status_text}
+use Rattle.vault_http_door.specs.declared.inquiry.About.TheVariants as about
+use Rattle.vault_http_door.specs.declared.status_line.Status.{Status}
+use Rattle.vault_io.specs.Begins.{Begins}
+use Rattle.vaultctl_serve_lines.specs.declared.asked.Asked.{Asked}
+use Rattle.vaultctl_serve_lines.specs.declared.asked.Wanted.{Wanted}
+use Rattle.vaultctl_serve_lines.specs.declared.asked.Wanted.TheVariants as wanted
+use Rattle.vaultctl_serve_lines.specs.declared.asking.Found.{Found}
+use Rattle.vaultctl_serve_lines.specs.declared.asking.Found.TheVariants as found
+use Rattle.vaultctl_serve_lines.specs.declared.line.Next.{Next}
+use Rattle.vaultctl_serve_lines.specs.declared.line.Next.TheVariants as next
+use Rattle.vaultctl_serve_lines.specs.declared.service.Service.{Service}
+
+-- how many entries have an id, how often the device failed, when the last change was, and when the server began
+abbrev pub status_of : Vault → ℕ → Option ℕ → Status
+status_of v failures since = record { entries = next_id v - 1; failures = failures; last = v.last; since = since }
+
+abbrev pub found_of : Vault → ℕ → Option ℕ → Wanted → Found
+found_of v failures since wanted.End = found.End
+found_of v failures since (wanted.About about.Status) = found.Status (status_of v failures since)
+
+-- the clock, and a caller with the right to administer; then what is asked for
+abbrev pub judged : Vault → ℕ → Option ℕ → Asked → Result Found Refusal
+judged v failures since asked = do
+  _ ← administrator v asked.at asked.who
+  Ok (found_of v failures since asked.what)
+
+-- what is answered is what was judged; or it is that memory was wanting or the device failed, at any time
+abbrev pub StatedAs : Result Found Refusal → Result Found Refusal → Type 0
+StatedAs (Ok found) judged = judged ≡ Ok found
+StatedAs (Err r) judged = IsTrue (is_fault r) ⊎ (judged ≡ Err r)
+
+-- it is answered that the device failed
+abbrev pub is_device_stated : Result Found Refusal → Bool
+is_device_stated (Ok found) = false
+is_device_stated (Err r) = is_device_refusal r
+
+-- it is answered that the server ends
+abbrev pub is_end : Result Found Refusal → Bool
+is_end (Ok found.End) = true
+is_end (Ok (found.Status status)) = false
+is_end (Err r) = false
+
+-- the line of what is answered
+abbrev pub stated_text : List ℕ → Result Found Refusal → List ℕ
+stated_text version (Ok found.End) = reply_text (reply.Done NothingMore)
+stated_text version (Ok (found.Status status)) = status_text version status
+stated_text version (Err r) = reply_text (reply.Refused r)
+
+-- what of an answer is written where a server goes on, and where it ends
+abbrev pub Written : Next → Option (List ℕ) → Option (List ℕ) → List ℕ → Type 0
+Written next.On w w' text = Appends w w' text
+Written next.End w w' text = Begins w w' text
+
+-- Somebody asked for what only this door has: the vault stays, and this much of the answer is written.
+abbrev pub Given : (List ℕ → Type 0) → Standing → Standing → Service → Asked → Type 0
+Given Sent old new service asked =
+    (new.vault ≡ old.vault)
+    × ((stated : Result Found Refusal) × (new.is_honest → StatedAs stated (judged old.vault old.count service.since asked))
+    × (new.count ≡ count_after old.count (is_device_stated stated)) × Sent (stated_text service.version.now stated))

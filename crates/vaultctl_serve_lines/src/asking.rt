@@ -1,0 +1,166 @@
+//! What only the second door has: the vault stays, and what is answered is read of it.
+ghost use Rattle.std.specs.Prelude.{◌≡◌, IfOk, IsOk, OnErr, OnOk, Ok, Result as AnyResult, string_bytes};
+ghost use Rattle.std.specs.Io.KnownBytes.{Appends};
+ghost use Rattle.vault_base.specs.declared.refusal.Refusal.{Refusal as AnyRefusal};
+ghost use Rattle.vault_core_model.specs.Checks.{administrator};
+ghost use Rattle.vault_core_model.specs.Halts.{ChecksAs, is_device};
+ghost use Rattle.vault_core_model.specs.Leaves.{LeavesSame, standing};
+ghost use Rattle.vault_core_model.specs.declared.reply.Reply.TheVariants.{Refused};
+ghost use Rattle.vault_http.specs.Left.{LeavesNoLess};
+ghost use Rattle.vault_http.specs.ReplyLine.{reply_text};
+ghost use Rattle.vault_io.specs.Begins.{Begins};
+ghost use Rattle.vaultctl_serve_lines.specs.Asking as spec;
+ghost use Rattle.vaultctl_serve_lines.specs.Asking.{Given, stated_text, status_of, Written};
+ghost use Rattle.vaultctl_serve_lines.specs.declared.asking.Found.{Found as AnyFound};
+
+use crate::asked::{Asked, Wanted};
+use crate::line::Next;
+use crate::service::Service;
+use std::alloc::{AllocError, Global};
+use std::io::Write;
+use vault_base::moment::Moment;
+use vault_base::refusal::Refusal;
+use vault_core_checks::caller::find_administrator;
+use vault_core_model::halt::{Fault, Halt};
+use vault_core_model::keeper::Keeper;
+use vault_core_model::reply::{Answer, Reply};
+use vault_http::reply_line::reply_line;
+use vault_http_door::inquiry::About;
+use vault_http_door::status_line::{Status, status_line};
+use vault_io::writing::write_bytes;
+use vaultctl_replay::ReplayFault;
+
+/// What is answered to what only this door has.
+#[derive(Clone, Copy, PartialEq, Eq)]
+pub enum Found {
+    /// The server ends.
+    End,
+    /// How the vault and its server are.
+    Status(Status),
+}
+
+/// How the vault is, whose device failed that often, and its server, which began at that moment.
+fn find_status<K: Keeper>(
+    keeper: &mut K,
+    failures: u64,
+    since: Option<Moment>,
+) -> Result<Found, Halt>
+    ensures found { K.is_honest keeper.new → ChecksAs result (Ok (Found.Status (status_of (K.vault keeper.old) failures since))) }
+    ensures leaves { LeavesSame K.Kept keeper.old keeper.new (is_device result) }
+{
+    let last = keeper.last()?;
+    let next = keeper.next_id()?;
+    Ok(Found::Status(Status {
+        entries: next.saturating_sub(1),
+        failures,
+        last,
+        since,
+    }))
+}
+
+/// What a caller asks for who may administer, of a server that began at that moment.
+///
+/// ClockBack; AccessDenied `unknown-caller`; AccessDenied `admin`.
+fn find<K: Keeper>(keeper: &mut K, since: Option<Moment>, asked: &Asked) -> Result<Found, Halt>
+    ensures found { K.is_honest keeper.new → ChecksAs result (spec.judged (K.vault keeper.old) (K.count keeper.old) since asked.now) }
+    ensures leaves { LeavesSame K.Kept keeper.old keeper.new (is_device result) }
+{
+    let failures = keeper.faults();
+    drop(find_administrator(keeper, asked.at, &asked.who)?);
+    match asked.what {
+        Wanted::End => Ok(Found::End),
+        Wanted::About(About::Status) => find_status(keeper, failures, since),
+    }
+}
+
+/// What is answered, where that was found: a fault of the keeper is a refusal.
+fn stated(found: Result<Found, Halt>) -> Result<Found, Refusal>
+    ensures answers { (judged : AnyResult AnyFound AnyRefusal) → ChecksAs found judged → spec.StatedAs result judged }
+    ensures device { spec.is_device_stated result ≡ is_device found }
+{
+    match found {
+        Ok(found) => Ok(found),
+        Err(Halt::Refused(refusal)) => Err(refusal),
+        Err(Halt::Fault(Fault::Memory)) => Err(Refusal::Memory),
+        Err(Halt::Fault(Fault::Device)) => Err(Refusal::Device),
+    }
+}
+
+/// The line of a reply. The error is want of memory.
+fn line_of(alloc: Global, reply: Reply) -> Result<String, AllocError>
+    ensures { IfOk result (λ text. string_bytes text ≡ reply_text reply) }
+{
+    let line = reply_line(alloc, &reply);
+    drop(reply);
+    line
+}
+
+/// The line of what is answered. The error is want of memory.
+fn stated_line(
+    alloc: Global,
+    version: &str,
+    stated: &Result<Found, Refusal>,
+) -> Result<String, AllocError>
+    ensures { IfOk result (λ text. string_bytes text ≡ stated_text version.now stated.now) }
+{
+    match stated {
+        Ok(Found::End) => line_of(alloc, Reply::Done(Answer::Nothing)),
+        Ok(Found::Status(status)) => status_line(alloc, version, status),
+        Err(refusal) => line_of(alloc, Reply::Refused(*refusal)),
+    }
+}
+
+/// Writes the line of what is answered. `Write` comes where the writer fails, and `Memory` where room was refused.
+fn write_stated<W: Write>(
+    alloc: Global,
+    writer: &mut W,
+    version: &str,
+    stated: &Result<Found, Refusal>,
+) -> Result<(), ReplayFault>
+    ensures begun { Begins (W.contents writer.old) (W.contents writer.new) (stated_text version.now stated.now) }
+    ensures whole { OnOk result (Appends (W.contents writer.old) (W.contents writer.new) (stated_text version.now stated.now)) }
+{
+    let Ok(line) = stated_line(alloc, version, stated) else {
+        return Err(ReplayFault::Memory);
+    };
+    match write_bytes(writer, line.as_bytes()) {
+        Ok(()) => Ok(()),
+        Err(_) => Err(ReplayFault::Write),
+    }
+}
+
+/// Whether the server ends.
+fn is_end(stated: &Result<Found, Refusal>) -> bool
+    ensures { result ≡ spec.is_end stated.now }
+{
+    match stated {
+        Ok(Found::End) => true,
+        Ok(Found::Status(_)) => false,
+        Err(_) => false,
+    }
+}
+
+/// Answers what only this door has: where a caller asks for the end who may, the server ends, also where the reply
+/// isn't taken. The faults are those of `write_stated`.
+pub fn give<W: Write, K: Keeper>(
+    service: &Service,
+    writer: &mut W,
+    keeper: &mut K,
+    asked: &Asked,
+) -> Result<Next, ReplayFault>
+    ensures ok { IfOk result (λ next. Given (Written next (W.contents writer.old) (W.contents writer.new)) (standing K.Kept keeper.old) (standing K.Kept keeper.new) service.now asked.now) }
+    ensures err { OnErr result (Given (Begins (W.contents writer.old) (W.contents writer.new)) (standing K.Kept keeper.old) (standing K.Kept keeper.new) service.now asked.now) }
+    ensures end { result ≡ Ok Next.End → K.is_honest keeper.new → (asked.now.what ≡ Wanted.End) × IsOk (administrator (K.vault keeper.new) asked.now.at asked.now.who) }
+    ensures leaves { LeavesNoLess K.Kept keeper.old keeper.new }
+{
+    let found = find(keeper, service.since, asked);
+    let answer = stated(found);
+    let written = write_stated(service.alloc, writer, service.version, &answer);
+    if is_end(&answer) {
+        return Ok(Next::End);
+    }
+    match written {
+        Ok(()) => Ok(Next::On),
+        Err(fault) => Err(fault),
+    }
+}
