@@ -1,6 +1,6 @@
 -- The members that are printed of a command spell that command.
-use Rattle.std.proofs.Common.{◌≡◌, ◌<◌, ◌≤◌, arith, ℕ, Bool, true, false, List, [], ◌∷◌, refl, inl, inr, codes}
-use Rattle.std.specs.Prelude.{IsTrue, All, Option, Some, None, is_none, Ok, map}
+use Rattle.std.proofs.Common.{◌≡◌, ◌<◌, ◌≤◌, arith, ℕ, Bool, true, false, List, refl, ap, inl, inr, codes}
+use Rattle.std.specs.Prelude.{IsTrue, All, Option, Some, None, is_none, map}
 use Rattle.hex.specs.Hex.{IsBytes, encode_lower}
 use Rattle.hex.proofs.HexLemmas.{decode_of-encode_lower}
 use Rattle.serde_json.specs.Data.{Data, string, array, depth}
@@ -8,11 +8,10 @@ use Rattle.serde_json.specs.Find.{get}
 use Rattle.serde_json.specs.View.{items_of}
 use Rattle.serde_json.specs.Written.{has_float}
 use Rattle.vault_base.specs.Moment.{moment_text}
-use Rattle.vault_base.specs.Name.{is_bucket_name, is_key_prefix, is_object_key, is_plain_name, is_version_id}
+use Rattle.vault_base.specs.Name.{is_bucket_name, is_key_prefix, is_object_key, is_plain_name}
 use Rattle.vault_base.specs.Right.{rights}
 use Rattle.vault_core_model.specs.declared.command.Command.{Command}
 use Rattle.vault_core_model.specs.declared.command.Command.TheVariants as command
-use Rattle.vault_core_model.specs.declared.command.Put.{Put}
 use Rattle.vault_core_model.specs.declared.command.Timed.{Timed}
 use Rattle.vault_core_model.specs.declared.rights.Rights.{Rights}
 use Rattle.vault_lock.specs.declared.retention.Default.{Default}
@@ -23,11 +22,10 @@ use Rattle.vault_lock.specs.declared.retention.Retention.{Retention}
 use Rattle.vault_rules.specs.Rules.{is_rule_set, rules_fault}
 use Rattle.vault_rules.specs.declared.rule.Rule.{Rule}
 use Rattle.vault_rules.specs.declared.rule_set.RuleFault.{RuleFault}
-use Rattle.vault_http_values.specs.Shape.{all_items, is_rule, is_text}
 use Rattle.vault_http_lines.specs.Grammar.{has_shape, Spells, SpellsCommand}
 use Rattle.vault_http_replies.specs.ReplyLine.{rule_value}
-use Rattle.vault_http_commands.specs.Spelled.{HasBits, HasPeriodIfGiven, IsIdIfGiven, IsNameIfGiven, IsPutSpelled, IsSpelled, IsSpelledRule, IsTimedSpelled, ReadsBack, ReadsBackIfGiven}
-use Rattle.vault_http_commands.specs.Members.{line_value, right_values}
+use Rattle.vault_http_commands.specs.Spelled.{HasBits, HasPeriodIfGiven, IsIdIfGiven, IsNameIfGiven, IsSpelled, IsSpelledRule, IsTimedSpelled, ReadsBack, ReadsBackIfGiven}
+use Rattle.vault_http_commands.specs.Members.{line_value}
 use Rattle.vault_http_commands.proofs.RightsNames.{are-flat, are-texts, are-whole, is-named, items-named, names, names-are-rights}
 use Rattle.vault_http_commands.proofs.RuleMembers.{rules-flat, rules-shaped, rules-spelled, rules-whole}
 

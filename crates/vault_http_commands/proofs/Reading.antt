@@ -1,12 +1,12 @@
 -- The text that is printed of a command is a line that asks for it.
-use Rattle.std.proofs.Common.{◌≡◌, ◌≤◌, ◌+◌, ◌-◌, ℕ, Bool, true, false, List, [], ◌∷◌, ◌++◌, refl, sym, ◌∙◌, ap, subst, length, take, arith, get_or, length-append}
-use Rattle.std.specs.Prelude.{◌==◌, slice_index, if◌then◌else◌, Option, Some, None}
-use Rattle.std.specs.Str.{IsUtf8, is_utf8}
+use Rattle.std.proofs.Common.{◌≡◌, ◌≤◌, ◌-◌, ℕ, false, List, [], ◌∷◌, ◌++◌, sym, ◌∙◌, ap, subst, length, take, arith, get_or, length-append}
+use Rattle.std.specs.Prelude.{◌==◌, slice_index, if◌then◌else◌, Some, None}
+use Rattle.std.specs.Str.{IsUtf8}
 use Rattle.std.proofs.Math.Seq.{get_or-append_seam}
 use Rattle.std.proofs.lemmas.Str.{is_utf8-from_IsUtf8}
 use Rattle.serde_json.specs.Data.{Data, Members, object, depth}
 use Rattle.serde_json.specs.Read.{max_depth, read}
-use Rattle.serde_json.specs.Written.{compact_text, has_float, members_text}
+use Rattle.serde_json.specs.Written.{compact_text, has_float}
 use Rattle.vault_core_model.specs.declared.command.Timed.{Timed}
 use Rattle.vault_http_values.specs.Document.{json_of}
 use Rattle.vault_http_lines.specs.ReadLine.{line_of, without_cr}

@@ -1,6 +1,6 @@
 -- The value that is printed of a lifecycle rule spells that rule.
-use Rattle.std.proofs.Common.{◌≡◌, ◌<◌, ◌≤◌, ℕ, Bool, true, false, List, [], ◌∷◌, ◌++◌, refl, sym, ◌∙◌, ap, inl, inr, codes, arith, Ordering, Less, Equal, Greater, is_eq, nat_cmp}
-use Rattle.std.specs.Prelude.{◌&&◌, not, nat_le, IsTrue, All, Option, Some, None, is_some, option_map, map}
+use Rattle.std.proofs.Common.{◌≡◌, ◌<◌, ◌≤◌, ℕ, Bool, true, false, List, [], ◌∷◌, ◌++◌, refl, ◌∙◌, ap, inl, inr, codes, arith, Ordering, Less, Equal, Greater, is_eq, nat_cmp}
+use Rattle.std.specs.Prelude.{◌&&◌, not, nat_le, All, Option, Some, None, is_some, option_map, map}
 use Rattle.std.proofs.lemmas.Bool.{leb-true}
 use Rattle.std.proofs.lemmas.List.Elements.{All-head, All-tail}
 use Rattle.std.specs.Cmp.Lexicographic.{slice_cmp}

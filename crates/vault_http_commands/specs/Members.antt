@@ -80,8 +80,11 @@ with_default (Some d) ms = with_period d.period (put (codes "mode") (string (mod
 abbrev pub with_content : List ℕ → Members → Members
 with_content bytes ms = put (codes "hex") (string (encode_lower bytes)) ms
 
+abbrev pub with_texts : List ℕ → List ℕ → Members → Members
+with_texts mode until ms = put (codes "until") (string until) (put (codes "mode") (string mode) ms)
+
 abbrev pub with_retention : Retention → Members → Members
-with_retention r ms = put (codes "until") (string (moment_text r.until)) (put (codes "mode") (string (mode_name r.mode)) ms)
+with_retention r ms = with_texts (mode_name r.mode) (moment_text r.until) ms
 
 abbrev pub with_retention_if : Option Retention → Members → Members
 with_retention_if None ms = ms
@@ -135,5 +138,8 @@ abbrev pub timed : ℕ → List ℕ → Command → Timed
 timed at who c = record { at = at; who = who; command = c }
 
 -- the whole line
+abbrev pub with_heading : List ℕ → List ℕ → Members → Members
+with_heading who at ms = put (codes "at") (string at) (put (codes "as") (string who) ms)
+
 abbrev pub line_value : Timed → Data
-line_value t = object (put (codes "at") (string (moment_text t.at)) (put (codes "as") (string t.who) (members_of t.command)))
+line_value t = object (with_heading t.who (moment_text t.at) (members_of t.command))

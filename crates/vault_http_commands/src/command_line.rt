@@ -1,5 +1,5 @@
 //! The line that asks for a command.
-ghost use Rattle.std.specs.Prelude.{◌≡◌, ◌≤◌, IfOk, length, string_bytes};
+ghost use Rattle.std.specs.Prelude.{◌≡◌, ◌≤◌, IfOk, OnOk, length, string_bytes};
 ghost use Rattle.serde_json.specs.View.{view, members_view};
 ghost use Rattle.vault_http_lines.specs.ReadLine.{line_of};
 ghost use Rattle.vault_http_lines.specs.declared.read_line.Line.TheVariants as line;
@@ -50,6 +50,22 @@ fn members_of(alloc: Global, command: &Command) -> Result<Map<String, Value>, Al
     }
 }
 
+/// Puts in the caller who asks and the text of the reading.
+fn put_heading<'a>(
+    members: &mut Map<String, Value>,
+    alloc: Global,
+    who: &'a str,
+    at: &'a str,
+) -> Result<(), AllocError>
+    ensures { OnOk result (members_view members.new.entries ≡ spec.with_heading who.now at.now (members_view members.old.entries)) }
+{
+    put_plain(
+        members,
+        alloc,
+        &[("as", Plain::Text(who)), ("at", Plain::Text(at))],
+    )
+}
+
 fn line_value(
     alloc: Global,
     at: Moment,
@@ -61,14 +77,7 @@ fn line_value(
 {
     let text = at.text(alloc)?;
     let mut members = members_of(alloc, command)?;
-    put_plain(
-        &mut members,
-        alloc,
-        &[
-            ("as", Plain::Text(who.as_str())),
-            ("at", Plain::Text(text.as_str())),
-        ],
-    )?;
+    put_heading(&mut members, alloc, who.as_str(), text.as_str())?;
     Ok(Value::Object(members))
 }
 

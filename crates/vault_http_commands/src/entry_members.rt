@@ -1,6 +1,7 @@
 //! The members of lines on content versions and delete markers.
-ghost use Rattle.std.specs.Prelude.{◌≡◌, IfOk, OnOk};
+ghost use Rattle.std.specs.Prelude.{◌≡◌, ◌<◌, IfOk, OnOk};
 ghost use Rattle.hex.specs.Hex.{IsBytes};
+ghost use Rattle.serde_json.specs.Data.{put as with_member};
 ghost use Rattle.serde_json.specs.View.{members_view};
 ghost use Rattle.vault_core_model.specs.declared.command.Command.TheVariants as command_of;
 ghost use Rattle.vault_http_commands.specs.Members as spec;
@@ -11,20 +12,30 @@ use crate::members::{of_bucket, of_key, put_id};
 use crate::object::{Plain, put_plain};
 use serde_json::{Map, Value};
 use std::alloc::{AllocError, Global};
-use vault_base::content::Content;
 use vault_core_model::command::{DeleteVersion, Intake, ListVersions, Put};
 use vault_http_lines::verb::Verb;
 
-/// Puts in a content, in hex digits.
-fn put_content(
+/// Puts in a number of 32 bits.
+fn put_number(
     members: &mut Map<String, Value>,
     alloc: Global,
-    content: &Content,
+    name: &str,
+    number: u32,
 ) -> Result<(), AllocError>
-    ensures ok { OnOk result (members_view members.new.entries ≡ spec.with_content content.now (members_view members.old.entries)) }
-    ensures spelled { OnOk result (IsBytes content.now) }
+    ensures ok { OnOk result (members_view members.new.entries ≡ with_member name.now (spec.whole number) (members_view members.old.entries)) }
+    ensures range { OnOk result (number < 4294967296) }
 {
-    let digits = hex::encode(alloc, content.as_slice())?;
+    let number = Plain::Whole(u64::from(number));
+    put_plain(members, alloc, &[(name, number)])?;
+    Ok(())
+}
+
+/// Puts in bytes, in hex digits.
+fn put_hex(members: &mut Map<String, Value>, alloc: Global, bytes: &[u8]) -> Result<(), AllocError>
+    ensures ok { OnOk result (members_view members.new.entries ≡ spec.with_content bytes.now (members_view members.old.entries)) }
+    ensures bytes { OnOk result (IsBytes bytes.now) }
+{
+    let digits = hex::encode(alloc, bytes)?;
     put_plain(members, alloc, &[("hex", Plain::Text(digits.as_str()))])?;
     Ok(())
 }
@@ -35,7 +46,7 @@ fn put_version(members: &mut Map<String, Value>, alloc: Global, put: &Put) -> Re
     ensures spelled { OnOk result (IsPutSpelled put.now) }
 {
     put_plain(members, alloc, &[("key", Plain::Text(put.key.as_str()))])?;
-    put_content(members, alloc, &put.content)?;
+    put_hex(members, alloc, put.content.as_slice())?;
     put_retention_if(members, alloc, put.retention)?;
     put_hold_if(members, alloc, put.hold)?;
     Ok(())
@@ -55,14 +66,9 @@ pub fn intake(alloc: Global, command: &Intake) -> Result<Map<String, Value>, All
     ensures spelled { IfOk result (λ members. IsSpelled (command_of.Intake command.now)) }
 {
     let mut members = of_bucket(alloc, Verb::Intake, &command.put.bucket)?;
-    put_plain(
-        &mut members,
-        alloc,
-        &[
-            ("batch", Plain::Text(command.batch.as_str())),
-            ("line", Plain::Whole(u64::from(command.line))),
-        ],
-    )?;
+    let batch = Plain::Text(command.batch.as_str());
+    put_plain(&mut members, alloc, &[("batch", batch)])?;
+    put_number(&mut members, alloc, "line", command.line)?;
     put_version(&mut members, alloc, &command.put)?;
     Ok(members)
 }
@@ -75,15 +81,11 @@ pub fn list_versions(
     ensures spelled { IfOk result (λ members. IsSpelled (command_of.ListVersions command.now)) }
 {
     let mut members = of_bucket(alloc, Verb::ListVersions, &command.bucket)?;
-    put_plain(
-        &mut members,
-        alloc,
-        &[
-            ("prefix", Plain::Text(command.prefix.as_str())),
-            ("after_key", Plain::Text(command.after_key.as_str())),
-            ("most", Plain::Whole(u64::from(command.most))),
-        ],
-    )?;
+    let prefix = Plain::Text(command.prefix.as_str());
+    let after_key = Plain::Text(command.after_key.as_str());
+    let keys = [("prefix", prefix), ("after_key", after_key)];
+    put_plain(&mut members, alloc, &keys)?;
+    put_number(&mut members, alloc, "most", command.most)?;
     put_id(&mut members, alloc, "after_id", command.after_id)?;
     Ok(members)
 }

@@ -14,6 +14,22 @@ use vault_http_lines::verb::Verb;
 use vault_lock::retention::Retention;
 use vault_values::words::{hold_name, mode_name};
 
+/// Puts in a retention whose text is made.
+fn put_texts<'a>(
+    members: &mut Map<String, Value>,
+    alloc: Global,
+    mode: &'a str,
+    until: &'a str,
+) -> Result<(), AllocError>
+    ensures { OnOk result (members_view members.new.entries ≡ spec.with_texts mode.now until.now (members_view members.old.entries)) }
+{
+    put_plain(
+        members,
+        alloc,
+        &[("mode", Plain::Text(mode)), ("until", Plain::Text(until))],
+    )
+}
+
 /// Puts in a retention.
 fn put_retention(
     members: &mut Map<String, Value>,
@@ -24,14 +40,7 @@ fn put_retention(
     ensures spelled { OnOk result (ReadsBack retention.until) }
 {
     let until = retention.until.text(alloc)?;
-    put_plain(
-        members,
-        alloc,
-        &[
-            ("mode", Plain::Text(mode_name(retention.mode))),
-            ("until", Plain::Text(until.as_str())),
-        ],
-    )?;
+    put_texts(members, alloc, mode_name(retention.mode), until.as_str())?;
     Ok(())
 }
 

@@ -1,5 +1,6 @@
 //! The members of lines on departments, callers and buckets, and on certificates.
 ghost use Rattle.std.specs.Prelude.{◌≡◌, ◌++◌, IfOk, OnOk, codes, map, option_map};
+ghost use Rattle.std.specs.List.{flat_map};
 ghost use Rattle.serde_json.specs.Data.{string};
 ghost use Rattle.serde_json.specs.View.{view, members_view};
 ghost use Rattle.vault_http_replies.specs.Putting.{put_if};
@@ -73,14 +74,27 @@ fn push_right(
     Ok(())
 }
 
+/// Adds the names of those of all rights that are among these.
+fn push_rights(
+    names: &mut Vec<Value>,
+    alloc: Global,
+    rights: Rights,
+    all: &[Right],
+) -> Result<(), AllocError>
+    ensures { OnOk result (map view names.new.items ≡ map view names.old.items ++ flat_map (spec.right_if rights) all.now) }
+{
+    for right in all {
+        push_right(names, alloc, rights, *right)?;
+    }
+    Ok(())
+}
+
 /// The names of these rights.
 fn right_names(alloc: Global, rights: Rights) -> Result<Vec<Value>, AllocError>
     ensures { IfOk result (λ names. map view names.items ≡ spec.right_values rights) }
 {
     let mut names = Vec::new(alloc);
-    for right in &RIGHTS {
-        push_right(&mut names, alloc, rights, *right)?;
-    }
+    push_rights(&mut names, alloc, rights, &RIGHTS)?;
     Ok(names)
 }
 
