@@ -1,9 +1,0 @@
-use Rattle.vault_http_commands.proofs.Reading.{text-asks, text-has-no-lf}
-use Rattle.vault_http_commands.proofs.command_line.command_line.Goals as goal
-
-pub returns-clause-reads : goal.returns-clause-reads
-returns-clause-reads c =
-    text-asks _ _ _ c.in_ok-value.ensures.value c.in_ok-value.ensures.spelled c.in_ok-text.ensures.text c.as_str-_text.utf8 c.in_ok-text.ensures.reads_back
-
-pub returns-clause-one_line : goal.returns-clause-one_line
-returns-clause-one_line c = text-has-no-lf _ _ _ c.in_ok-value.ensures.value c.in_ok-value.ensures.spelled c.in_ok-text.ensures.text

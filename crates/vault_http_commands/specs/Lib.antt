@@ -1,4 +1,0 @@
-pub mod Members
-pub mod Spelled
-pub mod Lines
-pub mod Object

@@ -1,5 +1,0 @@
-use Rattle.vaultctl_journal.proofs.Leads.{lead}
-use Rattle.vaultctl_journal.proofs.laws.journals_lead_to_the_vault.Goals as goal
-
-pub returns : goal.returns
-returns c = lead c.changes_lead_nowhere_else.ensures c.input_has_one_reading.ensures
