@@ -2,7 +2,7 @@
 //!
 //! ```text
 //! let until = Moment::read("2030-01-01T00:00:00Z")?;
-//! let later = until.plus_years(7);  // Some: 2037-01-01T00:00:00Z
+//! let later = until.plus_years(7);   // Some: 2037-01-01T00:00:00Z
 //! ```
 mod reading;
 mod writing;

@@ -1,14 +1,14 @@
 //! Reports as text.
 //!
 //! ```text
-//! department records
-//! at     2024-01-16T00:00:00Z
-//! admitted           100
-//! received            0
-//! held              0
-//! removed           100
-//! handed             0
-//! byte-days          100
+//! department  records
+//! at          2024-01-16T00:00:00Z
+//! admitted                     100
+//! received                       0
+//! held                           0
+//! removed                      100
+//! handed                         0
+//! byte-days                    100
 //! ```
 ghost use Rattle.std.specs.Prelude.{◌≡◌, ◌++◌, ◌-◌, IfOk, OnOk, string_bytes};
 ghost use Rattle.vault_files_texts.specs.ReportText as spec;
