@@ -1,15 +1,21 @@
 -- What each call leaves of the vault that is kept, and of what a crash leaves.
-use Rattle.std.proofs.Common.{◌≡◌, ℕ, List, [], ◌∷◌, ◌++◌, IsTrue, refl, sym, subst, inl, inr}
-use Rattle.std.proofs.Math.Logic.{∥∥₁_map}
+use Rattle.std.proofs.Common.{◌≡◌, ℕ, List, [], ◌∷◌, ◌++◌, false, IsTrue, refl, sym, ap, subst, inl, inr, ◌∙◌}
+use Rattle.std.proofs.Math.Logic.{∥∥₁_elim, ∥∥₁_map}
+use Rattle.std.specs.Coded.{Coded-set, coded_bool}
 use Rattle.sqlite_trees.specs.declared.store.Store.{Ghosts}
 use Rattle.sqlite_trees.specs.Tree.{Trees}
+use Rattle.sqlite.specs.declared.error.Error.{Error}
 use Rattle.sqlite.specs.Held.{Held, state}
 use Rattle.sqlite.specs.State.{State, HasCleanDisk, Survives}
 use Rattle.vault_core_model.specs.Change.{changed}
 use Rattle.vault_core_model.specs.declared.change.Change.{Change}
+use Rattle.vault_core_model.specs.declared.halt.Fault.{Fault}
+use Rattle.vault_core_model.specs.Halts.{is_device_fault}
 use Rattle.vault_core_model.specs.Vault.{Vault}
+use Rattle.vault_audit.specs.Health.{IsMemory}
 use Rattle.vault_store_model.specs.Keeping.{Keeps}
 use Rattle.vault_store_reads.specs.Quiet.{OnlyReads}
+use Rattle.vault_store.specs.Blame.{fault_of}
 use Rattle.vault_store.specs.Kept.{after}
 use Rattle.vault_store.specs.Left.{IsFoundWith, IsOneFoundIn, IsKept}
 
@@ -53,3 +59,9 @@ read_kept g old new v refused read is_open =
 -- the same vault by another name, after which nothing was refused
 pub kept_alone : (s : State) (v w : Vault) (refused : List (ℕ × Change)) → w ≡ v → refused ≡ [] → IsKept s v [] → IsKept s w refused
 kept_alone s v w refused same none kept = subst (λ u. IsKept s u refused) (sym same) (subst (IsKept s v) (sym none) kept)
+
+-- an error of a read of a vault that is kept, which wanted memory, is no failure of the device
+pub no_failure : {S : Type 0} (g : Ghosts S) (old : Held S) (v : Vault) (refused : List (ℕ × Change)) (e : Error) (f : Fault) → ∥ (HasCleanDisk (state g old) → IsKept (state g old) v refused) ∥₁ → HasCleanDisk (state g old)
+    → ((w : Vault) → Keeps (state g old) w → IsMemory e) → f ≡ fault_of e → is_device_fault f ≡ false
+no_failure g old v refused e f kept clean memory is =
+    ∥∥₁_elim kept (Coded-set coded_bool _ _) (λ kept. ap is_device_fault (is ∙ ap fault_of (memory v (kept clean).keeps)))

@@ -5,3 +5,4 @@ mod TableLemmas
 mod CreateLemmas
 mod CommitLemmas
 mod MigrateLemmas
+pub mod ShutLemmas

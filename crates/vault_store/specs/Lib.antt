@@ -1,6 +1,7 @@
 pub mod Kept
 pub mod Left
 pub mod VaultOf
+pub mod ReadsAs
 pub mod Acknowledged
 pub mod Migrated
 pub mod Tables

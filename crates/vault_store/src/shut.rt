@@ -5,12 +5,14 @@ ghost use Rattle.sqlite.specs.State.{HasCleanDisk, Survives};
 ghost use Rattle.vault_core_model.specs.Vault.{Vault};
 ghost use Rattle.vault_store_model.specs.Keeping.{Keeps};
 ghost use Rattle.vault_store_reads.specs.Quiet.{IsOpenIfOk};
+ghost use Rattle.vault_store_reads.specs.Wants.{WantsMemoryIfErr};
 
 use sqlite::{Alter, Connection, Error};
 
 /// Refuses a connection that a failure has shut; nothing is changed, and a crash leaves what it left before.
 pub(crate) fn refuse_shut<S: Alter>(conn: &mut Connection<S>) -> Result<(), Error>
     ensures open { IsOpenIfOk S.Store conn.new result }
+    ensures memory { WantsMemoryIfErr S.Store conn.old conn.new result }
     ensures same { HasCleanDisk (state S.Store conn.new) → (v : Vault) → Keeps (state S.Store conn.old) v → Keeps (state S.Store conn.new) v }
     ensures honest { HasCleanDisk (state S.Store conn.new) → HasCleanDisk (state S.Store conn.old) }
     ensures mode { conn.old.in_transaction ≡ false → conn.new.in_transaction ≡ false }

@@ -229,6 +229,7 @@ impl<S: Alter> SqlKeeper<S> {
         ensures same { vault_of S.Store self.new ≡ vault_of S.Store self.old }
         ensures honest { HasCleanDisk (state S.Store self.new.conn) → HasCleanDisk (state S.Store self.old.conn) }
         ensures counted { self.new.blamed.faults ≡ count_after self.old.blamed.faults (is_device_given result) }
+        ensures healthy { IsHealthy (state S.Store self.new.conn) → is_device_given result ≡ false }
     {
         if !self.blamed.is_doubted() {
             return Ok(());
@@ -258,13 +259,21 @@ impl<S: Alter> Kept for SqlKeeper<S> {
 }
 
 impl<S: Alter> Keeper for SqlKeeper<S> {
+    ghost use Rattle.vault_core_model.specs.Handing.{Hands};
+    ghost use Rattle.vault_core_model.specs.Reads.{content_of, entries_of, entry_of, head_of, keys_after, removed_entries, setting_of, settings_of, tenures_of};
+    ghost use Rattle.vault_core_model.specs.Totals.{IsRowFor, bucket_bytes, bucket_weight};
+    ghost use Rattle.vault_core_model.specs.Vault.{caller_of, config_of, has_department, next_id, note_of, rules_of};
+    ghost use Rattle.vault_store.specs.ReadsAs.{ReadsAs};
     ghost use Rattle.vault_store.specs.VaultOf.{vault_of};
 
     fn faults(&self) -> u64 {
         self.blamed.faults()
     }
 
-    fn last(&mut self) -> Result<Moment, Fault> {
+    fn last(&mut self) -> Result<Moment, Fault>
+        ensures value { HasCleanDisk (state S.Store self.new.conn) → IfOk result (λ at. at ≡ (vault_of S.Store self.old).last) }
+        ensures read { ReadsAs S.Store self.old self.new result }
+    {
         self.check_open()?;
         match read_last(&mut self.conn) {
             Ok(found) => Ok(found),
@@ -272,7 +281,10 @@ impl<S: Alter> Keeper for SqlKeeper<S> {
         }
     }
 
-    fn next_id(&mut self) -> Result<u64, Fault> {
+    fn next_id(&mut self) -> Result<u64, Fault>
+        ensures value { HasCleanDisk (state S.Store self.new.conn) → IfOk result (λ id. id ≡ next_id (vault_of S.Store self.old)) }
+        ensures read { ReadsAs S.Store self.old self.new result }
+    {
         self.check_open()?;
         match read_next_id(&mut self.conn) {
             Ok(found) => Ok(found),
@@ -280,7 +292,10 @@ impl<S: Alter> Keeper for SqlKeeper<S> {
         }
     }
 
-    fn caller(&mut self, name: &CallerName) -> Result<Option<Caller>, Fault> {
+    fn caller(&mut self, name: &CallerName) -> Result<Option<Caller>, Fault>
+        ensures value { HasCleanDisk (state S.Store self.new.conn) → IfOk result (λ found. found ≡ caller_of (vault_of S.Store self.old) name.now) }
+        ensures read { ReadsAs S.Store self.old self.new result }
+    {
         self.check_open()?;
         match read_caller(&mut self.conn, name) {
             Ok(found) => Ok(found),
@@ -288,7 +303,10 @@ impl<S: Alter> Keeper for SqlKeeper<S> {
         }
     }
 
-    fn dept(&mut self, name: &DeptName) -> Result<bool, Fault> {
+    fn dept(&mut self, name: &DeptName) -> Result<bool, Fault>
+        ensures value { HasCleanDisk (state S.Store self.new.conn) → IfOk result (λ found. found ≡ has_department (vault_of S.Store self.old) name.now) }
+        ensures read { ReadsAs S.Store self.old self.new result }
+    {
         self.check_open()?;
         match has_department(&mut self.conn, name) {
             Ok(found) => Ok(found),
@@ -296,7 +314,10 @@ impl<S: Alter> Keeper for SqlKeeper<S> {
         }
     }
 
-    fn bucket(&mut self, name: &BucketName) -> Result<Option<BucketConfig>, Fault> {
+    fn bucket(&mut self, name: &BucketName) -> Result<Option<BucketConfig>, Fault>
+        ensures value { HasCleanDisk (state S.Store self.new.conn) → IfOk result (λ found. found ≡ config_of (vault_of S.Store self.old) name.now) }
+        ensures read { ReadsAs S.Store self.old self.new result }
+    {
         self.check_open()?;
         match read_bucket(&mut self.conn, name) {
             Ok(found) => Ok(found),
@@ -304,7 +325,10 @@ impl<S: Alter> Keeper for SqlKeeper<S> {
         }
     }
 
-    fn rules(&mut self, bucket: &BucketName) -> Result<Option<RuleSet>, Fault> {
+    fn rules(&mut self, bucket: &BucketName) -> Result<Option<RuleSet>, Fault>
+        ensures value { HasCleanDisk (state S.Store self.new.conn) → IfOk result (λ found. found ≡ rules_of (vault_of S.Store self.old) bucket.now) }
+        ensures read { ReadsAs S.Store self.old self.new result }
+    {
         self.check_open()?;
         match read_rules(&mut self.conn, self.alloc, bucket) {
             Ok(found) => Ok(found),
@@ -312,7 +336,10 @@ impl<S: Alter> Keeper for SqlKeeper<S> {
         }
     }
 
-    fn head(&mut self, bucket: &BucketName, key: &ObjectKey) -> Result<Option<Head>, Fault> {
+    fn head(&mut self, bucket: &BucketName, key: &ObjectKey) -> Result<Option<Head>, Fault>
+        ensures value { HasCleanDisk (state S.Store self.new.conn) → IfOk result (λ found. found ≡ head_of (vault_of S.Store self.old) bucket.now key.now) }
+        ensures read { ReadsAs S.Store self.old self.new result }
+    {
         self.check_open()?;
         match read_head(&mut self.conn, bucket, key) {
             Ok(found) => Ok(found),
@@ -320,7 +347,10 @@ impl<S: Alter> Keeper for SqlKeeper<S> {
         }
     }
 
-    fn entries(&mut self, bucket: &BucketName, key: &ObjectKey) -> Result<Vec<Held>, Fault> {
+    fn entries(&mut self, bucket: &BucketName, key: &ObjectKey) -> Result<Vec<Held>, Fault>
+        ensures value { HasCleanDisk (state S.Store self.new.conn) → IfOk result (λ held. held.items ≡ entries_of (vault_of S.Store self.old) bucket.now key.now) }
+        ensures read { ReadsAs S.Store self.old self.new result }
+    {
         self.check_open()?;
         match read_entries(&mut self.conn, self.alloc, bucket, key) {
             Ok(found) => Ok(found),
@@ -328,7 +358,10 @@ impl<S: Alter> Keeper for SqlKeeper<S> {
         }
     }
 
-    fn entry(&mut self, id: VersionId) -> Result<Option<Entry>, Fault> {
+    fn entry(&mut self, id: VersionId) -> Result<Option<Entry>, Fault>
+        ensures value { HasCleanDisk (state S.Store self.new.conn) → IfOk result (λ found. found ≡ entry_of (vault_of S.Store self.old) id) }
+        ensures read { ReadsAs S.Store self.old self.new result }
+    {
         self.check_open()?;
         match read_entry(&mut self.conn, id) {
             Ok(found) => Ok(found),
@@ -336,7 +369,10 @@ impl<S: Alter> Keeper for SqlKeeper<S> {
         }
     }
 
-    fn setting(&mut self, id: VersionId) -> Result<Option<LastSetting>, Fault> {
+    fn setting(&mut self, id: VersionId) -> Result<Option<LastSetting>, Fault>
+        ensures value { HasCleanDisk (state S.Store self.new.conn) → IfOk result (λ found. found ≡ setting_of (vault_of S.Store self.old) id) }
+        ensures read { ReadsAs S.Store self.old self.new result }
+    {
         self.check_open()?;
         match read_setting(&mut self.conn, id) {
             Ok(found) => Ok(found),
@@ -344,7 +380,10 @@ impl<S: Alter> Keeper for SqlKeeper<S> {
         }
     }
 
-    fn settings(&mut self, id: VersionId) -> Result<Settings, Fault> {
+    fn settings(&mut self, id: VersionId) -> Result<Settings, Fault>
+        ensures value { HasCleanDisk (state S.Store self.new.conn) → IfOk result (λ found. found ≡ settings_of (vault_of S.Store self.old) id) }
+        ensures read { ReadsAs S.Store self.old self.new result }
+    {
         self.check_open()?;
         match read_settings(&mut self.conn, self.alloc, id) {
             Ok(found) => Ok(found),
@@ -352,7 +391,10 @@ impl<S: Alter> Keeper for SqlKeeper<S> {
         }
     }
 
-    fn content(&mut self, id: VersionId) -> Result<Option<Content>, Fault> {
+    fn content(&mut self, id: VersionId) -> Result<Option<Content>, Fault>
+        ensures value { HasCleanDisk (state S.Store self.new.conn) → IfOk result (λ found. found ≡ content_of (vault_of S.Store self.old) id) }
+        ensures read { ReadsAs S.Store self.old self.new result }
+    {
         self.check_open()?;
         match read_content(&mut self.conn, id) {
             Ok(found) => Ok(found),
@@ -365,7 +407,10 @@ impl<S: Alter> Keeper for SqlKeeper<S> {
         bucket: &BucketName,
         after: &KeyPrefix,
         most: u32,
-    ) -> Result<Vec<ObjectKey>, Fault> {
+    ) -> Result<Vec<ObjectKey>, Fault>
+        ensures value { HasCleanDisk (state S.Store self.new.conn) → IfOk result (λ keys. keys.items ≡ keys_after (vault_of S.Store self.old) bucket.now after.now most) }
+        ensures read { ReadsAs S.Store self.old self.new result }
+    {
         self.check_open()?;
         match read_keys(&mut self.conn, self.alloc, bucket, after, most) {
             Ok(found) => Ok(found),
@@ -378,7 +423,10 @@ impl<S: Alter> Keeper for SqlKeeper<S> {
         bucket: &BucketName,
         batch: &BatchName,
         line: u32,
-    ) -> Result<Option<Note>, Fault> {
+    ) -> Result<Option<Note>, Fault>
+        ensures value { HasCleanDisk (state S.Store self.new.conn) → IfOk result (λ found. found ≡ note_of (vault_of S.Store self.old) bucket.now batch.now line) }
+        ensures read { ReadsAs S.Store self.old self.new result }
+    {
         self.check_open()?;
         match read_note(&mut self.conn, bucket, batch, line) {
             Ok(found) => Ok(found),
@@ -386,7 +434,10 @@ impl<S: Alter> Keeper for SqlKeeper<S> {
         }
     }
 
-    fn walk_removed<T: Sink>(&mut self, sink: &mut T) -> Result<bool, Fault> {
+    fn walk_removed<T: Sink>(&mut self, sink: &mut T) -> Result<bool, Fault>
+        ensures value { HasCleanDisk (state S.Store self.new.conn) → Hands T.takes sink.old (removed_entries (vault_of S.Store self.old)) result sink.new }
+        ensures read { ReadsAs S.Store self.old self.new result }
+    {
         self.check_open()?;
         match walk_removed(&mut self.conn, sink) {
             Ok(found) => Ok(found),
@@ -394,7 +445,10 @@ impl<S: Alter> Keeper for SqlKeeper<S> {
         }
     }
 
-    fn moves(&mut self) -> Result<u32, Fault> {
+    fn moves(&mut self) -> Result<u32, Fault>
+        ensures value { HasCleanDisk (state S.Store self.new.conn) → IfOk result (λ made. made ≡ (vault_of S.Store self.old).moves) }
+        ensures read { ReadsAs S.Store self.old self.new result }
+    {
         self.check_open()?;
         match read_moves(&mut self.conn) {
             Ok(found) => Ok(found),
@@ -402,7 +456,10 @@ impl<S: Alter> Keeper for SqlKeeper<S> {
         }
     }
 
-    fn tenures(&mut self, id: VersionId) -> Result<Tenures, Fault> {
+    fn tenures(&mut self, id: VersionId) -> Result<Tenures, Fault>
+        ensures value { HasCleanDisk (state S.Store self.new.conn) → IfOk result (λ found. found ≡ tenures_of (vault_of S.Store self.old) id) }
+        ensures read { ReadsAs S.Store self.old self.new result }
+    {
         self.check_open()?;
         match read_tenures(&mut self.conn, self.alloc, id) {
             Ok(found) => Ok(found),
@@ -410,7 +467,11 @@ impl<S: Alter> Keeper for SqlKeeper<S> {
         }
     }
 
-    fn bucket_held(&mut self, bucket: &BucketName) -> Result<(u64, u64), Fault> {
+    fn bucket_held(&mut self, bucket: &BucketName) -> Result<(u64, u64), Fault>
+        ensures value { HasCleanDisk (state S.Store self.new.conn)
+            → IfOk result (λ held. (held.0 ≡ bucket_bytes (vault_of S.Store self.old) bucket.now) × (held.1 ≡ bucket_weight (vault_of S.Store self.old) bucket.now)) }
+        ensures read { ReadsAs S.Store self.old self.new result }
+    {
         self.check_open()?;
         match read_bucket_held(&mut self.conn, self.alloc, bucket) {
             Ok(found) => Ok(found),
@@ -418,7 +479,10 @@ impl<S: Alter> Keeper for SqlKeeper<S> {
         }
     }
 
-    fn totals(&mut self, dept: &DeptName) -> Result<Row, Fault> {
+    fn totals(&mut self, dept: &DeptName) -> Result<Row, Fault>
+        ensures value { HasCleanDisk (state S.Store self.new.conn) → IfOk result (λ row. IsRowFor (vault_of S.Store self.old) dept.now row) }
+        ensures read { ReadsAs S.Store self.old self.new result }
+    {
         self.check_open()?;
         match read_totals(&mut self.conn, dept) {
             Ok(found) => Ok(found),

@@ -1,6 +1,7 @@
 -- Rows of entries and contents, by an id, and rows of intake.
-use Rattle.std.proofs.Common.{◌≡◌, ℕ, ◌+◌, ◌==◌, ◌&&◌, List, [], ◌∷◌, ◌++◌, map, filter, find, flat_map, cond, Bool, true, false, Option, None, Some, option_to_list, slice_get, IsPermutation, Equal, nat_cmp, refl, sym, ap, subst, ◌∙◌, arith}
+use Rattle.std.proofs.Common.{◌≡◌, ℕ, ◌==◌, ◌&&◌, List, [], ◌∷◌, ◌++◌, map, filter, find, flat_map, cond, Bool, true, false, Option, None, Some, option_to_list, slice_get, IsPermutation, Equal, nat_cmp, refl, sym, ap, subst, ◌∙◌, arith}
 use Rattle.std.specs.Prelude.{option_map, option_and_then}
+use Rattle.std.specs.List.{AllByRecursion}
 use Rattle.std.specs.Ordering.{on}
 use Rattle.std.specs.Str.{bytes_eq}
 use Rattle.std.proofs.lemmas.Bool.{and_parts}
@@ -21,6 +22,7 @@ use Rattle.vault_core_model.specs.Reads.{content_of, entry_of}
 use Rattle.vault_core_model.specs.Sound.{AreIdsFrom}
 use Rattle.vault_core_model.specs.Vault.{Vault, history_of, note_of}
 use Rattle.vault_audit_model.specs.declared.rows.ContentRow.{ContentRow}
+use Rattle.vault_audit_model.specs.Limits.{IsContentRow, IsEntry, IsHistory, IsNote}
 use Rattle.vault_audit_model.specs.Rows.{entry_row, entry_columns, content_row, content_columns, note_row, note_columns}
 use Rattle.vault_audit_model.specs.Spells.{content_if_given, contents_in}
 use Rattle.vault_audit_model.specs.Tables.{entries_tree, contents_tree, intake_tree}
@@ -28,8 +30,10 @@ use Rattle.vault_audit_model.specs.Values.{number}
 use Rattle.vault_audit_model.proofs.SameRows.{same_entry, same_content, same_note}
 use Rattle.vault_audit_laws.proofs.Members.{ascending_numbered}
 use Rattle.vault_audit_laws.proofs.Uniqueness.{ids_numbered}
+use Rattle.vault_audit_walk.specs.Records.{ReportsOne}
 use Rattle.vault_store_reads.specs.Queries.{FindsRows}
 use Rattle.vault_store_reads.proofs.FindLemmas.{records_found, at_most_one, first_found, none_found, read_found}
+use Rattle.vault_store_reads.proofs.LimitLemmas.{all_filtered, all_found, contents_limited, first_limited}
 use Rattle.vault_store_reads.proofs.ListLemmas.{filter_parts}
 use Rattle.vault_store_reads.proofs.TextLemmas.{where_is, entry_text, entry_shown, entry_selects, content_text, content_shown, content_selects, note_text, note_shown, note_selects}
 use Rattle.vault_audit_model.proofs.ValueLemmas.{same_text, same_number}
@@ -70,6 +74,11 @@ module _ (v : Vault) (id : ℕ) (rows : List Row) (finds : FindsRows v entry_tex
       let it = first_found row_of (history_of v id) rows row history_found first in
       let same : e ≡ it.0.entry = same_entry e it.0.entry (sym reads ∙ it.2) in
       ap Some same ∙ sym (ap (option_map (λ (h : History). h.entry)) it.1)
+
+  pub entry_limited : (row : Row) → slice_get rows 0 ≡ Some row → ReportsOne entry_row IsEntry row
+  entry_limited row first =
+      let it = first_limited row_of IsHistory (option_to_list (history_of v id)) rows row (all_found IsHistory (λ (h : History). h.entry.id == id) v.histories finds.1.spells.kept.limits.histories) history_found first in
+      (it.0.entry, it.1, it.2.entry)
 
   pub no_entry : ◌≡◌ {A = Option Row} None (slice_get rows 0) → None ≡ entry_of v id
   no_entry none = sym (ap (option_map (λ (h : History). h.entry)) (none_found row_of (history_of v id) rows history_found none))
@@ -118,6 +127,11 @@ module _ (v : Vault) (id : ℕ) (rows : List Row) (finds : FindsRows v content_t
       let same : Some c ≡ stored (history_of v id) = read_found content_row same_content (stored (history_of v id)) rows row c content_stored first reads in
       ap (option_map (λ (x : ContentRow). x.content)) same ∙ bytes_of (history_of v id)
 
+  pub content_limited : (row : Row) → slice_get rows 0 ≡ Some row → ReportsOne content_row IsContentRow row
+  content_limited row first =
+      let all = all_filtered IsContentRow (λ (c : ContentRow). c.id == id) (flat_map contents_in v.histories) (contents_limited v finds.1.spells.kept) in
+      first_limited content_row IsContentRow (option_to_list (stored (history_of v id))) rows row (subst (AllByRecursion IsContentRow) contents_left all) content_stored first
+
   pub no_content : ◌≡◌ {A = Option Row} None (slice_get rows 0) → None ≡ content_of v id
   no_content none =
       sym (sym (bytes_of (history_of v id)) ∙ ap (option_map (λ (x : ContentRow). x.content)) (none_found content_row (stored (history_of v id)) rows content_stored none))
@@ -152,6 +166,10 @@ module _ (v : Vault) (bucket batch : List ℕ) (line : ℕ) (rows : List Row) (f
 
   pub note_read : (row : Row) (n : Note) → slice_get rows 0 ≡ Some row → row ≡ note_row n → Some n ≡ note_of v bucket batch line
   note_read row n first reads = read_found note_row same_note (note_of v bucket batch line) rows row n note_found first reads
+
+  pub note_limited : (row : Row) → slice_get rows 0 ≡ Some row → ReportsOne note_row IsNote row
+  note_limited row first =
+      first_limited note_row IsNote (option_to_list (note_of v bucket batch line)) rows row (all_found IsNote is_note v.notes finds.1.spells.kept.limits.notes) note_found first
 
   pub no_note : ◌≡◌ {A = Option Row} None (slice_get rows 0) → None ≡ note_of v bucket batch line
   no_note none = sym (none_found note_row (note_of v bucket batch line) rows note_found none)

@@ -26,13 +26,16 @@ use Rattle.vault_core_model.specs.Sound.{Sound}
 use Rattle.vault_core_model.specs.Vault.{Vault}
 use Rattle.vault_core_laws.proofs.Newest.{current-head, last_of}
 use Rattle.vault_audit_model.specs.declared.rows.HeadRow.{HeadRow}
+use Rattle.vault_audit_model.specs.Limits.{IsHeadRow, IsHistory}
 use Rattle.vault_audit_model.specs.Rows.{head_row, head_columns}
 use Rattle.vault_audit_model.specs.Spells.{head_in}
 use Rattle.vault_audit_model.specs.Tables.{heads_tree}
 use Rattle.vault_audit_model.proofs.SameRows.{number_same}
+use Rattle.vault_audit_walk.specs.Records.{ReportsOne}
 use Rattle.vault_store_reads.specs.Queries.{FindsRows}
 use Rattle.vault_store_reads.proofs.FindLemmas.{records_found}
 use Rattle.vault_store_reads.proofs.EntryLemmas.{id_of, ascending_ids, same_if}
+use Rattle.vault_store_reads.proofs.LimitLemmas.{all_filtered, first_limited}
 use Rattle.vault_store_reads.proofs.ListLemmas.{has_filtered, filtered_has, found_has, first_of, none_of}
 use Rattle.vault_store_reads.proofs.TextLemmas.{where_is, head_text, head_shown, head_selects}
 use Rattle.vault_audit_model.proofs.ValueLemmas.{same_text}
@@ -172,6 +175,12 @@ module _ (v : Vault) (bucket key : List ℕ) (rows : List Row) (finds : FindsRow
       let e : head_row x ≡ head_row (head_in v it.0) = sym reads ∙ it.2 in
       let one : x.head ≡ (head_in v it.0).head = same_head x.head.newest x.head.count _ _ (number_same _ _ (ap (λ r. column r 2) e)) (number_same _ _ (ap (λ r. column r 3) e)) in
       ap Some one ∙ sym (current_head v bucket key finds.1.spells.kept.sound it.0 current.0 current.1 its.1)
+
+  pub head_limited : (row : Row) → slice_get rows 0 ≡ Some row → ReportsOne head_row IsHeadRow row
+  head_limited row first =
+      let now = all_filtered IsHistory (is_current v) v.histories finds.1.spells.kept.limits.histories in
+      let it = first_limited row_of IsHistory (filter is_its (filter (is_current v) v.histories)) rows row (all_filtered IsHistory is_its (filter (is_current v) v.histories) now) head_found first in
+      (head_in v it.0, it.1, record { bucket = it.2.entry.bucket; key = it.2.entry.key; newest = it.2.entry.id })
 
   pub no_head : ◌≡◌ {A = Option Row} None (slice_get rows 0) → None ≡ head_of v bucket key
   no_head none = sym (no_current v bucket key finds.1.spells.kept.sound (none_of row_of (filter is_its (filter (is_current v) v.histories)) rows head_found none))

@@ -82,7 +82,7 @@ weighed : (v : Vault) (h : History) → find (λ g. g.entry.id == h.entry.id) v.
 weighed v h is = ap (λ (o : Option History). h.entry.size * last_day_from (unwrap_or (option_map (λ g. g.tenures) o) [])) is
 
 module _ (v : Vault) (bucket : List ℕ) (versions : List SizedRow) (rows : List Row) (are : (rows ≡ map sized_row (map sized_of (held_versions_in v bucket))) × Sound v) (stated : map sized_row versions ≡ rows) where
-  versions_are : versions ≡ map sized_of (held_versions_in v bucket)
+  pub versions_are : versions ≡ map sized_of (held_versions_in v bucket)
   versions_are = map_once sized_row same_sized versions (map sized_of (held_versions_in v bucket)) (stated ∙ are.0)
 
   pub bytes_are : sum_by (λ (x : SizedRow). x.size) versions ≡ bucket_bytes v bucket

@@ -21,3 +21,8 @@ pub mod OrderedTextLemmas
 pub mod StatedLemmas
 pub mod ValueLemmas
 pub mod HandLemmas
+pub mod WantLemmas
+pub mod AskedLemmas
+pub mod LimitLemmas
+pub mod ReadableLemmas
+pub mod BoundLemmas

@@ -1,15 +1,19 @@
 -- The row of meta.
-use Rattle.std.proofs.Common.{◌≡◌, List, [], ◌∷◌, map, true, Some, slice_get, IsPermutation, refl}
+use Rattle.std.proofs.Common.{◌≡◌, List, [], ◌∷◌, map, true, Option, None, Some, slice_get, IsPermutation, refl}
 use Rattle.sqlite_value.specs.Order.{Row}
 use Rattle.vault_core_model.specs.Sound.{Sound}
 use Rattle.vault_core_model.specs.Vault.{Vault}
 use Rattle.vault_audit_model.specs.declared.rows.MetaRow.{MetaRow}
+use Rattle.vault_audit_model.specs.Limits.{IsMetaRow}
 use Rattle.vault_audit_model.specs.Rows.{meta_row, meta_columns}
 use Rattle.vault_audit_model.specs.Spells.{meta_of}
 use Rattle.vault_audit_model.specs.Tables.{meta_tree}
 use Rattle.vault_audit_model.proofs.SameRows.{same_meta}
+use Rattle.vault_audit_walk.specs.Records.{ReportsOne}
 use Rattle.vault_store_reads.specs.Queries.{FindsRows}
 use Rattle.vault_store_reads.proofs.FindLemmas.{records_found, read_found}
+use Rattle.vault_store_reads.proofs.LimitLemmas.{first_limited}
+use Rattle.vault_store_reads.proofs.ListLemmas.{none_of}
 use Rattle.vault_store_reads.proofs.TextLemmas.{meta_text, meta_shown, meta_selects}
 
 module _ (v : Vault) (rows : List Row) (finds : FindsRows v meta_text [] rows) where
@@ -22,6 +26,12 @@ module _ (v : Vault) (rows : List Row) (finds : FindsRows v meta_text [] rows) w
   meta_read row m first reads =
       let same : Some m ≡ Some (meta_of v) = read_found meta_row same_meta (Some (meta_of v)) rows row m meta_found first reads in
       cc same
+
+  pub meta_limited : (row : Row) → slice_get rows 0 ≡ Some row → ReportsOne meta_row IsMetaRow row
+  meta_limited row first = first_limited meta_row IsMetaRow (meta_of v ∷ []) rows row (record { last = finds.1.spells.kept.limits.last; moves = finds.1.spells.kept.sound.enough_moves }, tt) meta_found first
+
+  pub meta_there : ¬ ◌≡◌ {A = Option Row} None (slice_get rows 0)
+  meta_there none = let gone = none_of meta_row (meta_of v ∷ []) rows meta_found none in absurd cc
 
   pub kept_sound : Sound v
   kept_sound = finds.1.spells.kept.sound

@@ -23,13 +23,16 @@ use Rattle.vault_core_model.specs.Totals.{IsRowFor, items_of}
 use Rattle.vault_core_model.specs.Vault.{Vault, has_department, caller_of, bucket_in, config_of}
 use Rattle.vault_audit_model.specs.declared.rows.BucketRow.{BucketRow}
 use Rattle.vault_audit_model.specs.declared.rows.DepartmentRow.{DepartmentRow}
+use Rattle.vault_audit_model.specs.Limits.{IsPlainName, IsDepartmentRow, IsCaller, IsBucket, IsBucketRow}
 use Rattle.vault_audit_model.specs.Rows.{department_row, department_columns, caller_row, caller_columns, bucket_row, bucket_columns}
 use Rattle.vault_audit_model.specs.Spells.{department_in, bucket_of}
 use Rattle.vault_audit_model.specs.Tables.{departments_tree, callers_tree, buckets_tree}
 use Rattle.vault_audit_model.proofs.SameRows.{number_same, same_caller, same_bucket}
 use Rattle.vault_store_model.proofs.DepartmentLemmas.{no_items}
+use Rattle.vault_audit_walk.specs.Records.{ReportsOne}
 use Rattle.vault_store_reads.specs.Queries.{FindsRows}
 use Rattle.vault_store_reads.proofs.FindLemmas.{records_found, at_most_one, first_found, none_found, read_found}
+use Rattle.vault_store_reads.proofs.LimitLemmas.{all_filtered, all_found, first_limited}
 use Rattle.vault_store_reads.proofs.ListLemmas.{has_filtered, first_of, none_of}
 use Rattle.vault_store_reads.proofs.TextLemmas.{where_is, department_text, department_shown, department_selects, caller_text, caller_shown, caller_selects, bucket_text, bucket_shown, bucket_selects}
 use Rattle.vault_audit_model.proofs.ValueLemmas.{same_text}
@@ -71,6 +74,12 @@ module _ (v : Vault) (name : List ℕ) (rows : List Row) (finds : FindsRows v de
       let each : length (map row_in (filter (λ d. bytes_eq d name) v.departments)) ≡ length (filter (λ d. bytes_eq d name) v.departments) = simp length-map in
       sym (any_left (λ d. bytes_eq d name) v.departments ∙ ap (λ n. not (n == 0)) (sym each ∙ sym few))
 
+  pub department_limited : (row : Row) → slice_get rows 0 ≡ Some row → ReportsOne department_row IsDepartmentRow row
+  department_limited row first =
+      let names = all_filtered IsPlainName (λ d. bytes_eq d name) v.departments finds.1.spells.kept.limits.departments in
+      let it = first_limited row_in IsPlainName (filter (λ d. bytes_eq d name) v.departments) rows row names departments_found first in
+      (department_in v it.0, it.1, it.2)
+
   -- the row states the seven sums
   sums_read : (d : DepartmentRow) (x : List ℕ) → department_row d ≡ row_in x → IsRowFor v x d.sums
   sums_read d x e =
@@ -111,6 +120,10 @@ module _ (v : Vault) (name : List ℕ) (rows : List Row) (finds : FindsRows v ca
   pub caller_read : (row : Row) (c : Caller) → slice_get rows 0 ≡ Some row → row ≡ caller_row c → Some c ≡ caller_of v name
   caller_read row c first reads = read_found caller_row same_caller (caller_of v name) rows row c caller_found first reads
 
+  pub caller_limited : (row : Row) → slice_get rows 0 ≡ Some row → ReportsOne caller_row IsCaller row
+  caller_limited row first =
+      first_limited caller_row IsCaller (option_to_list (caller_of v name)) rows row (all_found IsCaller (λ (c : Caller). bytes_eq c.name name) v.callers finds.1.spells.kept.limits.callers) caller_found first
+
   pub no_caller : ◌≡◌ {A = Option Row} None (slice_get rows 0) → None ≡ caller_of v name
   no_caller none = sym (none_found caller_row (caller_of v name) rows caller_found none)
 
@@ -132,6 +145,11 @@ module _ (v : Vault) (name : List ℕ) (rows : List Row) (finds : FindsRows v bu
       let it = first_found row_for (bucket_in v.buckets name) rows row bucket_found first in
       let same : r ≡ bucket_of it.0 = same_bucket r (bucket_of it.0) (sym reads ∙ it.2) in
       ap (λ (x : BucketRow). Some x.config) same ∙ sym (ap (option_map (λ (b : Bucket). b.config)) it.1)
+
+  pub bucket_limited : (row : Row) → slice_get rows 0 ≡ Some row → ReportsOne bucket_row IsBucketRow row
+  bucket_limited row first =
+      let it = first_limited row_for IsBucket (option_to_list (bucket_in v.buckets name)) rows row (all_found IsBucket (λ (b : Bucket). bytes_eq b.name name) v.buckets finds.1.spells.kept.limits.buckets) bucket_found first in
+      (bucket_of it.0, it.1, record { name = it.2.name; config = it.2.config })
 
   pub no_config : ◌≡◌ {A = Option Row} None (slice_get rows 0) → None ≡ config_of v name
   no_config none = sym (ap (option_map (λ (b : Bucket). b.config)) (none_found row_for (bucket_in v.buckets name) rows bucket_found none))

@@ -38,7 +38,7 @@ fails_showing old new sql c params e (Some what) (inl it) = inl it.1
 fails_showing old new sql c params e (Some what) (inr fails) = inr fails.3
 
 -- one that fails changes nothing, or rolls back
-failed : (sql : List ℕ) (params : Row) (old new : State) (e : Error) → FailsToQuery sql params old new e → IsUnchanged old new ⊎ IsRolledBack old new
+pub failed : (sql : List ℕ) (params : Row) (old new : State) (e : Error) → FailsToQuery sql params old new e → IsUnchanged old new ⊎ IsRolledBack old new
 unfolding FailsToQuery IsNotRun
 failed sql params old new e (inl (inl (_, same))) = inl same
 failed sql params old new e (inl (inr fails)) = inr fails.3

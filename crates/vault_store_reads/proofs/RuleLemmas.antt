@@ -1,5 +1,5 @@
 -- The rules of a bucket, in the order of their places.
-use Rattle.std.proofs.Common.{◌≡◌, inl, inr, ℕ, ◌+◌, ◌<◌, ◌&&◌, List, [], ◌∷◌, map, filter, flat_map, Bool, true, false, Option, None, Some, Less, Equal, refl, sym, ap, subst, ◌∙◌, arith}
+use Rattle.std.proofs.Common.{◌≡◌, inl, inr, ℕ, ◌+◌, ◌<◌, ◌&&◌, List, [], ◌∷◌, map, filter, flat_map, Bool, true, false, Option, None, Some, Less, Equal, IfSome, IsTrue, refl, sym, ap, subst, ◌∙◌, arith}
 use Rattle.std.specs.Prelude.{option_and_then}
 use Rattle.std.specs.List.{AllByRecursion}
 use Rattle.std.specs.Str.{bytes_eq}
@@ -18,6 +18,7 @@ use Rattle.sqlite_sql.specs.declared.ops.CompareOp.TheVariants.{Eq}
 use Rattle.sqlite_sql.specs.Ops.{binary, is_true}
 use Rattle.sqlite_sql.specs.Query.{Query, Output, output, output_cmp}
 use Rattle.vault_audit_model.specs.Tables.{rules_tree}
+use Rattle.vault_rules.specs.Rules.{is_rule_set, passes_if_given}
 use Rattle.vault_rules.specs.declared.rule.Rule.{Rule}
 use Rattle.vault_core_model.specs.declared.records.Bucket.{Bucket}
 use Rattle.vault_core_model.specs.Order.{IsAscending, bucket_cmp}
@@ -131,3 +132,18 @@ found_in name (b ∷ bs) all = elim (cases_Bool (bytes_eq b.name name)) [
 
 pub stated_rules : (v : Vault) (name : List ℕ) → AllByRecursion HasRuleSet v.buckets → set_of (part_of rules_in (bucket_in v.buckets name)) ≡ rules_of v name
 stated_rules v name all = found_in name v.buckets all
+
+-- the rules of a bucket, if it has some, are a list that it may have
+set_in : (name : List ℕ) (bs : List Bucket) → AllByRecursion HasRuleSet bs → IfSome (option_and_then (λ (b : Bucket). b.rules) (bucket_in bs name)) (λ rules. IsTrue (is_rule_set rules))
+set_in name [] all = tt
+set_in name (b ∷ bs) all = elim (cases_Bool (bytes_eq b.name name)) [
+  | inl this ↦ rw this (of_given b.rules all.0)
+  | inr other ↦ rw other (set_in name bs all.1)
+]
+  where
+    of_given : (o : Option (List Rule)) → IsTrue (passes_if_given is_rule_set o) → IfSome o (λ rules. IsTrue (is_rule_set rules))
+    of_given None set = tt
+    of_given (Some rules) set = set
+
+pub set_there : (v : Vault) (name : List ℕ) → AllByRecursion HasRuleSet v.buckets → IfSome (rules_of v name) (λ rules. IsTrue (is_rule_set rules))
+set_there v name all = set_in name v.buckets all

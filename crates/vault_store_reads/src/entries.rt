@@ -6,6 +6,7 @@ ghost use Rattle.vault_core_model.specs.Reads.{content_of, entry_of};
 ghost use Rattle.vault_core_model.specs.Vault.{Vault};
 ghost use Rattle.vault_store_model.specs.Keeping.{Keeps};
 ghost use Rattle.vault_store_reads.specs.Quiet.{OnlyReads, IsOpenIfOk};
+ghost use Rattle.vault_store_reads.specs.Wants.{WantsMemoryIfErr};
 
 use crate::query::{query_rows, unread};
 use sqlite::{Alter, Connection, Error, params};
@@ -19,6 +20,7 @@ pub fn read_entry<S: Alter>(conn: &mut Connection<S>, id: VersionId) -> Result<O
     ensures value { HasCleanDisk (state S.Store conn.new) → IfOk result (λ found. (v : Vault) → Keeps (state S.Store conn.old) v → found ≡ entry_of v id) }
     ensures read { OnlyReads S.Store conn.old conn.new }
     ensures open { IsOpenIfOk S.Store conn.new result }
+    ensures memory { WantsMemoryIfErr S.Store conn.old conn.new result }
 {
     let rows = query_rows(
         conn,
@@ -42,6 +44,7 @@ pub fn read_content<S: Alter>(
     ensures value { HasCleanDisk (state S.Store conn.new) → IfOk result (λ found. (v : Vault) → Keeps (state S.Store conn.old) v → found ≡ content_of v id) }
     ensures read { OnlyReads S.Store conn.old conn.new }
     ensures open { IsOpenIfOk S.Store conn.new result }
+    ensures memory { WantsMemoryIfErr S.Store conn.old conn.new result }
 {
     let rows = query_rows(
         conn,

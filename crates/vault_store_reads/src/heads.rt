@@ -6,6 +6,7 @@ ghost use Rattle.vault_core_model.specs.Reads.{head_of};
 ghost use Rattle.vault_core_model.specs.Vault.{Vault};
 ghost use Rattle.vault_store_model.specs.Keeping.{Keeps};
 ghost use Rattle.vault_store_reads.specs.Quiet.{OnlyReads, IsOpenIfOk};
+ghost use Rattle.vault_store_reads.specs.Wants.{WantsMemoryIfErr};
 
 use crate::query::{query_rows, unread};
 use sqlite::{Alter, Connection, Error, params};
@@ -22,6 +23,7 @@ pub fn read_head<S: Alter>(
     ensures value { HasCleanDisk (state S.Store conn.new) → IfOk result (λ found. (v : Vault) → Keeps (state S.Store conn.old) v → found ≡ head_of v bucket.now key.now) }
     ensures read { OnlyReads S.Store conn.old conn.new }
     ensures open { IsOpenIfOk S.Store conn.new result }
+    ensures memory { WantsMemoryIfErr S.Store conn.old conn.new result }
 {
     let rows = query_rows(
         conn,

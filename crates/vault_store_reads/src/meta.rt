@@ -7,6 +7,7 @@ ghost use Rattle.vault_core_model.specs.Vault.{Vault, next_id};
 ghost use Rattle.vault_audit_model.specs.Spells.{meta_of};
 ghost use Rattle.vault_store_model.specs.Keeping.{Keeps};
 ghost use Rattle.vault_store_reads.specs.Quiet.{OnlyReads, IsOpenIfOk};
+ghost use Rattle.vault_store_reads.specs.Wants.{WantsMemoryIfErr};
 
 use crate::query::{query_rows, unread};
 use sqlite::{Alter, Connection, Error};
@@ -21,6 +22,7 @@ fn read_meta<S: Alter>(conn: &mut Connection<S>) -> Result<MetaRow, Error>
     ensures sound { HasCleanDisk (state S.Store conn.new) → OnOk result ((v : Vault) → Keeps (state S.Store conn.old) v → Sound v) }
     ensures read { OnlyReads S.Store conn.old conn.new }
     ensures open { IsOpenIfOk S.Store conn.new result }
+    ensures memory { WantsMemoryIfErr S.Store conn.old conn.new result }
 {
     let rows = query_rows(conn, "SELECT one, schema, last, next, moves FROM meta", &[])?;
     match rows.first() {
@@ -39,6 +41,7 @@ pub fn read_last<S: Alter>(conn: &mut Connection<S>) -> Result<Moment, Error>
     ensures sound { HasCleanDisk (state S.Store conn.new) → OnOk result ((v : Vault) → Keeps (state S.Store conn.old) v → Sound v) }
     ensures read { OnlyReads S.Store conn.old conn.new }
     ensures open { IsOpenIfOk S.Store conn.new result }
+    ensures memory { WantsMemoryIfErr S.Store conn.old conn.new result }
 {
     let meta = read_meta(conn)?;
     Ok(meta.last)
@@ -49,6 +52,7 @@ pub fn read_next_id<S: Alter>(conn: &mut Connection<S>) -> Result<u64, Error>
     ensures value { HasCleanDisk (state S.Store conn.new) → IfOk result (λ id. (v : Vault) → Keeps (state S.Store conn.old) v → id ≡ next_id v) }
     ensures read { OnlyReads S.Store conn.old conn.new }
     ensures open { IsOpenIfOk S.Store conn.new result }
+    ensures memory { WantsMemoryIfErr S.Store conn.old conn.new result }
 {
     let meta = read_meta(conn)?;
     Ok(meta.next)
@@ -59,6 +63,7 @@ pub fn read_moves<S: Alter>(conn: &mut Connection<S>) -> Result<u32, Error>
     ensures value { HasCleanDisk (state S.Store conn.new) → IfOk result (λ moves. (v : Vault) → Keeps (state S.Store conn.old) v → moves ≡ v.moves) }
     ensures read { OnlyReads S.Store conn.old conn.new }
     ensures open { IsOpenIfOk S.Store conn.new result }
+    ensures memory { WantsMemoryIfErr S.Store conn.old conn.new result }
 {
     let meta = read_meta(conn)?;
     match u32::try_from(meta.moves) {

@@ -6,6 +6,7 @@ ghost use Rattle.vault_core_model.specs.Totals.{IsRowFor};
 ghost use Rattle.vault_core_model.specs.Vault.{Vault, caller_of, config_of, has_department};
 ghost use Rattle.vault_store_model.specs.Keeping.{Keeps};
 ghost use Rattle.vault_store_reads.specs.Quiet.{OnlyReads, IsOpenIfOk};
+ghost use Rattle.vault_store_reads.specs.Wants.{WantsMemoryIfErr};
 
 use crate::query::{query_rows, unread};
 use sqlite::{Alter, Connection, Error, params};
@@ -19,6 +20,7 @@ pub fn has_department<S: Alter>(conn: &mut Connection<S>, name: &DeptName) -> Re
     ensures value { HasCleanDisk (state S.Store conn.new) → IfOk result (λ found. (v : Vault) → Keeps (state S.Store conn.old) v → found ≡ has_department v name.now) }
     ensures read { OnlyReads S.Store conn.old conn.new }
     ensures open { IsOpenIfOk S.Store conn.new result }
+    ensures memory { WantsMemoryIfErr S.Store conn.old conn.new result }
 {
     let rows = query_rows(
         conn,
@@ -33,6 +35,7 @@ pub fn read_totals<S: Alter>(conn: &mut Connection<S>, dept: &DeptName) -> Resul
     ensures value { HasCleanDisk (state S.Store conn.new) → IfOk result (λ row. (v : Vault) → Keeps (state S.Store conn.old) v → IsRowFor v dept.now row) }
     ensures read { OnlyReads S.Store conn.old conn.new }
     ensures open { IsOpenIfOk S.Store conn.new result }
+    ensures memory { WantsMemoryIfErr S.Store conn.old conn.new result }
 {
     let rows = query_rows(
         conn,
@@ -64,6 +67,7 @@ pub fn read_caller<S: Alter>(
     ensures value { HasCleanDisk (state S.Store conn.new) → IfOk result (λ found. (v : Vault) → Keeps (state S.Store conn.old) v → found ≡ caller_of v name.now) }
     ensures read { OnlyReads S.Store conn.old conn.new }
     ensures open { IsOpenIfOk S.Store conn.new result }
+    ensures memory { WantsMemoryIfErr S.Store conn.old conn.new result }
 {
     let rows = query_rows(
         conn,
@@ -87,6 +91,7 @@ pub fn read_bucket<S: Alter>(
     ensures value { HasCleanDisk (state S.Store conn.new) → IfOk result (λ found. (v : Vault) → Keeps (state S.Store conn.old) v → found ≡ config_of v name.now) }
     ensures read { OnlyReads S.Store conn.old conn.new }
     ensures open { IsOpenIfOk S.Store conn.new result }
+    ensures memory { WantsMemoryIfErr S.Store conn.old conn.new result }
 {
     let rows = query_rows(
         conn,

@@ -8,6 +8,7 @@ ghost use Rattle.vault_core_model.specs.Vault.{Vault};
 ghost use Rattle.vault_store_model.specs.Keeping.{Keeps};
 ghost use Rattle.vault_store_model.specs.Sums.{last_tenure_of};
 ghost use Rattle.vault_store_reads.specs.Quiet.{ReadsQuietly, IsOpenIfOk};
+ghost use Rattle.vault_store_reads.specs.Wants.{WantsMemoryIfErr};
 ghost use Rattle.vault_store_reads.specs.Shown.{held_row, entry_shown, with_lock_in};
 
 use crate::rows_in_order::count::find_count;
@@ -29,12 +30,15 @@ pub fn find_setting<S: Alter>(
     ensures value { HasCleanDisk (state S.Store conn.new) → IfOk result (λ found. (v : Vault) → Keeps (state S.Store conn.old) v → found ≡ setting_of v id) }
     ensures read { ReadsQuietly S.Store conn.old conn.new }
     ensures open { IsOpenIfOk S.Store conn.new result }
+    ensures memory { WantsMemoryIfErr S.Store conn.old conn.new result }
 {
     let rows = setting_rows(conn, id)?;
     let Some(row) = rows.first() else {
         return Ok(None);
     };
-    let last = read_last(row).ok_or(UNREADABLE)?;
+    let Some(last) = read_last(row) else {
+        return Err(UNREADABLE);
+    };
     Ok(Some(last))
 }
 
@@ -46,6 +50,7 @@ pub fn find_last_tenure<S: Alter>(
     ensures value { HasCleanDisk (state S.Store conn.new) → IfOk result (λ found. (v : Vault) → Keeps (state S.Store conn.old) v → found ≡ last_tenure_of v id) }
     ensures read { ReadsQuietly S.Store conn.old conn.new }
     ensures open { IsOpenIfOk S.Store conn.new result }
+    ensures memory { WantsMemoryIfErr S.Store conn.old conn.new result }
 {
     let rows = last_tenure_rows(conn, id)?;
     let Some(row) = rows.first() else {
@@ -60,6 +65,7 @@ fn with_lock<S: Alter>(conn: &mut Connection<S>, held: HeldRow) -> Result<Held, 
     ensures value { HasCleanDisk (state S.Store conn.new) → IfOk result (λ locked. (v : Vault) → Keeps (state S.Store conn.old) v → locked ≡ with_lock_in v held) }
     ensures read { ReadsQuietly S.Store conn.old conn.new }
     ensures open { IsOpenIfOk S.Store conn.new result }
+    ensures memory { WantsMemoryIfErr S.Store conn.old conn.new result }
 {
     let last = find_setting(conn, held.id)?;
     let lock = last.map_or(
@@ -87,6 +93,7 @@ fn with_locks<S: Alter>(
     ensures value { HasCleanDisk (state S.Store conn.new) → IfOk result (λ locked. (v : Vault) → Keeps (state S.Store conn.old) v → locked.items ≡ map (with_lock_in v) entries.now) }
     ensures read { ReadsQuietly S.Store conn.old conn.new }
     ensures open { HasCleanDisk (state S.Store conn.new) → IsTrue (state S.Store conn.old).is_open → OnOk result (IsTrue (state S.Store conn.new).is_open) }
+    ensures memory { WantsMemoryIfErr S.Store conn.old conn.new result }
 {
     let mut locked = Vec::new(alloc);
     for entry in entries {
@@ -106,6 +113,7 @@ fn find_bare<S: Alter>(
     ensures value { HasCleanDisk (state S.Store conn.new) → IfOk result (λ held. (v : Vault) → Keeps (state S.Store conn.old) v → (map held_row held.items ≡ map entry_shown (entries_of v bucket.now key.now)) × Sound v) }
     ensures read { ReadsQuietly S.Store conn.old conn.new }
     ensures open { IsOpenIfOk S.Store conn.new result }
+    ensures memory { WantsMemoryIfErr S.Store conn.old conn.new result }
 {
     let count = find_count(conn, bucket, key)?;
     if count == 0 {
@@ -127,6 +135,7 @@ pub fn find_entries<S: Alter>(
     ensures value { HasCleanDisk (state S.Store conn.new) → IfOk result (λ held. (v : Vault) → Keeps (state S.Store conn.old) v → held.items ≡ entries_of v bucket.now key.now) }
     ensures read { ReadsQuietly S.Store conn.old conn.new }
     ensures open { IsOpenIfOk S.Store conn.new result }
+    ensures memory { WantsMemoryIfErr S.Store conn.old conn.new result }
 {
     let entries = find_bare(conn, alloc, bucket, key)?;
     with_locks(conn, alloc, &entries)

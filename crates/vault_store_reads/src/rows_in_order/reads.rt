@@ -9,6 +9,7 @@ ghost use Rattle.vault_store_model.specs.Keeping.{Keeps};
 ghost use Rattle.vault_store_model.specs.Sums.{last_tenure_of};
 ghost use Rattle.vault_store_reads.specs.Shown.{newest_but};
 ghost use Rattle.vault_store_reads.specs.Quiet.{OnlyReads, IsOpenIfOk};
+ghost use Rattle.vault_store_reads.specs.Wants.{WantsMemoryIfErr};
 
 use crate::rows_in_order::decode::{decode_keys, decode_rules, decode_settings, decode_tenures};
 use crate::rows_in_order::find::{find_entries, find_last_tenure, find_setting};
@@ -30,6 +31,7 @@ pub fn read_setting<S: Alter>(
     ensures value { HasCleanDisk (state S.Store conn.new) → IfOk result (λ found. (v : Vault) → Keeps (state S.Store conn.old) v → found ≡ setting_of v id) }
     ensures read { OnlyReads S.Store conn.old conn.new }
     ensures open { IsOpenIfOk S.Store conn.new result }
+    ensures memory { WantsMemoryIfErr S.Store conn.old conn.new result }
 {
     find_setting(conn, id)
 }
@@ -43,6 +45,7 @@ pub fn read_tenures<S: Alter>(
     ensures value { HasCleanDisk (state S.Store conn.new) → IfOk result (λ found. (v : Vault) → Keeps (state S.Store conn.old) v → found ≡ tenures_of v id) }
     ensures read { OnlyReads S.Store conn.old conn.new }
     ensures open { IsOpenIfOk S.Store conn.new result }
+    ensures memory { WantsMemoryIfErr S.Store conn.old conn.new result }
 {
     let rows = tenure_rows(conn, id)?;
     decode_tenures(alloc, &rows)
@@ -56,6 +59,7 @@ pub fn read_last_tenure<S: Alter>(
     ensures value { HasCleanDisk (state S.Store conn.new) → IfOk result (λ found. (v : Vault) → Keeps (state S.Store conn.old) v → found ≡ last_tenure_of v id) }
     ensures read { OnlyReads S.Store conn.old conn.new }
     ensures open { IsOpenIfOk S.Store conn.new result }
+    ensures memory { WantsMemoryIfErr S.Store conn.old conn.new result }
 {
     find_last_tenure(conn, id)
 }
@@ -70,12 +74,15 @@ pub fn read_newest_but<S: Alter>(
     ensures value { HasCleanDisk (state S.Store conn.new) → IfOk result (λ found. (v : Vault) → Keeps (state S.Store conn.old) v → found ≡ newest_but v bucket.now key.now id) }
     ensures read { OnlyReads S.Store conn.old conn.new }
     ensures open { IsOpenIfOk S.Store conn.new result }
+    ensures memory { WantsMemoryIfErr S.Store conn.old conn.new result }
 {
     let rows = newest_rows(conn, bucket, key, id)?;
     let Some(row) = rows.first() else {
         return Ok(None);
     };
-    let newest = read_id(row).ok_or(UNREADABLE)?;
+    let Some(newest) = read_id(row) else {
+        return Err(UNREADABLE);
+    };
     Ok(Some(newest))
 }
 
@@ -88,6 +95,7 @@ pub fn read_rules<S: Alter>(
     ensures value { HasCleanDisk (state S.Store conn.new) → IfOk result (λ found. (v : Vault) → Keeps (state S.Store conn.old) v → found ≡ rules_of v bucket.now) }
     ensures read { OnlyReads S.Store conn.old conn.new }
     ensures open { IsOpenIfOk S.Store conn.new result }
+    ensures memory { WantsMemoryIfErr S.Store conn.old conn.new result }
 {
     let rows = rule_rows(conn, bucket)?;
     decode_rules(alloc, &rows)
@@ -104,6 +112,7 @@ pub fn read_keys<S: Alter>(
     ensures value { HasCleanDisk (state S.Store conn.new) → IfOk result (λ keys. (v : Vault) → Keeps (state S.Store conn.old) v → keys.items ≡ keys_after v bucket.now after.now most) }
     ensures read { OnlyReads S.Store conn.old conn.new }
     ensures open { IsOpenIfOk S.Store conn.new result }
+    ensures memory { WantsMemoryIfErr S.Store conn.old conn.new result }
 {
     let rows = key_rows(conn, bucket, after, most)?;
     decode_keys(alloc, &rows)
@@ -119,6 +128,7 @@ pub fn read_entries<S: Alter>(
     ensures value { HasCleanDisk (state S.Store conn.new) → IfOk result (λ held. (v : Vault) → Keeps (state S.Store conn.old) v → held.items ≡ entries_of v bucket.now key.now) }
     ensures read { OnlyReads S.Store conn.old conn.new }
     ensures open { IsOpenIfOk S.Store conn.new result }
+    ensures memory { WantsMemoryIfErr S.Store conn.old conn.new result }
 {
     find_entries(conn, alloc, bucket, key)
 }
@@ -133,6 +143,7 @@ pub fn read_bucket_held<S: Alter>(
     ensures value { HasCleanDisk (state S.Store conn.new) → IfOk result (λ held. (v : Vault) → Keeps (state S.Store conn.old) v → (held.0 ≡ bucket_bytes v bucket.now) × (held.1 ≡ bucket_weight v bucket.now)) }
     ensures read { OnlyReads S.Store conn.old conn.new }
     ensures open { IsOpenIfOk S.Store conn.new result }
+    ensures memory { WantsMemoryIfErr S.Store conn.old conn.new result }
 {
     find_bucket_held(conn, alloc, bucket)
 }
@@ -146,6 +157,7 @@ pub fn read_settings<S: Alter>(
     ensures value { HasCleanDisk (state S.Store conn.new) → IfOk result (λ found. (v : Vault) → Keeps (state S.Store conn.old) v → found ≡ settings_of v id) }
     ensures read { OnlyReads S.Store conn.old conn.new }
     ensures open { IsOpenIfOk S.Store conn.new result }
+    ensures memory { WantsMemoryIfErr S.Store conn.old conn.new result }
 {
     let rows = settings_rows(conn, id)?;
     decode_settings(alloc, &rows)

@@ -1,5 +1,5 @@
 //! The queries of the ordered reads, each with the rows that it shows of the vault.
-ghost use Rattle.std.specs.Prelude.{◌≡◌, List, map, reverse, take, Option, option_map, option_to_list, IfOk};
+ghost use Rattle.std.specs.Prelude.{◌≡◌, List, map, reverse, take, Option, option_map, option_to_list, IfOk, IsTrue};
 ghost use Rattle.sqlite_sql.specs.Query.{Query};
 ghost use Rattle.sqlite.specs.Held.{state};
 ghost use Rattle.sqlite.specs.State.{HasCleanDisk};
@@ -11,12 +11,16 @@ ghost use Rattle.vault_core_model.specs.Vault.{Vault, rules_of};
 ghost use Rattle.vault_audit_model.specs.declared.rows.RuleRow.{RuleRow};
 ghost use Rattle.vault_audit_model.specs.declared.rows.SettingRow.{SettingRow};
 ghost use Rattle.vault_audit_model.specs.declared.rows.TenureRow.{TenureRow};
+ghost use Rattle.vault_base.specs.Name.{is_version_id};
+ghost use Rattle.vault_audit_model.specs.Limits.{IsObjectKey, IsRuleRow, IsSettingRow, IsTenureRow};
 ghost use Rattle.vault_audit_model.specs.Rows.{rule_row, setting_row, tenure_row};
 ghost use Rattle.vault_store_model.specs.Keeping.{Keeps};
 ghost use Rattle.vault_store_model.specs.Sums.{last_tenure_of};
 ghost use Rattle.vault_store_reads.specs.Queries.{Selects, FindsRows};
 ghost use Rattle.vault_store_reads.specs.Quiet.{OnlyReads, ReadsQuietly, IsOpenIfOk};
-ghost use Rattle.vault_store_reads.specs.Shown.{last_row, entry_shown, key_row, id_row, set_of, sized_row, sized_of, newest_but};
+ghost use Rattle.vault_store_reads.specs.Readable.{AreReadable, IsHeldRow, IsLastSetting, IsSizedRow};
+ghost use Rattle.vault_store_reads.specs.Shown.{last_row, entry_shown, held_row, key_row, id_row, set_of, sized_row, sized_of, newest_but};
+ghost use Rattle.vault_store_reads.specs.Wants.{IsAskedWith, WantsMemoryIfErr};
 
 use crate::query::query_rows;
 use sqlite::types::ValueRef;
@@ -33,6 +37,7 @@ pub fn open_rows<S: Alter>(
     ensures rows { HasCleanDisk (state S.Store conn.new) → IfOk result (λ rows. (v : Vault) → Keeps (state S.Store conn.old) v → FindsRows v sql.now (bound params.now) rows.items) }
     ensures read { ReadsQuietly S.Store conn.old conn.new }
     ensures open { IsOpenIfOk S.Store conn.new result }
+    ensures memory { IsAskedWith sql.now (bound params.now) → WantsMemoryIfErr S.Store conn.old conn.new result }
 {
     conn.query_all(sql, params)
 }
@@ -40,8 +45,10 @@ pub fn open_rows<S: Alter>(
 /// The row of a version's last setting.
 pub fn setting_rows<S: Alter>(conn: &mut Connection<S>, id: VersionId) -> Result<Vec<Row>, Error>
     ensures rows { HasCleanDisk (state S.Store conn.new) → IfOk result (λ rows. (v : Vault) → Keeps (state S.Store conn.old) v → rows.items ≡ map last_row (option_to_list (setting_of v id))) }
+    ensures readable { HasCleanDisk (state S.Store conn.new) → IfOk result (λ rows. (v : Vault) → Keeps (state S.Store conn.old) v → AreReadable last_row IsLastSetting rows.items) }
     ensures read { ReadsQuietly S.Store conn.old conn.new }
     ensures open { IsOpenIfOk S.Store conn.new result }
+    ensures memory { WantsMemoryIfErr S.Store conn.old conn.new result }
 {
     open_rows(
         conn,
@@ -56,8 +63,10 @@ pub fn last_tenure_rows<S: Alter>(
     id: VersionId,
 ) -> Result<Vec<Row>, Error>
     ensures rows { HasCleanDisk (state S.Store conn.new) → IfOk result (λ rows. (v : Vault) → Keeps (state S.Store conn.old) v → (last : Option TenureRow) × (rows.items ≡ map tenure_row (option_to_list last)) × (option_map (λ x. x.tenure) last ≡ last_tenure_of v id)) }
+    ensures readable { HasCleanDisk (state S.Store conn.new) → IfOk result (λ rows. (v : Vault) → Keeps (state S.Store conn.old) v → AreReadable tenure_row IsTenureRow rows.items) }
     ensures read { ReadsQuietly S.Store conn.old conn.new }
     ensures open { IsOpenIfOk S.Store conn.new result }
+    ensures memory { WantsMemoryIfErr S.Store conn.old conn.new result }
 {
     open_rows(
         conn,
@@ -69,8 +78,10 @@ pub fn last_tenure_rows<S: Alter>(
 /// The rows of a version's tenures.
 pub fn tenure_rows<S: Alter>(conn: &mut Connection<S>, id: VersionId) -> Result<Vec<Row>, Error>
     ensures rows { HasCleanDisk (state S.Store conn.new) → IfOk result (λ rows. (v : Vault) → Keeps (state S.Store conn.old) v → (tenures : List TenureRow) × (rows.items ≡ map tenure_row tenures) × (map (λ x. x.tenure) tenures ≡ tenures_of v id)) }
+    ensures readable { HasCleanDisk (state S.Store conn.new) → IfOk result (λ rows. (v : Vault) → Keeps (state S.Store conn.old) v → AreReadable tenure_row IsTenureRow rows.items) }
     ensures read { OnlyReads S.Store conn.old conn.new }
     ensures open { IsOpenIfOk S.Store conn.new result }
+    ensures memory { WantsMemoryIfErr S.Store conn.old conn.new result }
 {
     query_rows(
         conn,
@@ -85,8 +96,10 @@ pub fn sized_rows<S: Alter>(
     bucket: &BucketName,
 ) -> Result<Vec<Row>, Error>
     ensures rows { HasCleanDisk (state S.Store conn.new) → IfOk result (λ rows. (v : Vault) → Keeps (state S.Store conn.old) v → (rows.items ≡ map sized_row (map sized_of (held_versions_in v bucket.now))) × Sound v) }
+    ensures readable { HasCleanDisk (state S.Store conn.new) → IfOk result (λ rows. (v : Vault) → Keeps (state S.Store conn.old) v → AreReadable sized_row IsSizedRow rows.items) }
     ensures read { ReadsQuietly S.Store conn.old conn.new }
     ensures open { IsOpenIfOk S.Store conn.new result }
+    ensures memory { WantsMemoryIfErr S.Store conn.old conn.new result }
 {
     open_rows(
         conn,
@@ -98,8 +111,10 @@ pub fn sized_rows<S: Alter>(
 /// The rows of a bucket's rules.
 pub fn rule_rows<S: Alter>(conn: &mut Connection<S>, bucket: &BucketName) -> Result<Vec<Row>, Error>
     ensures rows { HasCleanDisk (state S.Store conn.new) → IfOk result (λ rows. (v : Vault) → Keeps (state S.Store conn.old) v → (rules : List RuleRow) × (rows.items ≡ map rule_row rules) × (set_of rules ≡ rules_of v bucket.now)) }
+    ensures readable { HasCleanDisk (state S.Store conn.new) → IfOk result (λ rows. (v : Vault) → Keeps (state S.Store conn.old) v → AreReadable rule_row IsRuleRow rows.items) }
     ensures read { OnlyReads S.Store conn.old conn.new }
     ensures open { IsOpenIfOk S.Store conn.new result }
+    ensures memory { WantsMemoryIfErr S.Store conn.old conn.new result }
 {
     query_rows(
         conn,
@@ -116,8 +131,10 @@ pub fn entry_rows<S: Alter>(
     most: u32,
 ) -> Result<Vec<Row>, Error>
     ensures rows { HasCleanDisk (state S.Store conn.new) → IfOk result (λ rows. (v : Vault) → Keeps (state S.Store conn.old) v → (rows.items ≡ take most (reverse (map entry_shown (entries_of v bucket.now key.now)))) × Sound v) }
+    ensures readable { HasCleanDisk (state S.Store conn.new) → IfOk result (λ rows. (v : Vault) → Keeps (state S.Store conn.old) v → AreReadable held_row IsHeldRow rows.items) }
     ensures read { ReadsQuietly S.Store conn.old conn.new }
     ensures open { IsOpenIfOk S.Store conn.new result }
+    ensures memory { WantsMemoryIfErr S.Store conn.old conn.new result }
 {
     open_rows(
         conn,
@@ -134,8 +151,10 @@ pub fn key_rows<S: Alter>(
     most: u32,
 ) -> Result<Vec<Row>, Error>
     ensures rows { HasCleanDisk (state S.Store conn.new) → IfOk result (λ rows. (v : Vault) → Keeps (state S.Store conn.old) v → rows.items ≡ map key_row (keys_after v bucket.now after.now most)) }
+    ensures readable { HasCleanDisk (state S.Store conn.new) → IfOk result (λ rows. (v : Vault) → Keeps (state S.Store conn.old) v → AreReadable key_row IsObjectKey rows.items) }
     ensures read { OnlyReads S.Store conn.old conn.new }
     ensures open { IsOpenIfOk S.Store conn.new result }
+    ensures memory { WantsMemoryIfErr S.Store conn.old conn.new result }
 {
     query_rows(
         conn,
@@ -152,8 +171,10 @@ pub fn newest_rows<S: Alter>(
     id: VersionId,
 ) -> Result<Vec<Row>, Error>
     ensures rows { HasCleanDisk (state S.Store conn.new) → IfOk result (λ rows. (v : Vault) → Keeps (state S.Store conn.old) v → rows.items ≡ map id_row (option_to_list (newest_but v bucket.now key.now id))) }
+    ensures readable { HasCleanDisk (state S.Store conn.new) → IfOk result (λ rows. (v : Vault) → Keeps (state S.Store conn.old) v → AreReadable id_row (λ id. IsTrue (is_version_id id)) rows.items) }
     ensures read { OnlyReads S.Store conn.old conn.new }
     ensures open { IsOpenIfOk S.Store conn.new result }
+    ensures memory { WantsMemoryIfErr S.Store conn.old conn.new result }
 {
     query_rows(
         conn,
@@ -165,8 +186,10 @@ pub fn newest_rows<S: Alter>(
 /// The rows of a version's settings.
 pub fn settings_rows<S: Alter>(conn: &mut Connection<S>, id: VersionId) -> Result<Vec<Row>, Error>
     ensures rows { HasCleanDisk (state S.Store conn.new) → IfOk result (λ rows. (v : Vault) → Keeps (state S.Store conn.old) v → (settings : List SettingRow) × (rows.items ≡ map setting_row settings) × (map (λ x. x.setting) settings ≡ settings_of v id)) }
+    ensures readable { HasCleanDisk (state S.Store conn.new) → IfOk result (λ rows. (v : Vault) → Keeps (state S.Store conn.old) v → AreReadable setting_row IsSettingRow rows.items) }
     ensures read { OnlyReads S.Store conn.old conn.new }
     ensures open { IsOpenIfOk S.Store conn.new result }
+    ensures memory { WantsMemoryIfErr S.Store conn.old conn.new result }
 {
     query_rows(
         conn,

@@ -1,6 +1,12 @@
 //! Rows of the ordered reads, each read as what it says.
-ghost use Rattle.std.specs.Prelude.{◌≡◌, IfSome, IfOk};
+ghost use Rattle.std.specs.Prelude.{◌≡◌, ◌≢◌, ℕ, List, IsTrue, MatchOption, IfOk, IfErr};
+ghost use Rattle.vault_base.specs.Name.{is_version_id};
+ghost use Rattle.vault_core_model.specs.declared.records.LastSetting.{LastSetting as Last};
+ghost use Rattle.vault_audit_model.specs.Limits.{IsObjectKey};
+ghost use Rattle.vault_store_reads.specs.Readable.{IsHeldRow, IsLastSetting, IsSizedRow};
 ghost use Rattle.vault_store_reads.specs.Shown.{last_row, held_row, sized_row, key_row, id_row};
+ghost use Rattle.vault_store_reads.specs.declared.rows_in_order.shown.HeldRow.{HeldRow as Held};
+ghost use Rattle.vault_store_reads.specs.declared.rows_in_order.shown.SizedRow.{SizedRow as Sized};
 
 use sqlite::{Error, ErrorCode, Row};
 use vault_audit_rows::cell::{flag, moment, number_within, version_id};
@@ -17,7 +23,7 @@ pub const UNREADABLE: Error = Error::SqliteFailure(ErrorCode::DatabaseCorrupt);
 
 /// The last setting of a version.
 pub fn read_last(row: &Row) -> Option<LastSetting>
-    ensures { IfSome result (λ x. row.now ≡ last_row x) }
+    ensures { MatchOption result ((x : Last) → IsLastSetting x → row.now ≢ last_row x) (λ x. row.now ≡ last_row x) }
 {
     if row.column_count() != 4 {
         return None;
@@ -43,7 +49,7 @@ pub struct HeldRow {
 
 /// A held entry without its lock.
 pub fn read_held(row: &Row) -> Option<HeldRow>
-    ensures { IfSome result (λ x. row.now ≡ held_row x) }
+    ensures { MatchOption result ((x : Held) → IsHeldRow x → row.now ≢ held_row x) (λ x. row.now ≡ held_row x) }
 {
     if row.column_count() != 4 {
         return None;
@@ -70,7 +76,7 @@ pub struct SizedRow {
 
 /// A version and its size.
 pub fn read_sized(row: &Row) -> Option<SizedRow>
-    ensures { IfSome result (λ x. row.now ≡ sized_row x) }
+    ensures { MatchOption result ((x : Sized) → IsSizedRow x → row.now ≢ sized_row x) (λ x. row.now ≡ sized_row x) }
 {
     if row.column_count() != 2 {
         return None;
@@ -85,7 +91,8 @@ pub fn read_sized(row: &Row) -> Option<SizedRow>
 
 /// A key.
 pub fn read_key(row: &Row) -> Result<ObjectKey, Misread>
-    ensures { IfOk result (λ key. row.now ≡ key_row key) }
+    ensures ok { IfOk result (λ key. row.now ≡ key_row key) }
+    ensures wrong { IfErr result (λ e. e ≡ Misread.Wrong → (key : List ℕ) → IsObjectKey key → row.now ≢ key_row key) }
 {
     if row.column_count() != 1 {
         return Err(Misread::Wrong);
@@ -95,7 +102,7 @@ pub fn read_key(row: &Row) -> Result<ObjectKey, Misread>
 
 /// The id of an entry.
 pub fn read_id(row: &Row) -> Option<VersionId>
-    ensures { IfSome result (λ id. row.now ≡ id_row id) }
+    ensures { MatchOption result ((id : ℕ) → IsTrue (is_version_id id) → row.now ≢ id_row id) (λ id. row.now ≡ id_row id) }
 {
     if row.column_count() != 1 {
         return None;

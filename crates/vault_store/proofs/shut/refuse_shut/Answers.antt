@@ -1,6 +1,8 @@
 use Rattle.std.proofs.Common.{[]}
 use Rattle.sqlite.specs.Held.{state}
 use Rattle.vault_store_apply.proofs.ReadLemmas.{unchanged_keeps, refused_keeps}
+use Rattle.vault_store_reads.proofs.WantLemmas.{not_prepared}
+use Rattle.vault_store.proofs.ShutLemmas.{shut_text, shut_plain, shut_unlisted, shut_asked}
 use Rattle.vault_store.proofs.shut.refuse_shut.Goals as goal
 
 pub returns-clause-same : goal.returns-clause-same
@@ -10,3 +12,7 @@ returns-clause-same g c clean v was =
 pub returns-in_err-_statement-clause-same : goal.returns-in_err-_statement-clause-same
 returns-in_err-_statement-clause-same g c clean v was =
     refused_keeps (state g.S.Store c.args.conn.now) (state g.S.Store c.prepare.new.self) _ [] _ v (c.in_err-_statement.ensures.err clean []) was
+
+pub returns-in_err-_statement-clause-memory : goal.returns-in_err-_statement-clause-memory
+returns-in_err-_statement-clause-memory g c well v was =
+    not_prepared shut_text [] (state g.S.Store c.args.conn.now) (state g.S.Store c.prepare.new.self) v was well c.prepare.ensures.survives.limit shut_plain shut_unlisted shut_asked _ (c.in_err-_statement.ensures.err well.clean [])

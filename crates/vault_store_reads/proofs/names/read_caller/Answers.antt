@@ -1,6 +1,9 @@
-use Rattle.std.proofs.Common.{sym}
-use Rattle.vault_store_reads.proofs.NameLemmas.{caller_read, no_caller}
+use Rattle.std.proofs.Common.{sym, rules}
+use Rattle.vault_audit_walk.specs.Health.{IsMemory}
+use Rattle.vault_store_reads.proofs.NameLemmas.{caller_limited, caller_read, no_caller}
 use Rattle.vault_store_reads.proofs.TextLemmas.{caller_selects}
+use Rattle.vault_store_reads.proofs.AskedLemmas.{caller_asked}
+use Rattle.vault_store_reads.proofs.WantLemmas.{not_wrong}
 use Rattle.vault_store_reads.proofs.names.read_caller.Goals as goal
 
 pub query_rows-requires : goal.query_rows-requires
@@ -14,3 +17,11 @@ returns-in-Ok-clause-value g c clean v was =
 pub returns-clause-value : goal.returns-clause-value
 returns-clause-value g c clean v was =
     no_caller v c.args.name.now c.in_ok-rows.rows.items (rw (c.params-to_sql.ensures, c.as_str.ensures.text) at (c.in_ok-rows.ensures.rows clean v was)) (rw c.deref.ensures.value at c.in-None.ensures.value)
+
+pub returns-in_err-rows-clause-memory : goal.returns-in_err-rows-clause-memory
+returns-in_err-rows-clause-memory g c well v was = let one : IsMemory c.in_err-rows.field-0.0 = c.in_err-rows.ensures.memory (rw (c.params-to_sql.ensures, c.as_str.ensures.text) (caller_asked c.args.name.now)) well v was in search rules
+
+pub returns-in-Some-clause-memory : goal.returns-in-Some-clause-memory
+returns-in-Some-clause-memory g c well v was =
+    let it = caller_limited v c.args.name.now c.in_ok-rows.rows.items (rw (c.params-to_sql.ensures, c.as_str.ensures.text) at (c.in_ok-rows.ensures.rows well.clean v was)) c.in-Some.row.now (sym (rw c.deref.ensures.value at c.in-Some.ensures.value)) in
+    not_wrong c.in-Err.misread _ c.unread.ensures.memory (λ wrong. c.in-Err.ensures.wrong wrong it.0 it.2 it.1)

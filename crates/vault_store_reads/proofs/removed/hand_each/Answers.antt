@@ -1,6 +1,6 @@
-use Rattle.std.proofs.Common.{◌≡◌, List, [], ◌∷◌, ◌++◌, IsTrue, true, false, inl, refl, subst, rules, arith}
+use Rattle.std.proofs.Common.{◌≡◌, List, [], ◌∷◌, ◌++◌, IsTrue, true, false, inl, refl, subst, rules, arith, sym}
 use Rattle.sqlite_value.specs.Order.{Row}
-use Rattle.sqlite.specs.State.{HasCleanDisk, IsUnchanged, Survives, CommitsShowing}
+use Rattle.sqlite.specs.State.{HasCleanDisk, IsUnchanged, Survives, CommitsShowing, FailsToQuery}
 use Rattle.sqlite.specs.Held.{Held, state}
 use Rattle.sqlite.specs.Given.{HasGiven}
 use Rattle.sqlite.proofs.Callers.{unchanged_then}
@@ -8,13 +8,17 @@ use Rattle.sqlite.proofs.StateLemmas.{survives_then}
 use Rattle.vault_core_model.specs.Handing.{TakesSome}
 use Rattle.vault_core_model.specs.Reads.{removed_entries}
 use Rattle.vault_core_model.specs.Vault.{Vault}
+use Rattle.vault_audit_walk.specs.Health.{IsHealthy, IsMemory}
 use Rattle.vault_audit_walk.specs.Walk.{Goes}
 use Rattle.vault_audit_walk.proofs.WalkLemmas.{goes_on}
 use Rattle.vault_store_model.specs.Keeping.{Keeps}
 use Rattle.vault_store_reads.specs.Quiet.{IsQuiet}
 use Rattle.vault_store_reads.proofs.OrderedEntryLemmas.{removed_query}
 use Rattle.vault_store_reads.proofs.OpenLemmas.{quiet}
-use Rattle.vault_store_reads.proofs.OrderedTextLemmas.{removed_text, removed_is}
+use Rattle.vault_store_reads.proofs.OrderedTextLemmas.{removed_text, removed_is, removed_plain}
+use Rattle.vault_store_reads.proofs.AskedLemmas.{removed_asked}
+use Rattle.vault_store_reads.proofs.ReadableLemmas.{removed_readable}
+use Rattle.vault_store_reads.proofs.WantLemmas.{cause_of}
 use Rattle.vault_store_reads.proofs.QueryLemmas.{unchanged_keeps}
 use Rattle.vault_store_reads.specs.Handed.{Takes}
 use Rattle.vault_store_reads.proofs.HandLemmas.{some_err, refused_keeps, none_taken, some_taken, all_taken, one_refused, still_kept, undone, begun_removed, given_removed, all_removed}
@@ -215,3 +219,43 @@ returns-clause-same g c clean v was =
     let late : HasCleanDisk (state g.S.Store now) = search rules in
     let it = c.rows.invariant.3 late v ∣ was ∣₁ in
     subst (λ (h : Held g.row.S.Denot). Keeps (state g.S.Store h) v) same (unchanged_keeps (state g.S.Store c.args.conn.now) (state g.S.Store now) v (inl it.2) was)
+
+-- a store that works
+
+pub returns-in_err-rows-clause-memory : goal.returns-in_err-rows-clause-memory
+returns-in_err-rows-clause-memory g c well v was =
+    let old = state g.S.Store c.args.conn.now in
+    let new = state g.S.Store c.query.follows.lender-at-none in
+    let held = c.query.follows.holds-at-none in
+    let kept : Survives old new (CommitsShowing removed_text [] old) = search rules in
+    let late : HasCleanDisk new = well.clean in
+    let failed : FailsToQuery removed_text [] old new c.in_err-rows.field-0.0 = search rules in
+    let one : IsMemory c.in_err-rows.field-0.0 = cause_of removed_text [] old new v was well kept.limit removed_plain removed_is.unlisted removed_asked c.in_err-rows.field-0.0 failed in
+    search rules
+
+pub returns-in_err-row-clause-memory : goal.returns-in_err-row-clause-memory
+returns-in_err-row-clause-memory g c well v was =
+    let moved = c.next.follows.holds-at-none in
+    let now = c.next.follows.lender-at-none.conn.now in
+    let end = c.conn-in_err-row-1.given.0 in
+    let same : now ≡ end = search rules in
+    let late : IsHealthy (state g.S.Store now) = subst (λ (h : Held g.row.S.Denot). IsHealthy (state g.S.Store h)) (sym same) well in
+    let it = c.rows.invariant.3 (omega (arith, moved.survives.clean, late.clean)) v ∣ was ∣₁ in
+    let failed = (rw c.in_err-row.was at (moved.err late.clean)) removed_text [] it.0 it.1 in
+    let kept = unchanged_keeps (state g.S.Store c.args.conn.now) _ v (inl it.2) was in
+    let one : IsMemory c.in_err-row.field-0.0 = cause_of removed_text [] _ (state g.S.Store now) v kept late moved.survives.limit removed_plain removed_is.unlisted removed_asked c.in_err-row.field-0.0 failed in
+    search rules
+
+pub returns-in_err-hand-clause-memory : goal.returns-in_err-hand-clause-memory
+returns-in_err-hand-clause-memory g c well v was =
+    let moved = c.next.follows.holds-at-none in
+    let now = c.next.follows.lender-at-none.conn.now in
+    let end = c.conn-in_err-hand-1.given.0 in
+    let same : now ≡ end = search rules in
+    let late : HasCleanDisk (state g.S.Store now) = subst (λ (h : Held g.row.S.Denot). HasCleanDisk (state g.S.Store h)) (sym same) well.clean in
+    let it = c.rows.invariant.3 (omega (arith, moved.survives.clean)) v ∣ was ∣₁ in
+    let given = (rw (c.in_ok-row.was, c.in-Some.is) at (moved.ok late)) removed_text [] it.0 it.1 in
+    let still = rw c.in_ok-row.was at (moved.same late) in
+    let on = given_removed g.S.Store c.args.conn.now now v ∣ was ∣₁ (unchanged_then _ _ _ it.2 still) (it.0 ++ c.in-Some.row.now ∷ []) given in
+    let one : IsMemory c.in_err-hand.field-0.0 = c.in_err-hand.ensures.memory (removed_readable v (was it.2.0.was_open).0.spells.kept it.0 c.in-Some.row.now on.0 on.1) in
+    search rules

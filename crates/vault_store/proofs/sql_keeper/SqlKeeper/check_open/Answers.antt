@@ -1,5 +1,5 @@
 use Rattle.std.proofs.Common.{sym, ◌∙◌}
-use Rattle.vault_store.proofs.KeptLemmas.{quietly_kept}
+use Rattle.vault_store.proofs.KeptLemmas.{no_failure, quietly_kept}
 use Rattle.vault_store.proofs.sql_keeper.SqlKeeper.check_open.Goals as goal
 
 pub invariant_of-self : goal.invariant_of-self
@@ -15,3 +15,6 @@ invariant_of-self-in-Err g c = record {
   sure = λ sure. absurd (let both = sym c.blame.ensures.doubted ∙ sure in cc);
   kept = quietly_kept _ _ _ _ c.refuse_shut.ensures.honest c.refuse_shut.ensures.same c.refuse_shut.ensures.survives c.args.self.now.kept;
 }
+
+pub returns-in-Err-clause-healthy : goal.returns-in-Err-clause-healthy
+returns-in-Err-clause-healthy g c well = no_failure g.S.Store _ _ _ _ _ c.args.self.now.kept (c.refuse_shut.ensures.honest well.clean) (λ w keeps. c.in-Err.ensures.memory well w keeps) c.blame.ensures.reported

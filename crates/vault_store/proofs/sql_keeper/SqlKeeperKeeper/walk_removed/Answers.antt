@@ -1,4 +1,4 @@
-use Rattle.std.proofs.Common.{Bool, List, Result, Ok, Err, sym, subst, ◌∙◌}
+use Rattle.std.proofs.Common.{◌≡◌, false, Bool, List, Result, Ok, Err, sym, subst, ◌∙◌, refl, rules}
 use Rattle.std.specs.Prelude.{IsErrAnd}
 use Rattle.std.proofs.Math.Logic.{∥∥₁_map}
 use Rattle.vault_core_model.specs.declared.halt.Fault.{Fault}
@@ -8,7 +8,8 @@ use Rattle.vault_core_model.specs.Reads.{removed_entries}
 use Rattle.vault_store.specs.VaultOf.{vault_of}
 use Rattle.vault_store_reads.proofs.HandLemmas.{none_taken}
 use Rattle.vault_store_reads.specs.Handed.{as_fault}
-use Rattle.vault_store.proofs.KeptLemmas.{read_kept}
+use Rattle.vault_core_model.specs.Halts.{is_device_fault}
+use Rattle.vault_store.proofs.KeptLemmas.{no_failure, read_kept}
 use Rattle.vault_store.proofs.sql_keeper.SqlKeeperKeeper.walk_removed.Goals as goal
 
 pub invariant_of-self : goal.invariant_of-self
@@ -45,3 +46,17 @@ returns-in-Err-clause-value g c clean =
     let v = vault_of g.S.Store c.check_open.new.self in
     rw c.in_ok-check_open.ensures.same at (subst (λ r. Hands g.T.Sink.takes c.args.sink.now (removed_entries v) (as_fault r) c.walk_removed.new.sink) c.in-Err.is
     (c.walk_removed.ensures.value clean v (∥∥₁_map c.check_open.new.self.kept (λ kept. (kept (c.walk_removed.ensures.read.honest clean)).keeps))))
+
+pub returns-in_err-check_open-clause-read : goal.returns-in_err-check_open-clause-read
+returns-in_err-check_open-clause-read g c = record {
+  leaves = search rules;
+  healthy = λ well.
+      let none : is_device_fault c.in_err-check_open.field-0.0 ≡ false = c.in_err-check_open.ensures.healthy well in
+      search rules;
+}
+
+pub returns-in-Ok-clause-read : goal.returns-in-Ok-clause-read
+returns-in-Ok-clause-read g c = record { leaves = search rules; healthy = λ well. refl }
+
+pub returns-in-Err-clause-read : goal.returns-in-Err-clause-read
+returns-in-Err-clause-read g c = record { leaves = search rules; healthy = λ well. no_failure g.S.Store _ _ _ _ _ c.check_open.new.self.kept (c.walk_removed.ensures.read.honest well.clean) (λ w keeps. c.in-Err.ensures.memory well w keeps) c.blame.ensures.reported }

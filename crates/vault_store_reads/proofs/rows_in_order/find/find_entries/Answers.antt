@@ -18,3 +18,6 @@ returns-clause-read g c = record {
   mode = λ alone. c.with_locks.ensures.read.mode (c.find_bare.ensures.read.mode alone);
   survives = quiet_then _ _ _ c.find_bare.ensures.read.same (λ clean _. c.in_ok-entries.ensures.open clean) c.find_bare.ensures.read.survives c.with_locks.ensures.read.survives;
 }
+
+pub returns-clause-memory : goal.returns-clause-memory
+returns-clause-memory g c well v was = c.with_locks.ensures.memory well v (c.find_bare.ensures.read.same (c.with_locks.ensures.read.honest well.clean) v was)

@@ -1,4 +1,5 @@
 use Rattle.std.proofs.Common.{◌≡◌, [], ◌∷◌, ◌++◌, rules}
+use Rattle.vault_audit_walk.specs.Health.{IsMemory}
 use Rattle.vault_store_reads.specs.Shown.{with_lock_in}
 use Rattle.vault_store_reads.proofs.OrderedListLemmas.{made_more}
 use Rattle.vault_store_reads.proofs.OpenLemmas.{quiet_then}
@@ -34,3 +35,6 @@ loop-entry-preserved g c =
       survives = quiet_then _ _ _ c.loop-entry.invariant.same c.loop-entry.invariant.opened c.loop-entry.invariant.survives c.with_lock.ensures.read.survives;
       opened = λ clean _. c.in_ok-one.ensures.open clean;
     }
+
+pub returns-in_err-one-clause-memory : goal.returns-in_err-one-clause-memory
+returns-in_err-one-clause-memory g c well v was = let one : IsMemory c.in_err-one.field-0.0 = c.in_err-one.ensures.memory well v (c.loop-entry.invariant.same (c.with_lock.ensures.read.honest well.clean) v was) in search rules

@@ -1,3 +1,8 @@
+use Rattle.std.proofs.Common.{sym, subst}
+use Rattle.vault_store_reads.specs.Shown.{held_row}
+use Rattle.vault_store_reads.specs.Readable.{AreReadable, IsHeldRow}
+use Rattle.vault_store_reads.proofs.AskedLemmas.{entries_asked}
+use Rattle.vault_store_reads.proofs.ReadableLemmas.{held_readable}
 use Rattle.vault_store_reads.proofs.QueryLemmas.{if_shown}
 use Rattle.vault_store_reads.proofs.OrderedEntryLemmas.{held_query, found_held}
 use Rattle.vault_store_reads.proofs.OrderedTextLemmas.{entries_is}
@@ -8,3 +13,11 @@ open_rows-requires g c = (held_query, entries_is)
 
 pub returns-clause-rows : goal.returns-clause-rows
 returns-clause-rows g c clean = if_shown c.open_rows.result (c.open_rows.ensures.rows clean) (λ rows finds v was. (found_held v c.args.bucket.now c.args.key.now c.args.most rows.items (rw (c.params-to_sql.ensures, c.params-to_sql-2.ensures, c.params-to_sql-3.ensures, c.as_str.ensures.text, c.as_str-2.ensures.text) at (finds v was)), (finds v was).1.spells.kept.sound))
+
+pub returns-clause-readable : goal.returns-clause-readable
+returns-clause-readable g c clean = if_shown c.open_rows.result (c.open_rows.ensures.rows clean) (λ rows finds v was.
+    let found = rw (c.params-to_sql.ensures, c.params-to_sql-2.ensures, c.params-to_sql-3.ensures, c.as_str.ensures.text, c.as_str-2.ensures.text) at (finds v was) in
+    subst (AreReadable held_row IsHeldRow) (sym (found_held v c.args.bucket.now c.args.key.now c.args.most rows.items found)) (held_readable v found.1.spells.kept c.args.bucket.now c.args.key.now c.args.most))
+
+pub returns-clause-memory : goal.returns-clause-memory
+returns-clause-memory g c well v was = c.open_rows.ensures.memory (rw (c.params-to_sql.ensures, c.params-to_sql-2.ensures, c.params-to_sql-3.ensures, c.as_str.ensures.text, c.as_str-2.ensures.text) (entries_asked c.args.bucket.now c.args.key.now c.args.most)) well v was

@@ -1,7 +1,9 @@
 use Rattle.std.proofs.Common.{arith}
 use Rattle.sqlite.specs.Held.{state}
+use Rattle.sqlite.specs.Values.{bound}
 use Rattle.vault_store_reads.proofs.QueryLemmas.{finds, keeps_after, if_shown}
 use Rattle.vault_store_reads.proofs.OpenLemmas.{open_after, quiet}
+use Rattle.vault_store_reads.proofs.WantLemmas.{cause_of, if_failed}
 use Rattle.vault_store_reads.proofs.rows_in_order.rows.open_rows.Goals as goal
 
 pub returns-clause-rows : goal.returns-clause-rows
@@ -17,3 +19,7 @@ returns-clause-read g c = record {
 
 pub returns-clause-open : goal.returns-clause-open
 returns-clause-open g c clean = open_after _ _ _ _ (λ rows. rows.items) c.query_all.result (c.query_all.ensures.ok clean)
+
+pub returns-clause-memory : goal.returns-clause-memory
+returns-clause-memory g c asked well v was = if_failed c.query_all.result (c.query_all.ensures.err well.clean) (λ e failed.
+    cause_of c.args.sql.now (bound c.args.params.now) (state g.S.Store c.args.conn.now) (state g.S.Store c.query_all.new.self) v was well c.query_all.ensures.survives.limit c.requires.1.plain c.requires.1.unlisted asked e failed)

@@ -1,0 +1,81 @@
+-- The texts of the reads can be answered, with the parameters that they are given.
+use Rattle.std.proofs.Common.{ℕ, List, [], ◌∷◌, refl, arith}
+use Rattle.sqlite_tied.specs.Compute.{everything}
+use Rattle.sqlite_value.specs.declared.value.Value.TheVariants.{Text}
+use Rattle.sqlite.specs.Listing.{understood}
+use Rattle.vault_audit_model.specs.Values.{number}
+use Rattle.vault_store_reads.specs.Wants.{IsAskedWith}
+use Rattle.vault_store_reads.proofs.TextLemmas.{meta_text, department_text, caller_text, bucket_text, entry_text, content_text, note_text, head_text}
+use Rattle.vault_store_reads.proofs.OrderedTextLemmas.{setting_text, settings_text, rules_text, tenures_text, last_tenure_text, entries_text, sized_text, newest_text, keys_text, removed_text}
+
+pub meta_asked : IsAskedWith meta_text []
+unfolding understood everything
+meta_asked = (omega (arith), refl, (refl, refl, refl, refl))
+
+pub department_asked : (name : List ℕ) → IsAskedWith department_text (Text name ∷ [])
+unfolding understood everything
+department_asked name = (omega (arith), refl, (refl, refl, refl, refl))
+
+pub caller_asked : (name : List ℕ) → IsAskedWith caller_text (Text name ∷ [])
+unfolding understood everything
+caller_asked name = (omega (arith), refl, (refl, refl, refl, refl))
+
+pub bucket_asked : (name : List ℕ) → IsAskedWith bucket_text (Text name ∷ [])
+unfolding understood everything
+bucket_asked name = (omega (arith), refl, (refl, refl, refl, refl))
+
+pub entry_asked : (id : ℕ) → IsAskedWith entry_text (number id ∷ [])
+unfolding understood everything
+entry_asked id = (omega (arith), refl, (refl, refl, refl, refl))
+
+pub content_asked : (id : ℕ) → IsAskedWith content_text (number id ∷ [])
+unfolding understood everything
+content_asked id = (omega (arith), refl, (refl, refl, refl, refl))
+
+pub note_asked : (bucket batch : List ℕ) (line : ℕ) → IsAskedWith note_text (Text bucket ∷ Text batch ∷ number line ∷ [])
+unfolding understood everything
+note_asked bucket batch line = (omega (arith), refl, (refl, refl, refl, refl))
+
+pub head_asked : (bucket key : List ℕ) → IsAskedWith head_text (Text bucket ∷ Text key ∷ [])
+unfolding understood everything
+head_asked bucket key = (omega (arith), refl, (refl, refl, refl, refl))
+
+pub setting_asked : (id : ℕ) → IsAskedWith setting_text (number id ∷ [])
+unfolding understood everything
+setting_asked id = (omega (arith), refl, (refl, refl, refl, refl))
+
+pub settings_asked : (id : ℕ) → IsAskedWith settings_text (number id ∷ [])
+unfolding understood everything
+settings_asked id = (omega (arith), refl, (refl, refl, refl, refl))
+
+pub rules_asked : (bucket : List ℕ) → IsAskedWith rules_text (Text bucket ∷ [])
+unfolding understood everything
+rules_asked bucket = (omega (arith), refl, (refl, refl, refl, refl))
+
+pub tenures_asked : (id : ℕ) → IsAskedWith tenures_text (number id ∷ [])
+unfolding understood everything
+tenures_asked id = (omega (arith), refl, (refl, refl, refl, refl))
+
+pub last_tenure_asked : (id : ℕ) → IsAskedWith last_tenure_text (number id ∷ [])
+unfolding understood everything
+last_tenure_asked id = (omega (arith), refl, (refl, refl, refl, refl))
+
+pub entries_asked : (bucket key : List ℕ) (most : ℕ) → IsAskedWith entries_text (Text bucket ∷ Text key ∷ number most ∷ [])
+unfolding understood everything
+entries_asked bucket key most = (omega (arith), refl, (refl, refl, refl, refl))
+
+pub sized_asked : (bucket : List ℕ) → IsAskedWith sized_text (Text bucket ∷ [])
+unfolding understood everything
+sized_asked bucket = (omega (arith), refl, (refl, refl, refl, refl))
+
+pub newest_asked : (bucket key : List ℕ) (id : ℕ) → IsAskedWith newest_text (Text bucket ∷ Text key ∷ number id ∷ [])
+unfolding understood everything
+newest_asked bucket key id = (omega (arith), refl, (refl, refl, refl, refl))
+
+pub keys_asked : (bucket after : List ℕ) (most : ℕ) → IsAskedWith keys_text (Text bucket ∷ Text after ∷ number most ∷ [])
+unfolding understood everything
+keys_asked bucket after most = (omega (arith), refl, (refl, refl, refl, refl))
+
+pub removed_asked : IsAskedWith removed_text []
+unfolding understood everything
+removed_asked = (omega (arith), refl, (refl, refl, refl, refl))
