@@ -15,7 +15,7 @@ use Rattle.vault_http.specs.Head.{HasNoHead}
 use Rattle.vault_http_request.specs.declared.plan.Plan.{Plan}
 use Rattle.vault_io.specs.Begins.{Begins}
 use Rattle.vault_http.specs.Exchange.{drops, interim, planned_command, Done, Judged, PlanServed}
-use Rattle.vault_http.specs.Left.{DenyLeft, JudgedLeft, Left, PlanLeft, Stepped}
+use Rattle.vault_http.specs.Left.{DenyLeft, JudgedLeft, LeftFor, PlanLeft, Stepped}
 use Rattle.vault_http.specs.declared.fault.ServeFault.{ServeFault}
 use Rattle.vault_http.specs.declared.fault.ServeFault.TheVariants as faults
 
@@ -40,13 +40,13 @@ answer_left Failed at shown who c old new a b reply dropped out sent step is say
     subst P (sym d.0) (out, (reply, step, answers, failed), subst (Begins a b) same d.1)
 
 -- there is no head, and the answer to that failed
-pub none_left : (Failed : Type 0) (moment : Option ℕ) (left unread rest a b : Option (List ℕ)) (buf : List ℕ) (old : Vault) → Consumes left rest buf → IfSome left HasNoHead → 0 < length buf
-    → (e : ServeFault) → DenyLeft e moment refusal.InvalidArgument None true a b → IfSome left (λ input. Left Failed e moment input unread old old a b)
-none_left Failed moment None unread rest a b buf old taken none some e d = tt
-none_left Failed moment (Some input) unread None a b buf old taken none some e d = absurd taken
-none_left Failed moment (Some input) unread (Some rest) a b buf old taken none some faults.Read d = absurd d
-none_left Failed moment (Some input) unread (Some rest) a b buf old taken none some faults.Memory d = inl (refl, d)
-none_left Failed moment (Some input) unread (Some rest) a b buf old taken none some faults.Write d =
+pub none_left : (hosts : List (List ℕ)) (Failed : Type 0) (moment : Option ℕ) (left unread rest a b : Option (List ℕ)) (buf : List ℕ) (old : Vault) → Consumes left rest buf → IfSome left HasNoHead → 0 < length buf
+    → (e : ServeFault) → DenyLeft e moment refusal.InvalidArgument None true a b → IfSome left (λ input. LeftFor hosts Failed e moment input unread old old a b)
+none_left hosts Failed moment None unread rest a b buf old taken none some e d = tt
+none_left hosts Failed moment (Some input) unread None a b buf old taken none some e d = absurd taken
+none_left hosts Failed moment (Some input) unread (Some rest) a b buf old taken none some faults.Read d = absurd d
+none_left hosts Failed moment (Some input) unread (Some rest) a b buf old taken none some faults.Memory d = inl (refl, d)
+none_left hosts Failed moment (Some input) unread (Some rest) a b buf old taken none some faults.Write d =
     let whole : length input ≡ length buf + length rest = ap length taken ∙ length-append buf rest in
     inl (omega (arith, some, whole), none, (d.0, (refl, d.1), d.2))
 

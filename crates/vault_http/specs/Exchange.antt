@@ -1,5 +1,6 @@
 -- Which bytes are the answer to which request, and what the request does with the vault.
-use Rattle.std.specs.Prelude.{ℕ, ◌≡◌, ◌<◌, ◌⊎◌, List, [], ◌∷◌, ◌++◌, length, map, take, codes, Bool, true, false, not, IsTrue, Option, Some, None, Result, Ok, Err, if◌then◌else◌}
+use Rattle.std.specs.Prelude.{ℕ, ◌≡◌, ◌<◌, ◌⊎◌, List, [], ◌∷◌, ◌++◌, length, map, take, codes, Bool, true, false, not, IsTrue, Option, Some, None, IfSome, Result, Ok, Err, if◌then◌else◌}
+use Rattle.std.specs.Io.KnownBytes.{Appends}
 use Rattle.httparse.specs.Grammar.{RequestHead}
 use Rattle.httparse.specs.Spans.{name_and_value, span_bytes, header_bytes}
 use Rattle.httparse.specs.declared.spans.HeaderSpan.{HeaderSpan}
@@ -16,8 +17,10 @@ use Rattle.vault_http.specs.Reply.{AnswersRefusal, AnswersReply}
 use Rattle.vault_http.specs.declared.answer.head.Allow.{Allow}
 use Rattle.vault_http.specs.declared.answer.head.Allow.TheVariants as allow
 use Rattle.vault_http.specs.Head.{IsHead, HasNoHead}
+use Rattle.vault_http.specs.Host.{is_for}
 use Rattle.vault_http_request.specs.Operation.{is_head}
 use Rattle.vault_http_request.specs.Plan.{asked_of}
+use Rattle.vault_http_target.specs.Fields.{Fields}
 use Rattle.vault_http_request.specs.declared.operation.Operation.{Operation}
 use Rattle.vault_http_request.specs.declared.operation.Resource.{Resource}
 use Rattle.vault_http_request.specs.declared.operation.Resource.TheVariants as resource
@@ -102,20 +105,38 @@ is_shown method = not (is_head method)
 abbrev pub head_asked : Option ℕ → RequestHead → Result Asked Refusal
 head_asked moment h = asked_of moment h.method h.target h.minor (map name_and_value h.fields)
 
+-- a head with these headers is refused where it is for none of the hosts
+abbrev pub asked_for : List (List ℕ) → Fields → Said → Said
+asked_for hosts fields said = if is_for hosts fields then said else Err refusal.InvalidArgument
+
+-- what a head asks for at a server that answers for these hosts; where there are none, for any
+abbrev pub head_asked_for : List (List ℕ) → Option ℕ → RequestHead → Said
+head_asked_for hosts moment h = asked_for hosts (map name_and_value h.fields) (head_asked moment h)
+
 -- what is written for a head and what comes after it
-abbrev pub HeadServed : Type 0 → Option ℕ → RequestHead → List ℕ → Vault → List ℕ → Vault → Type 0
-HeadServed Failed moment h rest old out new = HeadJudged Failed moment (is_shown h.method) (head_asked moment h) rest old out new
+abbrev pub HeadServed : List (List ℕ) → Type 0 → Option ℕ → RequestHead → List ℕ → Vault → List ℕ → Vault → Type 0
+HeadServed hosts Failed moment h rest old out new = HeadJudged Failed moment (is_shown h.method) (head_asked_for hosts moment h) rest old out new
 
 -- ---- requests
 
--- what is written for an input: nothing for nothing, a refusal where there is no head, else the answer of its head
-abbrev pub Served : Type 0 → Option ℕ → List ℕ → Vault → List ℕ → Vault → Type 0
-Served Failed moment input old out new =
+-- what is written for an input, where these hosts are answered for: nothing for nothing, a refusal where there is no head, else the answer of its head
+abbrev pub ServedFor : List (List ℕ) → Type 0 → Option ℕ → List ℕ → Vault → List ℕ → Vault → Type 0
+ServedFor hosts Failed moment input old out new =
     ((input ≡ []) × (out ≡ []) × (new ≡ old))
     ⊎ (((0 < length input) × HasNoHead input × Denied moment true refusal.InvalidArgument None old out new)
-    ⊎ ((h : RequestHead) × (rest : List ℕ) × IsHead input h rest × HeadServed Failed moment h rest old out new))
+    ⊎ ((h : RequestHead) × (rest : List ℕ) × IsHead input h rest × HeadServed hosts Failed moment h rest old out new))
+
+-- the same where requests for any host are answered
+abbrev pub Served : Type 0 → Option ℕ → List ℕ → Vault → List ℕ → Vault → Type 0
+Served = ServedFor []
+
+-- what is written for an input where it is known
+abbrev pub Answered : List (List ℕ) → Type 0 → Option ℕ → Option (List ℕ) → Vault → Vault → Option (List ℕ) → Option (List ℕ) → Type 0
+Answered hosts Failed moment known old new before after =
+    IfSome known (λ input. (out : List ℕ) × ServedFor hosts Failed moment input old out new × Appends before after out)
 
 -- the parts of a head where they lie in a buffer
-abbrev pub spans_asked : Option ℕ → List ℕ → List HeaderSpan → RequestSpans → Result Asked Refusal
-spans_asked moment buf headers spans =
-    asked_of moment (span_bytes buf spans.method) (span_bytes buf spans.path) spans.version (map (header_bytes buf) (take spans.headers headers))
+abbrev pub spans_asked : List (List ℕ) → Option ℕ → List ℕ → List HeaderSpan → RequestSpans → Said
+spans_asked hosts moment buf headers spans =
+    let fields = map (header_bytes buf) (take spans.headers headers) in
+    asked_for hosts fields (asked_of moment (span_bytes buf spans.method) (span_bytes buf spans.path) spans.version fields)

@@ -1,6 +1,6 @@
 -- What stands after a fault, and what was read.
-use Rattle.std.specs.Prelude.{ℕ, ◌≡◌, ◌≤◌, ◌<◌, ◌⊎◌, List, [], ◌++◌, length, Bool, true, Option, Some, None, Result, Ok, Err}
-use Rattle.std.specs.Io.KnownBytes.{Appends}
+use Rattle.std.specs.Prelude.{ℕ, ◌≡◌, ◌≤◌, ◌<◌, ◌⊎◌, List, [], ◌++◌, length, Bool, true, Option, Some, None, IfSome, Result, Ok, Err}
+use Rattle.std.specs.Io.KnownBytes.{Appends, Consumes}
 use Rattle.httparse.specs.Grammar.{RequestHead, print_request}
 use Rattle.vault_base.specs.declared.refusal.Refusal.{Refusal}
 use Rattle.vault_base.specs.declared.refusal.Refusal.TheVariants as refusal
@@ -19,7 +19,7 @@ use Rattle.vault_http_request.specs.declared.plan.Asked.{Asked}
 use Rattle.vault_http_request.specs.declared.plan.Asked.TheVariants as asked
 use Rattle.vault_http_request.specs.declared.plan.Plan.{Plan}
 use Rattle.vault_http.specs.Command.{IsWithinLength}
-use Rattle.vault_http.specs.Exchange.{Denied, Judged, allow_of, go_on, head_asked, is_shown, planned_command, interim}
+use Rattle.vault_http.specs.Exchange.{Denied, Judged, allow_of, go_on, head_asked_for, is_shown, planned_command, interim}
 use Rattle.vault_http.specs.declared.fault.ServeFault.{ServeFault}
 use Rattle.vault_http.specs.declared.fault.ServeFault.TheVariants as faults
 
@@ -87,10 +87,19 @@ Early faults.Write moment input old new before after =
     (0 < length input) × HasNoHead input × DeniedLeft faults.Write moment true refusal.InvalidArgument None old new before after
 
 -- of an input, of which this is unread after it, and of what was written before it and is after it
-abbrev pub Left : Type 0 → ServeFault → Option ℕ → List ℕ → Option (List ℕ) → Vault → Vault → Option (List ℕ) → Option (List ℕ) → Type 0
-Left Failed e moment input unread old new before after =
+abbrev pub LeftFor : List (List ℕ) → Type 0 → ServeFault → Option ℕ → List ℕ → Option (List ℕ) → Vault → Vault → Option (List ℕ) → Option (List ℕ) → Type 0
+LeftFor hosts Failed e moment input unread old new before after =
     Early e moment input old new before after
-    ⊎ ((h : RequestHead) × (rest : List ℕ) × IsHead input h rest × HeadLeft Failed e moment (is_shown h.method) (head_asked moment h) rest unread old new before after)
+    ⊎ ((h : RequestHead) × (rest : List ℕ) × IsHead input h rest × HeadLeft Failed e moment (is_shown h.method) (head_asked_for hosts moment h) rest unread old new before after)
+
+-- the same where requests for any host are answered
+abbrev pub Left : Type 0 → ServeFault → Option ℕ → List ℕ → Option (List ℕ) → Vault → Vault → Option (List ℕ) → Option (List ℕ) → Type 0
+Left = LeftFor []
+
+-- the same where the input is known
+abbrev pub Unanswered : List (List ℕ) → Type 0 → ServeFault → Option ℕ → Option (List ℕ) → Option (List ℕ) → Vault → Vault → Option (List ℕ) → Option (List ℕ) → Type 0
+Unanswered hosts Failed e moment known unread old new before after =
+    IfSome known (λ input. LeftFor hosts Failed e moment input unread old new before after)
 
 -- ---- what was read
 
@@ -104,8 +113,17 @@ IsBodyTaken (Ok a) taken = IsAskedTaken a taken
 IsBodyTaken (Err r) taken = taken ≡ []
 
 -- of an input: nothing where there is nothing; without a head no more than a head may have; else the head and what of its body
-abbrev pub IsTaken : Option ℕ → List ℕ → List ℕ → Type 0
-IsTaken moment input taken =
+abbrev pub IsTakenFor : List (List ℕ) → Option ℕ → List ℕ → List ℕ → Type 0
+IsTakenFor hosts moment input taken =
     ((input ≡ []) × (taken ≡ []))
     ⊎ ((HasNoHead input × (length taken ≤ 16384))
-    ⊎ ((h : RequestHead) × (rest : List ℕ) × (body : List ℕ) × IsHead input h rest × (taken ≡ print_request h ++ body) × IsBodyTaken (head_asked moment h) body))
+    ⊎ ((h : RequestHead) × (rest : List ℕ) × (body : List ℕ) × IsHead input h rest × (taken ≡ print_request h ++ body) × IsBodyTaken (head_asked_for hosts moment h) body))
+
+-- the same where requests for any host are answered
+abbrev pub IsTaken : Option ℕ → List ℕ → List ℕ → Type 0
+IsTaken = IsTakenFor []
+
+-- the same where the input is known: of what was left before, what was taken until there is this left
+abbrev pub Taken : List (List ℕ) → Option ℕ → Option (List ℕ) → Option (List ℕ) → Type 0
+Taken hosts moment known left =
+    IfSome known (λ input. (taken : List ℕ) × Consumes known left taken × IsTakenFor hosts moment input taken)

@@ -2,6 +2,7 @@ pub mod Exchange
 pub mod Left
 pub mod Steady
 pub mod Head
+pub mod Host
 pub mod Body
 pub mod Bytes
 pub mod Command

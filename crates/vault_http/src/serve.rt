@@ -16,6 +16,7 @@ use crate::answer::head::Allow;
 use crate::carrying::{conclude, deny};
 use crate::command::command_after;
 use crate::fault::ServeFault;
+use crate::host::{Hosts, is_for};
 use crate::read::head::{Front, read_head};
 use crate::send::send_interim;
 use httparse::spans::{EMPTY_HEADER_SPAN, HeaderSpan, RequestSpans};
@@ -111,9 +112,10 @@ fn allow_of(resource: Resource) -> Allow
     }
 }
 
-/// What a head asks for, its parts where they lie in the buffer.
+/// What a head asks for, its parts where they lie in the buffer. It is refused where it is for none of the hosts.
 fn spans_asked(
     alloc: Global,
+    hosts: &Hosts,
     moment: &Option<Moment>,
     buf: &[u8],
     headers: &[HeaderSpan],
@@ -121,9 +123,13 @@ fn spans_asked(
 ) -> Result<Asked, LineFault>
     requires within { IsRequestWithin buf.now headers.now spans }
     requires room { length headers.now ≡ 64 }
-    ensures value { Gives (λ x. x) result (spec.spans_asked moment.now buf.now headers.now spans) }
+    ensures value { Gives (λ x. x) result (spec.spans_asked hosts.now moment.now buf.now headers.now spans) }
     ensures at { IfOk result (IsAt moment.now) }
 {
+    let headers = &headers[..spans.headers];
+    if !is_for(hosts, buf, headers) {
+        return Err(LineFault::Refused(Refusal::InvalidArgument));
+    }
     asked_of(
         alloc,
         *moment,
@@ -131,7 +137,7 @@ fn spans_asked(
         spans.path.of(buf),
         spans.version,
         buf,
-        &headers[..spans.headers],
+        headers,
     )
 }
 
@@ -201,6 +207,7 @@ fn serve_head<R: Read, W: Write, K: Keeper>(
     reader: &mut R,
     writer: &mut W,
     keeper: &mut K,
+    hosts: &Hosts,
     moment: &Option<Moment>,
     buf: &[u8],
     headers: &[HeaderSpan],
@@ -208,11 +215,11 @@ fn serve_head<R: Read, W: Write, K: Keeper>(
 ) -> Result<(), ServeFault>
     requires within { IsRequestWithin buf.now headers.now spans }
     requires room { length headers.now ≡ 64 }
-    ensures ok { K.is_honest keeper.new → OnOk result (IfSome (R.remaining reader.old) (λ rest. (out : List ℕ) × spec.HeadJudged (RoseOrIsFull (K.count keeper.old) (K.count keeper.new)) moment.now (spec.is_shown (span_bytes buf.now spans.method)) (spec.spans_asked moment.now buf.now headers.now spans) rest (K.vault keeper.old) out (K.vault keeper.new) × Appends (W.contents writer.old) (W.contents writer.new) out)) }
-    ensures err { K.is_honest keeper.new → IfErr result (λ e. IfSome (R.remaining reader.old) (λ rest. left.HeadLeft (RoseOrIsFull (K.count keeper.old) (K.count keeper.new)) e moment.now (spec.is_shown (span_bytes buf.now spans.method)) (spec.spans_asked moment.now buf.now headers.now spans) rest (R.remaining reader.new) (K.vault keeper.old) (K.vault keeper.new) (W.contents writer.old) (W.contents writer.new))) }
+    ensures ok { K.is_honest keeper.new → OnOk result (IfSome (R.remaining reader.old) (λ rest. (out : List ℕ) × spec.HeadJudged (RoseOrIsFull (K.count keeper.old) (K.count keeper.new)) moment.now (spec.is_shown (span_bytes buf.now spans.method)) (spec.spans_asked hosts.now moment.now buf.now headers.now spans) rest (K.vault keeper.old) out (K.vault keeper.new) × Appends (W.contents writer.old) (W.contents writer.new) out)) }
+    ensures err { K.is_honest keeper.new → IfErr result (λ e. IfSome (R.remaining reader.old) (λ rest. left.HeadLeft (RoseOrIsFull (K.count keeper.old) (K.count keeper.new)) e moment.now (spec.is_shown (span_bytes buf.now spans.method)) (spec.spans_asked hosts.now moment.now buf.now headers.now spans) rest (R.remaining reader.new) (K.vault keeper.old) (K.vault keeper.new) (W.contents writer.old) (W.contents writer.new))) }
     ensures once { K.is_honest keeper.new → left.AtMostOne moment.now (K.vault keeper.old) (K.vault keeper.new) }
     ensures unread { result ≡ Err faults.Read → K.vault keeper.new ≡ K.vault keeper.old }
-    ensures taken { OnOk result ((taken : List ℕ) × Consumes (R.remaining reader.old) (R.remaining reader.new) taken × left.IsBodyTaken (spec.spans_asked moment.now buf.now headers.now spans) taken) }
+    ensures taken { OnOk result ((taken : List ℕ) × Consumes (R.remaining reader.old) (R.remaining reader.new) taken × left.IsBodyTaken (spec.spans_asked hosts.now moment.now buf.now headers.now spans) taken) }
     ensures honest { K.is_honest keeper.new → K.is_honest keeper.old }
     ensures counted { K.count keeper.old ≤ K.count keeper.new }
     ensures steady { Steady (K.is_honest keeper.new) result moment.now (K.vault keeper.old) (K.vault keeper.new) (K.count keeper.old) (K.count keeper.new) (W.contents writer.old) (W.contents writer.new) }
@@ -223,7 +230,7 @@ fn serve_head<R: Read, W: Write, K: Keeper>(
         writer,
         keeper,
         moment,
-        spans_asked(alloc, moment, buf, headers, spans),
+        spans_asked(alloc, hosts, moment, buf, headers, spans),
         is_shown(spans.method.of(buf)),
     )
 }
@@ -235,14 +242,16 @@ fn serve_at<R: Read, W: Write, K: Keeper>(
     writer: &mut W,
     keeper: &mut K,
     moment: Option<Moment>,
+    hosts: &Hosts,
 ) -> Result<(), ServeFault>
-    ensures ok { K.is_honest keeper.new → OnOk result (IfSome (R.remaining reader.old) (λ input. (out : List ℕ) × spec.Served (RoseOrIsFull (K.count keeper.old) (K.count keeper.new)) moment input (K.vault keeper.old) out (K.vault keeper.new) × Appends (W.contents writer.old) (W.contents writer.new) out)) }
-    ensures err { K.is_honest keeper.new → IfErr result (λ e. IfSome (R.remaining reader.old) (λ input. left.Left (RoseOrIsFull (K.count keeper.old) (K.count keeper.new)) e moment input (R.remaining reader.new) (K.vault keeper.old) (K.vault keeper.new) (W.contents writer.old) (W.contents writer.new))) }
+    ensures ok { K.is_honest keeper.new → OnOk result (spec.Answered hosts.now (RoseOrIsFull (K.count keeper.old) (K.count keeper.new)) moment (R.remaining reader.old)
+        (K.vault keeper.old) (K.vault keeper.new) (W.contents writer.old) (W.contents writer.new)) }
+    ensures err { K.is_honest keeper.new → IfErr result (λ e. left.Unanswered hosts.now (RoseOrIsFull (K.count keeper.old) (K.count keeper.new)) e moment (R.remaining reader.old) (R.remaining reader.new)
+        (K.vault keeper.old) (K.vault keeper.new) (W.contents writer.old) (W.contents writer.new)) }
     ensures once { K.is_honest keeper.new → left.AtMostOne moment (K.vault keeper.old) (K.vault keeper.new) }
     ensures unread { result ≡ Err faults.Read → K.vault keeper.new ≡ K.vault keeper.old }
-    ensures taken { OnOk result (IfSome (R.remaining reader.old) (λ input. (taken : List ℕ) × Consumes (R.remaining reader.old) (R.remaining reader.new) taken × left.IsTaken moment input taken)) }
-    ensures honest { K.is_honest keeper.new → K.is_honest keeper.old }
-    ensures counted { K.count keeper.old ≤ K.count keeper.new }
+    ensures taken { OnOk result (left.Taken hosts.now moment (R.remaining reader.old) (R.remaining reader.new)) }
+    ensures leaves { left.LeavesNoLess K.Kept keeper.old keeper.new }
     ensures steady { Steady (K.is_honest keeper.new) result moment (K.vault keeper.old) (K.vault keeper.new) (K.count keeper.old) (K.count keeper.new) (W.contents writer.old) (W.contents writer.new) }
 {
     let mut buf = Vec::new(alloc);
@@ -255,6 +264,7 @@ fn serve_at<R: Read, W: Write, K: Keeper>(
             reader,
             writer,
             keeper,
+            hosts,
             &moment,
             buf.as_slice(),
             &headers,
@@ -296,5 +306,34 @@ pub fn serve_one<R: Read, W: Write, K: Keeper>(
     // answer, or a beginning of that.
     ensures steady { Steady (K.is_honest keeper.new) result (moment_at reading) (K.vault keeper.old) (K.vault keeper.new) (K.count keeper.old) (K.count keeper.new) (W.contents writer.old) (W.contents writer.new) }
 {
-    serve_at(alloc, reader, writer, keeper, Moment::from_secs(reading))
+    let hosts = Hosts::any(alloc);
+    let moment = Moment::from_secs(reading);
+    serve_at(alloc, reader, writer, keeper, moment, &hosts)
+}
+
+/// As `serve_one`, where requests for these hosts are answered, and for this machine; where there are none, for any host.
+///
+/// A request for another host, without one, or with two is refused, `InvalidArgument`, before anything else of it is looked
+/// at, and nothing after its head is read.
+pub fn serve_for<R: Read, W: Write, K: Keeper>(
+    alloc: Global,
+    reader: &mut R,
+    writer: &mut W,
+    keeper: &mut K,
+    reading: i64,
+    hosts: &Hosts,
+) -> Result<(), ServeFault>
+    ensures ok { K.is_honest keeper.new → OnOk result (spec.Answered hosts.now (RoseOrIsFull (K.count keeper.old) (K.count keeper.new)) (moment_at reading) (R.remaining reader.old)
+        (K.vault keeper.old) (K.vault keeper.new) (W.contents writer.old) (W.contents writer.new)) }
+    ensures err { K.is_honest keeper.new → IfErr result (λ e. left.Unanswered hosts.now (RoseOrIsFull (K.count keeper.old) (K.count keeper.new)) e (moment_at reading) (R.remaining reader.old)
+        (R.remaining reader.new) (K.vault keeper.old) (K.vault keeper.new) (W.contents writer.old) (W.contents writer.new)) }
+    ensures once { K.is_honest keeper.new → left.AtMostOne (moment_at reading) (K.vault keeper.old) (K.vault keeper.new) }
+    ensures unread { result ≡ Err faults.Read → K.vault keeper.new ≡ K.vault keeper.old }
+    ensures taken { OnOk result (left.Taken hosts.now (moment_at reading) (R.remaining reader.old) (R.remaining reader.new)) }
+    ensures leaves { left.LeavesNoLess K.Kept keeper.old keeper.new }
+    ensures steady { Steady (K.is_honest keeper.new) result (moment_at reading) (K.vault keeper.old) (K.vault keeper.new)
+        (K.count keeper.old) (K.count keeper.new) (W.contents writer.old) (W.contents writer.new) }
+{
+    let moment = Moment::from_secs(reading);
+    serve_at(alloc, reader, writer, keeper, moment, hosts)
 }

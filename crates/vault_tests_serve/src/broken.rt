@@ -1,4 +1,5 @@
 //! 1,000 peers of each kind in turn that are gone when they are served, and then a request that is answered.
+use crate::loopback::serve_connections;
 use crate::peers::{GonePeers, StandingClock, answered, waiting};
 use std::alloc::Global;
 use std::cell::Cell;
@@ -7,7 +8,6 @@ use std::net::{Ipv4Addr, Net, TcpListener, TcpStream};
 use std::test::Fail;
 use vault_core_model::keeper::Keeper;
 use vault_transcript::transcript::opened;
-use vaultctl_serve::serve_connections;
 
 const COUNT: u32 = 1_000;
 

@@ -9,6 +9,7 @@ use std::time::Duration;
 use vault_base::moment::Moment;
 use vault_core::fuse_keeper::FuseKeeper;
 use vault_core_model::keeper::Keeper;
+use vault_http::Hosts;
 use vault_transcript::transcript::opened;
 use vaultctl_serve_lines::doors::{Arrived, Doors, Heard};
 use vaultctl_serve_lines::line::Next;
@@ -61,6 +62,7 @@ struct KnownDoors<'a> {
     pace: u64,
     /// How many connections of lines were kept open.
     kept: u32,
+    hosts: &'a Hosts,
     alloc: Global,
 }
 
@@ -114,6 +116,10 @@ impl<'a> Doors for KnownDoors<'a> {
         READING
     }
 
+    fn hosts(&self) -> &Hosts {
+        self.hosts
+    }
+
     fn keep(&mut self, _talker: SlowPeer<'a, 'static>) {
         self.kept = self.kept.saturating_add(1);
     }
@@ -144,12 +150,14 @@ fn serve<K: Keeper>(
     };
     let taken = Cell::new(Vec::new(alloc));
     let mut reports = Vec::new(alloc);
+    let hosts = Hosts::any(alloc);
     let mut doors = KnownDoors {
         clock: &clock,
         turns,
         taken: &taken,
         pace,
         kept: 0,
+        hosts: &hosts,
         alloc,
     };
     let service = Service {

@@ -5,6 +5,7 @@ use std::alloc::Global;
 use std::io;
 use std::test::Fail;
 use vault_core_model::keeper::Keeper;
+use vault_http::Hosts;
 use vault_transcript::transcript::opened;
 use vaultctl_serve::{serve_arrivals, serve_in_time};
 
@@ -27,6 +28,27 @@ fn push_bytes(coming: &mut Vec<KnownByte>, bytes: &[u8], at: u64) -> Result<(), 
     Ok(())
 }
 
+/// Serves the put of a head and of a body that come then, at a server of these hosts, and returns what is written.
+fn put_at<K: Keeper>(
+    alloc: Global,
+    keeper: &mut K,
+    head: &str,
+    head_at: u64,
+    body_at: u64,
+    hosts: &Hosts,
+) -> Result<String, Fail> {
+    let mut coming = Vec::new(alloc);
+    push_bytes(&mut coming, head.as_bytes(), head_at)?;
+    push_bytes(&mut coming, b"hello", body_at)?;
+    let request = KnownRequest {
+        coming: coming.as_slice(),
+        now: 0,
+    };
+    let mut answer = Vec::new(alloc);
+    let _ = serve_in_time(alloc, request, &mut answer, keeper, READING, hosts);
+    Ok(String::from_utf8(answer)?)
+}
+
 /// Serves a put whose head and body come then, and returns what is written.
 fn put<K: Keeper>(
     alloc: Global,
@@ -34,16 +56,7 @@ fn put<K: Keeper>(
     head_at: u64,
     body_at: u64,
 ) -> Result<String, Fail> {
-    let mut coming = Vec::new(alloc);
-    push_bytes(&mut coming, HEAD.as_bytes(), head_at)?;
-    push_bytes(&mut coming, b"hello", body_at)?;
-    let request = KnownRequest {
-        coming: coming.as_slice(),
-        now: 0,
-    };
-    let mut answer = Vec::new(alloc);
-    let _ = serve_in_time(alloc, request, &mut answer, keeper, READING);
-    Ok(String::from_utf8(answer)?)
+    put_at(alloc, keeper, HEAD, head_at, body_at, &Hosts::any(alloc))
 }
 
 /// A nanosecond too late, and the request is as one that never came: the put after it is the vault's first.
@@ -70,9 +83,11 @@ fn as_many_tries_as_reported(rt: HostRuntime) -> Result<(), Fail> {
     let alloc = rt.alloc();
     let mut keeper = opened(alloc)?;
     let readings = [Some(READING), None, Some(READING), Some(READING)];
+    let hosts = Hosts::any(alloc);
     let mut arrivals = KnownArrivals {
         readings: &readings,
         shown: 0,
+        hosts: &hosts,
     };
     let mut reports = io::sink();
     serve_arrivals(
@@ -84,5 +99,58 @@ fn as_many_tries_as_reported(rt: HostRuntime) -> Result<(), Fail> {
         &mut reports,
     );
     assert_eq!(rt; arrivals.readings.len(), 1);
+    Ok(())
+}
+
+/// Heads for these hosts: those of the machine and the one that is named, with a port and without, in any letter case.
+const KNOWN: [&str; 6] = [
+    "host: localhost:8080\r\n",
+    "Host: LocalHost\r\n",
+    "host: 127.0.0.1:8080\r\n",
+    "host: [::1]:8080\r\n",
+    "host:  vault.example.org \r\n",
+    "host: vault.example.org:\r\n",
+];
+
+/// Heads for others, for none, and for two.
+const STRANGE: [&str; 8] = [
+    "host: evil.example\r\n",
+    "host: evil.example:8080\r\n",
+    "host: localhost.evil.example\r\n",
+    "host: localhost:80a\r\n",
+    "host: localhos\r\n",
+    "host:\r\n",
+    "",
+    "host: localhost\r\nhost: localhost\r\n",
+];
+
+const REFUSED: &str =
+    "HTTP/1.1 400 Bad Request\r\ndate: Mon, 15 Jan 2024 10:30:00 GMT\r\nconnection: close\r\ncontent-type: application/json\r\ncontent-length: 33\r\n\r\n{\"code\":\"InvalidArgument\",\"n\":10}";
+
+/// Puts by a head with these lines for its host, at a server of one host.
+fn put_for<K: Keeper>(alloc: Global, keeper: &mut K, host: &str) -> Result<String, Fail> {
+    let mut hosts = Hosts::any(alloc);
+    hosts.push(alloc, "vault.example.org")?;
+    let head = format!(in alloc;
+        "PUT /docs/a HTTP/1.1\r\nx-vault-caller: ann\r\n{host}content-length: 5\r\n\r\n"
+    )?;
+    put_at(alloc, keeper, head.as_str(), 0, 0, &hosts)
+}
+
+/// A server of one host answers requests for that and for its machine. What is for another host is refused, and changes
+/// nothing.
+#[test]
+fn requests_for_other_hosts(rt: HostRuntime) -> Result<(), Fail> {
+    let alloc = rt.alloc();
+    let mut keeper = opened(alloc)?;
+    for host in STRANGE {
+        let answer = put_for(alloc, &mut keeper, host)?;
+        assert_eq!(rt; answer.as_str(), REFUSED);
+    }
+    for (id, host) in (1..).zip(KNOWN) {
+        let answer = put_for(alloc, &mut keeper, host)?;
+        let end = format!(in alloc; "x-amz-version-id: {id}\r\n\r\n")?;
+        assert!(rt; answer.ends_with(end.as_str()));
+    }
     Ok(())
 }

@@ -6,6 +6,7 @@ ghost use Rattle.vault_tests_serve.specs.Known.{dues_of, tries_of};
 
 use std::io;
 use std::time::Duration;
+use vault_http::Hosts;
 use vaultctl_serve::arrivals::Arrivals;
 use vaultctl_serve::inbound::Inbound;
 use vaultctl_serve::peer::Peer;
@@ -90,6 +91,8 @@ pub struct KnownArrivals<'a> {
     pub readings: &'a [Option<i64>],
     /// What it shows now.
     pub shown: i64,
+    /// The hosts that requests may be for.
+    pub hosts: &'a Hosts,
 }
 
 impl Arrivals for KnownArrivals<'_> {
@@ -115,6 +118,10 @@ impl Arrivals for KnownArrivals<'_> {
 
     fn reading(&self) -> i64 {
         self.shown
+    }
+
+    fn hosts(&self) -> &Hosts {
+        self.hosts
     }
 
     fn pause(&mut self) {}

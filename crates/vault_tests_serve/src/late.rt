@@ -1,5 +1,6 @@
 //! Requests that come slowly or not at all, answers that are taken slowly or not at all, and what comes after an
 //! answer: how long one waits for each.
+use crate::loopback::serve_connections;
 use crate::slow::{MovingClock, Part, SlowPeer, SlowPeers};
 use std::alloc::Global;
 use std::cell::Cell;
@@ -9,7 +10,6 @@ use std::time::Duration;
 use vault_core_model::keeper::Keeper;
 use vault_transcript::transcript::opened;
 use vaultctl_serve::lingering::linger;
-use vaultctl_serve::serve_connections;
 
 const HEAD: &str = "PUT /docs/a HTTP/1.1\r\nx-vault-caller: ann\r\ncontent-length: 5\r\n\r\n";
 

@@ -6,6 +6,12 @@ use std::io::Write;
 use std::net::{Net, OpenListener, Shutdown, SocketAddr, TcpListener, TcpStream};
 use std::test::Fail;
 use std::time::{Clock, Duration};
+use vault_core_model::keeper::Keeper;
+use vault_http::Hosts;
+use vaultctl_serve::arrivals::Listened;
+use vaultctl_serve::peer::Peer;
+use vaultctl_serve::reporter::Reporter;
+use vaultctl_serve::{Port, PortFault, serve, serve_arrivals};
 
 /// 2024-01-15T10:30:00Z.
 pub const READING: u64 = 1_705_314_600;
@@ -68,6 +74,41 @@ impl<R: Net<Listener = TcpListener, Stream = TcpStream>> Clock for Loopback<'_, 
             None => Err(io::Error::from(io::ErrorKind::Unsupported)),
         }
     }
+}
+
+/// Serves `count` connections of a listener, whose requests may be for any host.
+pub fn serve_connections<
+    C: Clock,
+    P: Peer + Drop,
+    L: OpenListener<Stream = P>,
+    K: Keeper,
+    T: Reporter,
+>(clock: &C, alloc: Global, listener: &L, keeper: &mut K, count: u32, reporter: &mut T) {
+    let hosts = Hosts::any(alloc);
+    let mut arrivals = Listened {
+        clock,
+        listener,
+        hosts: &hosts,
+    };
+    serve_arrivals(clock, alloc, &mut arrivals, keeper, count, reporter);
+}
+
+/// Serves `count` requests at a port, which may be for any host.
+pub fn serve_port<R: Net<Stream = TcpStream> + Clock, K: Keeper>(
+    rt: &R,
+    alloc: Global,
+    keeper: &mut K,
+    port: u16,
+    count: u32,
+    reports: &mut Vec<u8>,
+) -> Result<(), PortFault> {
+    let hosts = Hosts::any(alloc);
+    let place = Port {
+        file: "a.vault",
+        port,
+        hosts: &hosts,
+    };
+    serve(rt, alloc, keeper, place, count, reports)
 }
 
 /// A listener that fails a number of times before it takes a connection.

@@ -1,5 +1,5 @@
 //! Requests over loopback, with their answers byte for byte.
-use crate::loopback::{Failing, Loopback, READING, answered, send};
+use crate::loopback::{Failing, Loopback, READING, answered, send, serve_connections, serve_port};
 use crate::peers::{StandingClock, StoppedClock};
 use std::cell::Cell;
 use std::io;
@@ -8,8 +8,8 @@ use std::test::Fail;
 use vault_base::moment::Moment;
 use vault_core::fuse_keeper::FuseKeeper;
 use vault_transcript::transcript::opened;
+use vaultctl_serve::PortFault;
 use vaultctl_serve::clock::now;
-use vaultctl_serve::{PortFault, serve, serve_connections};
 
 const PUT: &str =
     "PUT /docs/a HTTP/1.1\r\nhost: x\r\nx-vault-caller: ann\r\ncontent-length: 5\r\nexpect: 100-continue\r\n\r\nhello";
@@ -45,7 +45,7 @@ fn serves_as_many_as_it_should(rt: HostRuntime) -> Result<(), Fail> {
         since_1970: Some(READING),
     };
     let mut reports = Vec::new(alloc);
-    assert!(rt; serve(&network, alloc, &mut keeper, "a.vault", 0, 3, &mut reports).is_ok());
+    assert!(rt; serve_port(&network, alloc, &mut keeper, 0, 3, &mut reports).is_ok());
     assert_eq!(rt;
         reports.as_slice(),
         b"serving a.vault at 127.0.0.1:0\n".as_slice()
@@ -71,7 +71,7 @@ fn a_device_that_fails(rt: HostRuntime) -> Result<(), Fail> {
         since_1970: Some(READING),
     };
     let mut reports = Vec::new(alloc);
-    assert!(rt; serve(&network, alloc, &mut keeper, "a.vault", 0, 3, &mut reports).is_ok());
+    assert!(rt; serve_port(&network, alloc, &mut keeper, 0, 3, &mut reports).is_ok());
     assert_eq!(rt; reports.as_slice(), REPORTED_FAILURE.as_bytes());
     let clients = network.clients.replace(Vec::new(alloc));
     answered(alloc, clients, &[FAILED, FAILED, STORED])
@@ -90,7 +90,7 @@ fn a_clock_that_cannot_be_read(rt: HostRuntime) -> Result<(), Fail> {
         since_1970: None,
     };
     let mut reports = Vec::new(alloc);
-    assert!(rt; serve(&network, alloc, &mut keeper, "a.vault", 0, 1, &mut reports).is_ok());
+    assert!(rt; serve_port(&network, alloc, &mut keeper, 0, 1, &mut reports).is_ok());
     answered(alloc, network.clients.replace(Vec::new(alloc)), &[NO_TIME])
 }
 
@@ -165,7 +165,7 @@ fn a_port_that_is_taken(rt: HostRuntime) -> Result<(), Fail> {
     let listener = TcpListener::bind(&rt, (Ipv4Addr::LOCALHOST, 0))?;
     let port = listener.local_addr()?.port();
     let mut reports = Vec::new(alloc);
-    let served = serve(&rt, alloc, &mut keeper, "a.vault", port, 1, &mut reports);
+    let served = serve_port(&rt, alloc, &mut keeper, port, 1, &mut reports);
     assert!(rt; served == Err(PortFault::Device));
     assert!(rt; reports.is_empty());
     Ok(())

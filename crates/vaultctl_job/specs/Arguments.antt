@@ -32,6 +32,10 @@ count = record (option (codes "count")) { defaults = codes "1000000" ∷ []; par
 abbrev pub lines : Rule
 lines = option (codes "lines")
 
+-- --host NAME, any number of times
+abbrev pub host : Rule
+host = record (option (codes "host")) { action = Some Append }
+
 -- --as CALLER
 abbrev pub asker : Rule
 asker = record (option (codes "as")) { required = true }

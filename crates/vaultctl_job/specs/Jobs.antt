@@ -119,7 +119,13 @@ unfoldable pub replay_of : List Row → ReplayJob
 replay_of rows = record { file = first_of (codes "FILE") rows }
 
 unfoldable pub serve_of : List Row → ServeJob
-serve_of rows = record { file = file_of rows; port = number_of 65536 (codes "PORT") rows; count = number_of 4294967296 (codes "count") rows; lines = first_of (codes "lines") rows }
+serve_of rows = record {
+  file = file_of rows;
+  port = number_of 65536 (codes "PORT") rows;
+  count = number_of 4294967296 (codes "count") rows;
+  lines = first_of (codes "lines") rows;
+  hosts = texts_of (codes "host") rows;
+}
 
 unfoldable pub migrate_of : List Row → MigrateJob
 migrate_of rows = record { old = text_of (codes "OLD") rows; new = text_of (codes "NEW") rows }

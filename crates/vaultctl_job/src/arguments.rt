@@ -29,6 +29,8 @@ pub(crate) enum Argument {
     Count,
     /// Where lines come in.
     Lines,
+    /// A host that requests may be for, any number of times.
+    Host,
     /// The caller who asks.
     Asker,
     /// The moment at which it is asked.
@@ -105,6 +107,19 @@ fn lines<'a>(alloc: Global) -> Arg<'a>
         )
 }
 
+fn host<'a>(alloc: Global) -> Arg<'a>
+    ensures rule { rule_of result ≡ spec.host }
+    ensures local { result.global ≡ false }
+{
+    Arg::new(alloc, "host")
+        .long("host")
+        .value_name("NAME")
+        .action(ArgAction::Append)
+        .help(
+            "Refuses requests for other hosts than this name, those of\nfurther --host, localhost, 127.0.0.1 and [::1]",
+        )
+}
+
 fn asker<'a>(alloc: Global) -> Arg<'a>
     ensures rule { rule_of result ≡ spec.asker }
     ensures local { result.global ≡ false }
@@ -167,6 +182,7 @@ fn made<'a>(alloc: Global, argument: Argument) -> Arg<'a>
         Argument::Port => port(alloc),
         Argument::Count => count(alloc),
         Argument::Lines => lines(alloc),
+        Argument::Host => host(alloc),
         Argument::Asker => asker(alloc),
         Argument::Moment => moment(alloc),
         Argument::Before { help } => before(alloc, help),

@@ -128,7 +128,7 @@ pub struct ReplayJob {
     pub file: Option<Word>,
 }
 
-/// `serve FILE PORT [--count N] [--lines WHERE]`
+/// `serve FILE PORT [--count N] [--lines WHERE] [--host NAME]...`
 #[derive(Drop)]
 pub struct ServeJob {
     pub file: Word,
@@ -137,6 +137,8 @@ pub struct ServeJob {
     pub count: u32,
     /// Where lines come in; without it they don't.
     pub lines: Option<Word>,
+    /// The hosts, beside this machine's own names, that requests may be for; without one they may be for any.
+    pub hosts: Words,
 }
 
 /// `migrate OLD NEW`

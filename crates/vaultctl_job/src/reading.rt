@@ -301,6 +301,7 @@ fn serve(alloc: Global, matches: &ArgMatches<'_>) -> Result<ServeJob, AllocError
         port: port(matches),
         count: count(matches),
         lines: optional_word(alloc, matches, "lines")?,
+        hosts: words(alloc, matches, "host")?,
     })
 }
 

@@ -1,4 +1,5 @@
 pub mod InTimeLemmas
 pub mod ReportLemmas
 pub mod ServingLemmas
+pub mod StrangerLemmas
 pub mod WholeLemmas

@@ -1,12 +1,11 @@
 -- Nothing changes unless a whole request came.
 use Rattle.std.proofs.Common.{◌≡◌, ◌⊎◌, ℕ, List, [], Bool, true, Option, None, Some, IfSome, IsSome, Result, Ok, Err, IfErr, OnOk, refl, inl, inr}
-use Rattle.std.specs.Io.KnownBytes.{Appends}
 use Rattle.vault_base.specs.declared.refusal.Refusal.{Refusal}
 use Rattle.vault_base.specs.declared.refusal.Refusal.TheVariants as refusal
 use Rattle.vault_core_model.specs.Vault.{Vault}
 use Rattle.vault_http.specs.Command.{body_of, command_of_body}
-use Rattle.vault_http.specs.Exchange.{HeadJudged, Judged, Served, head_asked, is_shown}
-use Rattle.vault_http.specs.Left.{DeniedLeft, Early, HeadLeft, Left, PlanLeft, Stepped}
+use Rattle.vault_http.specs.Exchange.{Answered, HeadJudged, Judged, ServedFor, head_asked_for, is_shown}
+use Rattle.vault_http.specs.Left.{DeniedLeft, Early, HeadLeft, LeftFor, PlanLeft, Stepped, Unanswered}
 use Rattle.vault_http.specs.declared.answer.head.Allow.{Allow}
 use Rattle.vault_http.specs.declared.fault.ServeFault.{ServeFault}
 use Rattle.vault_http.specs.declared.fault.ServeFault.TheVariants as faults
@@ -48,7 +47,7 @@ module _ (Failed : Type 0) (moment : Option ℕ) (shown : Bool) (rest : List ℕ
     | inr late ↦ judged-whole Failed plan.at shown plan.headers.caller plan.operation plan.headers.locks old new (body_of plan.headers.length rest) late.0 late.2
   ]
 
-  denied-left-same : (e : ServeFault) (r : Refusal) (allow : Option Allow) (before after : Option (List ℕ)) → DeniedLeft e moment shown r allow old new before after → new ≡ old
+  pub denied-left-same : (e : ServeFault) (r : Refusal) (allow : Option Allow) (before after : Option (List ℕ)) → DeniedLeft e moment shown r allow old new before after → new ≡ old
   denied-left-same faults.Read r allow before after left = left.0
   denied-left-same faults.Memory r allow before after left = left.0
   denied-left-same faults.Write r allow before after left = left.1.0
@@ -58,38 +57,38 @@ module _ (Failed : Type 0) (moment : Option ℕ) (shown : Bool) (rest : List ℕ
   head-left-whole e (Ok (asked.NotAllowed r)) unread before after left = inr tt
   head-left-whole e (Err r) unread before after left = inr tt
 
-module _ (Failed : Type 0) (moment : Option ℕ) (input : List ℕ) (old new : Vault) where
-  early-same : (e : ServeFault) (before after : Option (List ℕ)) → Early e moment input old new before after → new ≡ old
+module _ (hosts : List (List ℕ)) (Failed : Type 0) (moment : Option ℕ) (input : List ℕ) (old new : Vault) where
+  pub early-same : (e : ServeFault) (before after : Option (List ℕ)) → Early e moment input old new before after → new ≡ old
   early-same faults.Read before after early = early.0
   early-same faults.Memory before after early = early.0
   early-same faults.Write before after early = denied-left-same Failed moment true [] old new faults.Write refusal.InvalidArgument None before after early.2
 
-  pub Served-whole : (out : List ℕ) → Served Failed moment input old out new → WaitsForAll moment input old new
+  pub Served-whole : (out : List ℕ) → ServedFor hosts Failed moment input old out new → WaitsForAll hosts moment input old new
   Served-whole out served = elim served [
     | inl nothing ↦ inl nothing.2
     | inr some ↦ elim some [
       | inl headless ↦ inl headless.2.0
-      | inr headed ↦ elim (head-whole Failed moment (is_shown headed.0.method) headed.1 old new (head_asked moment headed.0) out headed.3) [
+      | inr headed ↦ elim (head-whole Failed moment (is_shown headed.0.method) headed.1 old new (head_asked_for hosts moment headed.0) out headed.3) [
         | inl same ↦ inl same
         | inr whole ↦ inr (headed.0, headed.1, headed.2, whole)
       ]
     ]
   ]
 
-  pub Left-whole : (e : ServeFault) (unread before after : Option (List ℕ)) → Left Failed e moment input unread old new before after → WaitsForAll moment input old new
+  pub Left-whole : (e : ServeFault) (unread before after : Option (List ℕ)) → LeftFor hosts Failed e moment input unread old new before after → WaitsForAll hosts moment input old new
   Left-whole e unread before after left = elim left [
     | inl early ↦ inl (early-same e before after early)
-    | inr headed ↦ elim (head-left-whole Failed moment (is_shown headed.0.method) headed.1 old new e (head_asked moment headed.0) unread before after headed.3) [
+    | inr headed ↦ elim (head-left-whole Failed moment (is_shown headed.0.method) headed.1 old new e (head_asked_for hosts moment headed.0) unread before after headed.3) [
       | inl same ↦ inl same
       | inr whole ↦ inr (headed.0, headed.1, headed.2, whole)
     ]
   ]
 
 -- of a request that was served, or wasn't to its end
-pub waits-for-all : (Failed : Type 0) (moment : Option ℕ) (known unread : Option (List ℕ)) (old new : Vault) (before after : Option (List ℕ)) (r : Result (Unit {0}) ServeFault)
-    → OnOk r (IfSome known (λ input. (out : List ℕ) × Served Failed moment input old out new × Appends before after out))
-    → IfErr r (λ e. IfSome known (λ input. Left Failed e moment input unread old new before after))
-    → IfSome known (λ input. WaitsForAll moment input old new)
-waits-for-all Failed moment None unread old new before after r ok err = tt
-waits-for-all Failed moment (Some input) unread old new before after (Ok t) ok err = Served-whole Failed moment input old new ok.0 ok.1
-waits-for-all Failed moment (Some input) unread old new before after (Err e) ok err = Left-whole Failed moment input old new e unread before after err
+pub waits-for-all : (hosts : List (List ℕ)) (Failed : Type 0) (moment : Option ℕ) (known : Option (List ℕ)) (old new : Vault) (before after : Option (List ℕ)) (r : Result (Unit {0}) ServeFault)
+    → OnOk r (Answered hosts Failed moment known old new before after)
+    → IfErr r (λ e. (unread : Option (List ℕ)) × Unanswered hosts Failed e moment known unread old new before after)
+    → IfSome known (λ input. WaitsForAll hosts moment input old new)
+waits-for-all hosts Failed moment None old new before after r ok err = tt
+waits-for-all hosts Failed moment (Some input) old new before after (Ok t) ok err = Served-whole hosts Failed moment input old new ok.0 ok.1
+waits-for-all hosts Failed moment (Some input) old new before after (Err e) ok err = Left-whole hosts Failed moment input old new e err.0 before after err.1

@@ -1,4 +1,5 @@
 pub mod InTime
 pub mod Scan
 pub mod Serving
+pub mod Strangers
 pub mod Whole

@@ -4,7 +4,7 @@ use Rattle.httparse.specs.Grammar.{RequestHead}
 use Rattle.vault_base.specs.declared.refusal.Refusal.{Refusal}
 use Rattle.vault_core_model.specs.Vault.{Vault}
 use Rattle.vault_http.specs.Command.{body_of}
-use Rattle.vault_http.specs.Exchange.{head_asked}
+use Rattle.vault_http.specs.Exchange.{head_asked_for}
 use Rattle.vault_http.specs.Head.{IsHead}
 use Rattle.vault_http_request.specs.declared.plan.Asked.{Asked}
 use Rattle.vault_http_request.specs.declared.plan.Asked.TheVariants as asked
@@ -19,10 +19,10 @@ abbrev pub IsBodyWhole : Result Asked Refusal → List ℕ → Type 0
 IsBodyWhole (Ok a) rest = IsAskedWhole a rest
 IsBodyWhole (Err r) rest = Unit {0}
 
--- the input has a head, and all of the body that belongs to it
-abbrev pub IsWhole : Option ℕ → List ℕ → Type 0
-IsWhole moment input = (h : RequestHead) × (rest : List ℕ) × IsHead input h rest × IsBodyWhole (head_asked moment h) rest
+-- the input has a head, and all of the body that belongs to it at a server of these hosts
+abbrev pub IsWhole : List (List ℕ) → Option ℕ → List ℕ → Type 0
+IsWhole hosts moment input = (h : RequestHead) × (rest : List ℕ) × IsHead input h rest × IsBodyWhole (head_asked_for hosts moment h) rest
 
 -- the vault changed only where a whole request came
-abbrev pub WaitsForAll : Option ℕ → List ℕ → Vault → Vault → Type 0
-WaitsForAll moment input old new = (new ≡ old) ⊎ IsWhole moment input
+abbrev pub WaitsForAll : List (List ℕ) → Option ℕ → List ℕ → Vault → Vault → Type 0
+WaitsForAll hosts moment input old new = (new ≡ old) ⊎ IsWhole hosts moment input

@@ -9,6 +9,7 @@ use crate::peer::Peer;
 use std::net::OpenListener;
 use std::time::{Clock, Duration};
 use std::{io, thread};
+use vault_http::Hosts;
 
 /// Connections as they come, and the clock that is read as one is taken.
 pub trait Arrivals {
@@ -30,6 +31,9 @@ pub trait Arrivals {
     fn reading(&self) -> i64
         ensures { ReadsAs (tries self.now) (shown self.now) (moment_at result) };
 
+    /// The hosts that requests may be for.
+    fn hosts(&self) -> &Hosts;
+
     /// Waits a little after a connection that couldn't be taken, so that a fault that lasts doesn't use up the count of
     /// connections.
     fn pause(&mut self)
@@ -43,6 +47,8 @@ pub struct Listened<'a, C: Clock, L> {
     pub clock: &'a C,
     /// Where they come.
     pub listener: &'a L,
+    /// The hosts that requests may be for.
+    pub hosts: &'a Hosts,
 }
 
 impl<C: Clock, P: Peer + Drop, L: OpenListener<Stream = P>> Arrivals for Listened<'_, C, L> {
@@ -59,6 +65,10 @@ impl<C: Clock, P: Peer + Drop, L: OpenListener<Stream = P>> Arrivals for Listene
 
     fn reading(&self) -> i64 {
         clock::reading(self.clock)
+    }
+
+    fn hosts(&self) -> &Hosts {
+        self.hosts
     }
 
     fn pause(&mut self) {

@@ -3,11 +3,12 @@ ghost use Rattle.std.specs.Prelude.{ℕ, ◌≡◌, List, Option, IfErr, IfSome,
 ghost use Rattle.std.specs.Io.KnownBytes.{Appends};
 ghost use Rattle.vault_base.specs.Days.{moment_at};
 ghost use Rattle.vault_core_model.specs.Leaves.{RoseOrIsFull};
-ghost use Rattle.vault_http.specs.Exchange.{Served};
-ghost use Rattle.vault_http.specs.Left.{AtMostOne, Left, LeavesNoLess};
+ghost use Rattle.vault_http.specs.Exchange.{Answered};
+ghost use Rattle.vault_http.specs.Left.{AtMostOne, LeavesNoLess, Unanswered};
 ghost use Rattle.vault_http.specs.Steady.{Steady};
 ghost use Rattle.vault_http.specs.declared.fault.ServeFault.TheVariants as faults;
 ghost use Rattle.vaultctl_serve.specs.InTime.{known_in_time};
+ghost use Rattle.vaultctl_serve.specs.Strangers.{RefusesStrangers};
 ghost use Rattle.vaultctl_serve.specs.Whole.{WaitsForAll};
 ghost use Rattle.vaultctl_serve.specs.declared.scan.Scan.TheVariants.{Leading};
 
@@ -19,11 +20,12 @@ use std::alloc::Global;
 use std::io::{BufReader, Write};
 use std::time::{Clock, Instant};
 use vault_core_model::keeper::Keeper;
-use vault_http::{ServeFault, serve_one};
+use vault_http::{Hosts, ServeFault, serve_for};
 
-/// Serves the one request of a connection: what is answered is what comes in time, as if nothing came after it.
+/// Serves the one request of a connection, which has to be for one of the hosts: what is answered is what comes in time,
+/// as if nothing came after it.
 ///
-/// The faults are those of `serve_one`. A request that comes too late is a failed read, `Read`, and `Memory` comes too
+/// The faults are those of `serve_for`. A request that comes too late is a failed read, `Read`, and `Memory` comes too
 /// where there is no room for what is read ahead.
 pub fn serve_in_time<I: Inbound + Drop, W: Write, K: Keeper>(
     alloc: Global,
@@ -31,11 +33,17 @@ pub fn serve_in_time<I: Inbound + Drop, W: Write, K: Keeper>(
     writer: &mut W,
     keeper: &mut K,
     reading: i64,
+    hosts: &Hosts,
 ) -> Result<(), ServeFault>
-    ensures ok { K.is_honest keeper.new → OnOk result (IfSome (known_in_time Leading (I.coming inbound)) (λ input. (out : List ℕ) × Served (RoseOrIsFull (K.count keeper.old) (K.count keeper.new)) (moment_at reading) input (K.vault keeper.old) out (K.vault keeper.new) × Appends (W.contents writer.old) (W.contents writer.new) out)) }
-    ensures err { K.is_honest keeper.new → IfErr result (λ e. IfSome (known_in_time Leading (I.coming inbound)) (λ input. (unread : Option (List ℕ)) × Left (RoseOrIsFull (K.count keeper.old) (K.count keeper.new)) e (moment_at reading) input unread (K.vault keeper.old) (K.vault keeper.new) (W.contents writer.old) (W.contents writer.new))) }
+    ensures ok { K.is_honest keeper.new → OnOk result (Answered hosts.now (RoseOrIsFull (K.count keeper.old) (K.count keeper.new)) (moment_at reading)
+        (known_in_time Leading (I.coming inbound)) (K.vault keeper.old) (K.vault keeper.new) (W.contents writer.old) (W.contents writer.new)) }
+    ensures err { K.is_honest keeper.new → IfErr result (λ e. (unread : Option (List ℕ)) × Unanswered hosts.now (RoseOrIsFull (K.count keeper.old) (K.count keeper.new)) e (moment_at reading)
+        (known_in_time Leading (I.coming inbound)) unread (K.vault keeper.old) (K.vault keeper.new) (W.contents writer.old) (W.contents writer.new)) }
     // A request that isn't whole in time changes nothing.
-    ensures late { K.is_honest keeper.new → IfSome (known_in_time Leading (I.coming inbound)) (λ input. WaitsForAll (moment_at reading) input (K.vault keeper.old) (K.vault keeper.new)) }
+    ensures late { K.is_honest keeper.new → IfSome (known_in_time Leading (I.coming inbound)) (λ input. WaitsForAll hosts.now (moment_at reading) input (K.vault keeper.old) (K.vault keeper.new)) }
+    // Where hosts are named, a request for another one changes nothing, and is answered InvalidArgument.
+    ensures strangers { K.is_honest keeper.new → IfSome (known_in_time Leading (I.coming inbound)) (λ input. RefusesStrangers hosts.now (moment_at reading) input result
+        (K.vault keeper.old) (K.vault keeper.new) (W.contents writer.old) (W.contents writer.new)) }
     ensures once { K.is_honest keeper.new → AtMostOne (moment_at reading) (K.vault keeper.old) (K.vault keeper.new) }
     ensures unread { result ≡ Err faults.Read → K.vault keeper.new ≡ K.vault keeper.old }
     ensures leaves { LeavesNoLess K.Kept keeper.old keeper.new }
@@ -44,7 +52,7 @@ pub fn serve_in_time<I: Inbound + Drop, W: Write, K: Keeper>(
     let Ok(mut reader) = BufReader::new(alloc, TimedRequest::new(inbound)) else {
         return Err(ServeFault::Memory);
     };
-    serve_one(alloc, &mut reader, writer, keeper, reading)
+    serve_for(alloc, &mut reader, writer, keeper, reading, hosts)
 }
 
 /// Reads the one request of a connection that is taken now, and answers it.
@@ -54,6 +62,7 @@ fn exchange<C: Clock, P: Peer, K: Keeper>(
     peer: &P,
     keeper: &mut K,
     reading: i64,
+    hosts: &Hosts,
 ) -> Result<(), ServeFault>
     ensures once { K.is_honest keeper.new → AtMostOne (moment_at reading) (K.vault keeper.old) (K.vault keeper.new) }
     ensures unread { result ≡ Err faults.Read → K.vault keeper.new ≡ K.vault keeper.old }
@@ -64,10 +73,10 @@ fn exchange<C: Clock, P: Peer, K: Keeper>(
     };
     let mut answer = TimedAnswer::new(TimedPeer { clock, peer, since });
     let inbound = TimedPeer { clock, peer, since };
-    serve_in_time(alloc, inbound, &mut answer, keeper, reading)
+    serve_in_time(alloc, inbound, &mut answer, keeper, reading, hosts)
 }
 
-/// Serves the one request of a connection, which was just taken.
+/// Serves the one request of a connection, which was just taken; the request has to be for one of the hosts.
 ///
 /// Where the request comes too late, that is a failed read, `Read`, and where its answer is taken too late, a
 /// failed write, `Write`.
@@ -77,12 +86,13 @@ pub fn serve_connection<C: Clock, P: Peer, K: Keeper>(
     peer: &P,
     keeper: &mut K,
     reading: i64,
+    hosts: &Hosts,
 ) -> Result<(), ServeFault>
     ensures once { K.is_honest keeper.new → AtMostOne (moment_at reading) (K.vault keeper.old) (K.vault keeper.new) }
     ensures unread { result ≡ Err faults.Read → K.vault keeper.new ≡ K.vault keeper.old }
     ensures leaves { LeavesNoLess K.Kept keeper.old keeper.new }
 {
-    let served = exchange(clock, alloc, peer, keeper, reading);
+    let served = exchange(clock, alloc, peer, keeper, reading, hosts);
     if served.is_ok() {
         // The answer is written, whatever the client does after it.
         let _ = linger(clock, peer);

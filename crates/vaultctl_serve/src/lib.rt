@@ -17,4 +17,4 @@ pub mod timed;
 
 pub use connection::{serve_connection, serve_in_time};
 pub use fault::PortFault;
-pub use server::{serve, serve_arrivals, serve_connections};
+pub use server::{Port, serve, serve_arrivals};

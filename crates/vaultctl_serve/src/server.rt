@@ -8,12 +8,12 @@ ghost use Rattle.vaultctl_serve.specs.Serving.{ReportsOnce, Stepped, SteppedOnTi
 use crate::arrivals::{Arrivals, Listened};
 use crate::connection::serve_connection;
 use crate::fault::PortFault;
-use crate::peer::Peer;
 use crate::reporter::Reporter;
 use std::alloc::Global;
-use std::net::{Ipv4Addr, Net, OpenListener, TcpListener, TcpStream};
+use std::net::{Ipv4Addr, Net, TcpListener, TcpStream};
 use std::time::Clock;
 use vault_core_model::keeper::Keeper;
+use vault_http::Hosts;
 
 /// Takes the next connection and serves its request, at the clock's reading then.
 fn serve_next<C: Clock, A: Arrivals, K: Keeper>(
@@ -29,7 +29,7 @@ fn serve_next<C: Clock, A: Arrivals, K: Keeper>(
         Ok(peer) => {
             let reading = arrivals.reading();
             // A fault of the connection is its own.
-            let _ = serve_connection(clock, alloc, &peer, keeper, reading);
+            let _ = serve_connection(clock, alloc, &peer, keeper, reading, arrivals.hosts());
         }
         Err(_) => arrivals.pause(),
     }
@@ -89,27 +89,18 @@ pub fn serve_arrivals<C: Clock, A: Arrivals, K: Keeper, T: Reporter>(
     }
 }
 
-/// Takes `count` connections of a listener, as `serve_arrivals` does.
-pub fn serve_connections<
-    C: Clock,
-    P: Peer + Drop,
-    L: OpenListener<Stream = P>,
-    K: Keeper,
-    T: Reporter,
->(clock: &C, alloc: Global, listener: &L, keeper: &mut K, count: u32, reporter: &mut T)
-    // At most one command was carried out for each connection.
-    ensures stepped { K.is_honest keeper.new → Stepped count (K.vault keeper.old) (K.vault keeper.new) }
-    // A vault that runs lead to from a new one is left as such a vault.
-    ensures reached { K.is_honest keeper.new → Reached (K.vault keeper.old) → Reached (K.vault keeper.new) }
-    // A device that failed is reported, once; where none failed nothing is.
-    ensures reported { ReportsOnce T.fails (K.count keeper.old) (K.count keeper.new) reporter.old reporter.new }
-    ensures leaves { LeavesNoLess K.Kept keeper.old keeper.new }
-{
-    let mut arrivals = Listened { clock, listener };
-    serve_arrivals(clock, alloc, &mut arrivals, keeper, count, reporter);
+/// What is served, at which port, and for whom.
+#[derive(Clone, Copy)]
+pub struct Port<'a> {
+    /// The vault's file.
+    pub file: &'a str,
+    /// The port of 127.0.0.1.
+    pub port: u16,
+    /// The hosts that requests may be for.
+    pub hosts: &'a Hosts,
 }
 
-/// Serves `count` requests at that port of 127.0.0.1, each on a connection of its own, and ends.
+/// Serves `count` requests at a port of 127.0.0.1, each on a connection of its own, and ends.
 ///
 /// That it listens is reported first, and that the vault's device failed is reported once, when it first does.
 /// `Device` comes where the port can't be had. No fault of a connection or of the device ends it.
@@ -117,8 +108,7 @@ pub fn serve<R: Net<Stream = TcpStream> + Clock, K: Keeper, T: Reporter>(
     rt: &R,
     alloc: Global,
     keeper: &mut K,
-    file: &str,
-    port: u16,
+    place: Port<'_>,
     count: u32,
     reporter: &mut T,
 ) -> Result<(), PortFault>
@@ -126,15 +116,21 @@ pub fn serve<R: Net<Stream = TcpStream> + Clock, K: Keeper, T: Reporter>(
     ensures reached { K.is_honest keeper.new → Reached (K.vault keeper.old) → Reached (K.vault keeper.new) }
     ensures err { OnErr result (K.vault keeper.new ≡ K.vault keeper.old) }
     // That it listens is reported first, and then, once, that the device failed where it did.
-    ensures reported { OnOk result ((between : T) × T.listens reporter.old file.now port between × ReportsOnce T.fails (K.count keeper.old) (K.count keeper.new) between reporter.new) }
+    ensures reported { OnOk result ((between : T) × T.listens reporter.old place.entry.file.now place.entry.port between
+        × ReportsOnce T.fails (K.count keeper.old) (K.count keeper.new) between reporter.new) }
     // Where it can't listen nothing is reported.
     ensures unreported { OnErr result (reporter.new ≡ reporter.old) }
     ensures leaves { LeavesNoLess K.Kept keeper.old keeper.new }
 {
-    let Ok(listener) = TcpListener::bind(rt, (Ipv4Addr::LOCALHOST, port)) else {
+    let Ok(listener) = TcpListener::bind(rt, (Ipv4Addr::LOCALHOST, place.port)) else {
         return Err(PortFault::Device);
     };
-    reporter.listening(file, port);
-    serve_connections(rt, alloc, &listener, keeper, count, reporter);
+    reporter.listening(place.file, place.port);
+    let mut arrivals = Listened {
+        clock: rt,
+        listener: &listener,
+        hosts: place.hosts,
+    };
+    serve_arrivals(rt, alloc, &mut arrivals, keeper, count, reporter);
     Ok(())
 }

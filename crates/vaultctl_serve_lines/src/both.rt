@@ -19,6 +19,7 @@ use std::io;
 use std::net::{Ipv4Addr, Net, TcpListener, TcpStream};
 use std::time::Clock;
 use vault_core_model::keeper::Keeper;
+use vault_http::Hosts;
 use vaultctl_serve::clock::now;
 
 /// What is served, where, and by which program.
@@ -30,6 +31,8 @@ pub struct Places<'a> {
     pub port: u16,
     /// Where lines come in.
     pub lines: LinePlace<'a>,
+    /// The hosts that requests may be for.
+    pub hosts: &'a Hosts,
     /// The version of the program, which it says where it is asked how things are.
     pub version: &'static str,
 }
@@ -103,6 +106,7 @@ pub fn serve_with_lines<
         alloc,
         requests: &requests,
         lines: &lines,
+        hosts: places.hosts,
         talk: None,
         line_was_last: false,
     };

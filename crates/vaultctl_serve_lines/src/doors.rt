@@ -4,6 +4,7 @@ ghost use Rattle.vault_base.specs.Days.{moment_at};
 ghost use Rattle.vaultctl_serve.specs.Serving.{ReadsAs, Try};
 ghost use Rattle.vaultctl_serve_lines.specs.Doors.{HasArrived};
 
+use vault_http::Hosts;
 use vaultctl_serve::peer::Peer;
 
 /// A line as it was heard.
@@ -48,6 +49,9 @@ pub trait Doors {
     /// The clock's reading now.
     fn reading(&self) -> i64
         ensures { ReadsAs (tries self.now) (shown self.now) (moment_at result) };
+
+    /// The hosts that requests may be for.
+    fn hosts(&self) -> &Hosts;
 
     /// Keeps the connection of a line that was answered: more lines may come on it.
     fn keep(&mut self, talker: Self::Talker)

@@ -100,7 +100,7 @@ fn serve_turn<C: Clock, D: Doors, K: Keeper>(
         Arrived::Request(peer) => {
             let reading = doors.reading();
             // A fault of the connection is its own.
-            let _ = serve_connection(clock, service.alloc, &peer, keeper, reading);
+            let _ = serve_connection(clock, service.alloc, &peer, keeper, reading, doors.hosts());
             Turn::Taken
         }
         Arrived::Line(heard, talker) => {

@@ -11,6 +11,7 @@ use std::net::{TcpListener, TcpStream};
 use std::os::fd::AsRawFd;
 use std::time::{Clock, Duration, Instant};
 use std::{io, thread};
+use vault_http::Hosts;
 use vaultctl_serve::clock;
 use vaultctl_serve::deadline::{BETWEEN_TRIES, HEAD};
 
@@ -28,6 +29,8 @@ pub struct TwoDoors<'a, C: Clock> {
     pub requests: &'a TcpListener,
     /// Where lines come in.
     pub lines: &'a LineListener,
+    /// The hosts that requests may be for.
+    pub hosts: &'a Hosts,
     /// The connection of lines that is open.
     pub talk: Option<Talk>,
     /// A line came last, so that a request that waits goes before the next one.
@@ -212,6 +215,10 @@ impl<C: Clock> Doors for TwoDoors<'_, C> {
 
     fn reading(&self) -> i64 {
         clock::reading(self.clock)
+    }
+
+    fn hosts(&self) -> &Hosts {
+        self.hosts
     }
 
     fn keep(&mut self, talker: Talk) {

@@ -1,5 +1,5 @@
 //! A register, a script, and requests.
-ghost use Rattle.std.specs.Prelude.{◌≡◌, ⊤, OnOk};
+ghost use Rattle.std.specs.Prelude.{◌≡◌, ⊤, IfOk, OnOk};
 ghost use Rattle.vaultctl_serve.specs.Serving.{Stepped};
 ghost use Rattle.vaultctl_work.specs.Done.{IsAnswered, IsServed, most_with_lines as served_with_lines};
 ghost use Rattle.vaultctl_work.specs.Outcomes as spec;
@@ -7,18 +7,21 @@ ghost use Rattle.vaultctl_work.specs.Outcomes as spec;
 use crate::saying::say;
 use crate::terminal::terminal_beside;
 use crate::work::Work;
+use std::alloc::{AllocError, Global};
 use std::io::{Read, Stderr, Write};
 use vault_core_model::keeper::Keeper;
 use vault_files::ExportFault;
 use vault_files::register::export_register;
+use vault_http::Hosts;
 use vaultctl_commands::fault::JobFault;
 use vaultctl_commands::outcome::Outcome;
 use vaultctl_commands::progress_writer::ProgressWriter;
 use vaultctl_job::job::{RegisterJob, ReplayJob, ServeJob};
+use vaultctl_job::word::Word;
 use vaultctl_job::words::VERSION;
 use vaultctl_remedies::explaining::Explainer;
 use vaultctl_replay::{ReplayFault, replay_observed};
-use vaultctl_serve::{PortFault, serve};
+use vaultctl_serve::{Port, PortFault, serve};
 use vaultctl_serve_lines::line::Next;
 use vaultctl_serve_lines::{DoorFault, LinePlace, Places, serve_with_lines};
 
@@ -135,7 +138,19 @@ fn say_door<E: Write>(err: &mut E, fault: DoorFault) {
     }
 }
 
-/// Serves at two doors, that of lines being at this place. Where nobody can listen for lines, it says so in words.
+/// The hosts of these names. The error is want of memory.
+fn hosts_of(alloc: Global, names: &[Word]) -> Result<Hosts, AllocError>
+    ensures { IfOk result (λ hosts. hosts ≡ names.now) }
+{
+    let mut hosts = Hosts::any(alloc);
+    for name in names {
+        hosts.push(alloc, name.as_str())?;
+    }
+    Ok(hosts)
+}
+
+/// Serves at two doors, that of lines being at this place, requests for these hosts. Where nobody can listen for lines,
+/// it says so in words.
 ///
 /// `Device` comes where nobody can listen at one of the doors.
 fn serve_both<K: Keeper, E: Write>(
@@ -143,6 +158,7 @@ fn serve_both<K: Keeper, E: Write>(
     keeper: &mut K,
     job: &ServeJob,
     place: &str,
+    hosts: &Hosts,
     err: &mut E,
 ) -> Result<Outcome, JobFault>
     ensures done { K.is_honest keeper.new → K.is_honest keeper.old
@@ -159,6 +175,7 @@ fn serve_both<K: Keeper, E: Write>(
         file: job.file.as_str(),
         port: job.port,
         lines,
+        hosts,
         version: VERSION,
     };
     let ended = serve_with_lines(
@@ -194,17 +211,20 @@ impl Work for ServeJob {
         _out: &mut W,
         err: &mut E,
     ) -> Result<Outcome, JobFault> {
+        let alloc = rt.alloc();
+        let Ok(hosts) = hosts_of(alloc, self.hosts.as_slice()) else {
+            return Err(JobFault::Memory);
+        };
         match &self.lines {
-            Some(place) => serve_both(rt, keeper, self, place.as_str(), err),
-            None => served(serve(
-                rt,
-                rt.alloc(),
-                keeper,
-                self.file.as_str(),
-                self.port,
-                self.count,
-                err,
-            )),
+            Some(place) => serve_both(rt, keeper, self, place.as_str(), &hosts, err),
+            None => {
+                let place = Port {
+                    file: self.file.as_str(),
+                    port: self.port,
+                    hosts: &hosts,
+                };
+                served(serve(rt, alloc, keeper, place, self.count, err))
+            }
         }
     }
 }

@@ -111,7 +111,13 @@ const SERVE: Subcommand = Subcommand {
         "0 all requests were answered, one that was refused by a status as 404\nand a body as {\"code\":\"NoSuchBucket\",\"n\":4}; 1 a fault, named on standard\nerror, as 'open: Device', or 'serve: Device' where the port can't be had; 2 the\nwords aren't understood, or ask for help."
     ),
     usage: None,
-    arguments: &[FILE, Argument::Port, Argument::Count, Argument::Lines],
+    arguments: &[
+        FILE,
+        Argument::Port,
+        Argument::Count,
+        Argument::Lines,
+        Argument::Host,
+    ],
 };
 
 const MIGRATE: Subcommand = Subcommand {

@@ -1,19 +1,35 @@
-use Rattle.std.proofs.Common.{rules, ◌≡◌, ℕ, List, IfSome, OnOk, Option, subst}
-use Rattle.std.specs.Io.KnownBytes.{Appends}
+use Rattle.std.proofs.Common.{rules, ◌≡◌, ℕ, List, [], OnOk, Option, IfErr, subst}
 use Rattle.vault_base.specs.Days.{moment_at}
 use Rattle.vault_core_model.specs.Leaves.{RoseOrIsFull}
-use Rattle.vault_http.specs.Exchange as spec
+use Rattle.vault_http.specs.Exchange.{Answered}
+use Rattle.vault_http.specs.Left.{Taken, Unanswered}
 use Rattle.vault_http.specs.Steady.{Steady}
 use Rattle.vault_http.proofs.serve.serve_one.Goals as goal
 
+-- no host was named
 pub returns-clause-ok : goal.returns-clause-ok
 returns-clause-ok g c = λ h.
-    let same : c.from_secs.result ≡ moment_at c.args.reading = search rules in
-    subst (λ (m : Option ℕ). OnOk c.serve_at.result (IfSome (g.R.Read.remaining c.args.reader.now) (λ input. (out : List ℕ) × spec.Served (RoseOrIsFull (g.K.Kept.count c.args.keeper.now) (g.K.Kept.count c.serve_at.new.keeper)) m input (g.K.Kept.vault c.args.keeper.now) out (g.K.Kept.vault c.serve_at.new.keeper) × Appends (g.W.Write.contents c.args.writer.now) (g.W.Write.contents c.serve_at.new.writer) out))) same (c.serve_at.ensures.ok h)
+    let same : c.from_secs-moment.result ≡ moment_at c.args.reading = search rules in
+    let Failed = RoseOrIsFull (g.K.Kept.count c.args.keeper.now) (g.K.Kept.count c.serve_at.new.keeper) in
+    let P : List (List ℕ) → Option ℕ → Type 0 = λ hosts m. OnOk c.serve_at.result (Answered hosts Failed m (g.R.Read.remaining c.args.reader.now) (g.K.Kept.vault c.args.keeper.now) (g.K.Kept.vault c.serve_at.new.keeper) (g.W.Write.contents c.args.writer.now) (g.W.Write.contents c.serve_at.new.writer)) in
+    subst (λ (m : Option ℕ). P [] m) same (subst (λ (hosts : List (List ℕ)). P hosts c.from_secs-moment.result) c.any-hosts.ensures (c.serve_at.ensures.ok h))
+
+pub returns-clause-err : goal.returns-clause-err
+returns-clause-err g c = λ h.
+    let same : c.from_secs-moment.result ≡ moment_at c.args.reading = search rules in
+    let Failed = RoseOrIsFull (g.K.Kept.count c.args.keeper.now) (g.K.Kept.count c.serve_at.new.keeper) in
+    let P : List (List ℕ) → Option ℕ → Type 0 = λ hosts m. IfErr c.serve_at.result (λ e. Unanswered hosts Failed e m (g.R.Read.remaining c.args.reader.now) (g.R.Read.remaining c.serve_at.new.reader) (g.K.Kept.vault c.args.keeper.now) (g.K.Kept.vault c.serve_at.new.keeper) (g.W.Write.contents c.args.writer.now) (g.W.Write.contents c.serve_at.new.writer)) in
+    subst (λ (m : Option ℕ). P [] m) same (subst (λ (hosts : List (List ℕ)). P hosts c.from_secs-moment.result) c.any-hosts.ensures (c.serve_at.ensures.err h))
+
+pub returns-clause-taken : goal.returns-clause-taken
+returns-clause-taken g c =
+    let same : c.from_secs-moment.result ≡ moment_at c.args.reading = search rules in
+    let P : List (List ℕ) → Option ℕ → Type 0 = λ hosts m. OnOk c.serve_at.result (Taken hosts m (g.R.Read.remaining c.args.reader.now) (g.R.Read.remaining c.serve_at.new.reader)) in
+    subst (λ (m : Option ℕ). P [] m) same (subst (λ (hosts : List (List ℕ)). P hosts c.from_secs-moment.result) c.any-hosts.ensures c.serve_at.ensures.taken)
 
 pub returns-clause-steady : goal.returns-clause-steady
 returns-clause-steady g c =
-    let same : c.from_secs.result ≡ moment_at c.args.reading = search rules in
+    let same : c.from_secs-moment.result ≡ moment_at c.args.reading = search rules in
     let before = c.args.keeper.now in
     let after = c.serve_at.new.keeper in
     subst (λ (m : Option ℕ). Steady (g.K.Kept.is_honest after) c.serve_at.result m (g.K.Kept.vault before) (g.K.Kept.vault after) (g.K.Kept.count before) (g.K.Kept.count after) (g.W.Write.contents c.args.writer.now) (g.W.Write.contents c.serve_at.new.writer)) same c.serve_at.ensures.steady

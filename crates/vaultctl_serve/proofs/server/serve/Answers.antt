@@ -7,4 +7,4 @@ pub returns-in_default-clause-stepped : goal.returns-in_default-clause-stepped
 returns-in_default-clause-stepped g c = λ h. Stepped-none c.args.count (g.K.Kept.vault c.args.keeper.now) (g.K.Kept.vault c.args.keeper.now) refl
 
 pub returns-clause-reported : goal.returns-clause-reported
-returns-clause-reported g c = (c.listening.new.self, c.listening.ensures, c.serve_connections.ensures.reported)
+returns-clause-reported g c = (c.listening.new.self, c.listening.ensures, c.serve_arrivals.ensures.reported)
