@@ -1,5 +1,5 @@
 -- What a keeper reads of a vault.
-use Rattle.std.specs.Prelude.{ℕ, List, [], ◌∷◌, length, map, filter, take, Option, Some, None, option_map, option_and_then, unwrap_or, false, not}
+use Rattle.std.specs.Prelude.{ℕ, List, [], ◌∷◌, length, map, filter, take, reverse, Bool, true, nat_lt, Option, Some, None, option_map, option_and_then, unwrap_or, false, not}
 use Rattle.vault_lock.specs.declared.lock.Lock.{Lock}
 use Rattle.vault_rules.specs.declared.plan.Held.{Held}
 use Rattle.vault_core_model.specs.declared.records.Entry.{Entry}
@@ -69,6 +69,20 @@ entries_of v bucket key = map held_of (held_at v bucket key)
 -- the first of the bucket's keys after that one
 abbrev pub keys_after : Vault → List ℕ → List ℕ → ℕ → List (List ℕ)
 keys_after v bucket after most = take most (filter (λ k. is_behind k after) (keys_of v bucket))
+
+-- the entry of that id is older than that one; each is where none is given
+abbrev pub is_older : Option ℕ → ℕ → Bool
+is_older None id = true
+is_older (Some than) id = nat_lt id than
+
+-- the ids of the key's held entries that are older than that one, newest first: at most that many
+abbrev pub ids_before : Vault → List ℕ → List ℕ → Option ℕ → ℕ → List ℕ
+ids_before v bucket key than most =
+    take most (filter (is_older than) (reverse (map (λ h. h.entry.id) (held_at v bucket key))))
+
+-- the names of the first buckets after that text, by their bytes
+abbrev pub buckets_after : Vault → List ℕ → ℕ → List (List ℕ)
+buckets_after v after most = take most (filter (λ name. is_behind name after) (map (λ b. b.name) v.buckets))
 
 -- the removed entries, by rising id
 abbrev pub removed_entries : Vault → List Entry

@@ -2,7 +2,7 @@
 ghost use Rattle.std.specs.Prelude.{◌≡◌, ◌≤◌, IfOk, OnOk, OnErr};
 ghost use Rattle.vault_core_model.specs.Leaves.{Leaves, ReadsAs};
 ghost use Rattle.vault_core_model.specs.Vault.{caller_of, config_of, has_department, next_id, note_of, rules_of};
-ghost use Rattle.vault_core_model.specs.Reads.{content_of, entries_of, entry_of, head_of, keys_after, removed_entries, setting_of, settings_of, tenures_of};
+ghost use Rattle.vault_core_model.specs.Reads.{buckets_after, content_of, entries_of, entry_of, head_of, ids_before, keys_after, removed_entries, setting_of, settings_of, tenures_of};
 ghost use Rattle.vault_core_model.specs.Change.{changed};
 ghost use Rattle.vault_core_model.specs.Allowed.{Allows};
 ghost use Rattle.vault_core_model.specs.Halts.{is_device_given};
@@ -110,6 +110,24 @@ pub trait Keeper: Kept {
         most: u32,
     ) -> Result<Vec<ObjectKey>, Fault>
         ensures value { Self.is_honest self.new → IfOk result (λ keys. keys.items ≡ keys_after (Self.vault self.old) bucket.now after.now most) }
+        ensures leaves { ReadsAs Self.Kept self.old self.new result };
+
+    /// The ids of a key's held entries that are older than `than`, newest first: at most `most`. Each is older
+    /// where none is given.
+    fn ids(
+        &mut self,
+        bucket: &BucketName,
+        key: &ObjectKey,
+        than: Option<VersionId>,
+        most: u32,
+    ) -> Result<Vec<VersionId>, Fault>
+        ensures value { Self.is_honest self.new → IfOk result (λ ids. ids.items ≡ ids_before (Self.vault self.old) bucket.now key.now than most) }
+        ensures leaves { ReadsAs Self.Kept self.old self.new result };
+
+    /// The names of the first buckets after `after`, by their bytes: at most `most`. Each name comes after the
+    /// empty text.
+    fn buckets(&mut self, after: &str, most: u32) -> Result<Vec<BucketName>, Fault>
+        ensures value { Self.is_honest self.new → IfOk result (λ names. names.items ≡ buckets_after (Self.vault self.old) after.now most) }
         ensures leaves { ReadsAs Self.Kept self.old self.new result };
 
     /// The note of an accepted line of an intake batch.

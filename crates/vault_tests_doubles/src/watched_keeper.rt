@@ -165,6 +165,22 @@ impl<K: Keeper> Keeper for WatchedKeeper<'_, K> {
         self.keeper.keys(bucket, after, most)
     }
 
+    fn ids(
+        &mut self,
+        bucket: &BucketName,
+        key: &ObjectKey,
+        than: Option<VersionId>,
+        most: u32,
+    ) -> Result<Vec<VersionId>, Fault> {
+        note_call(&mut self.calls, "ids of ", key.as_str());
+        self.keeper.ids(bucket, key, than, most)
+    }
+
+    fn buckets(&mut self, after: &str, most: u32) -> Result<Vec<BucketName>, Fault> {
+        note_call(&mut self.calls, "buckets after ", after);
+        self.keeper.buckets(after, most)
+    }
+
     fn note(
         &mut self,
         bucket: &BucketName,

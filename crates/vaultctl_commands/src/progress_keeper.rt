@@ -144,6 +144,20 @@ impl<K: Keeper> Keeper for ProgressKeeper<K> {
         self.keeper.keys(bucket, after, most)
     }
 
+    fn ids(
+        &mut self,
+        bucket: &BucketName,
+        key: &ObjectKey,
+        than: Option<VersionId>,
+        most: u32,
+    ) -> Result<Vec<VersionId>, Fault> {
+        self.keeper.ids(bucket, key, than, most)
+    }
+
+    fn buckets(&mut self, after: &str, most: u32) -> Result<Vec<BucketName>, Fault> {
+        self.keeper.buckets(after, most)
+    }
+
     fn note(
         &mut self,
         bucket: &BucketName,
