@@ -2,7 +2,6 @@ pub mod SoundLemmas
 pub mod NameLemmas
 pub mod WithinLemmas
 pub mod FoundLemmas
-pub mod EditionLemmas
 pub mod MetaLemmas
 pub mod OrderLemmas
 pub mod TextLemmas

@@ -1,10 +1,9 @@
 -- The walk over meta.
-use Rattle.std.proofs.Common.{◌≡◌, List, [], ◌∷◌, map, true, false, Some, None, Option, Less, IsPermutation, IsSorted, refl, ap, subst}
+use Rattle.std.proofs.Common.{◌≡◌, List, [], ◌∷◌, drop, map, true, false, Some, None, Option, Less, IsPermutation, IsSorted, refl, ap, subst}
 use Rattle.std.proofs.Common.{arith}
 use Rattle.std.proofs.lemmas.List.Sorted.{length_permutation}
 use Rattle.sqlite_value.specs.Order.{Row}
 use Rattle.sqlite_trees.specs.Tree.{IsAscending}
-use Rattle.sqlite_sql.specs.Term.{col}
 use Rattle.sqlite.specs.Effect.{Database}
 use Rattle.sqlite.specs.Schema.{Schema}
 use Rattle.sqlite.specs.State.{State, Shown, IsUnchanged}
@@ -14,23 +13,24 @@ use Rattle.vault_audit_records.specs.declared.meta.row.MetaPass.{MetaPass}
 use Rattle.vault_audit_model.specs.declared.schema.Edition.{Edition}
 use Rattle.vault_audit_model.specs.declared.schema.Edition.TheVariants.{First, Second, Third}
 use Rattle.vault_audit_model.specs.Rows.{meta_row, meta_columns_as}
+use Rattle.vault_audit_model.specs.Tables.{meta_tree}
 use Rattle.vault_audit_model.proofs.SameRows.{same_meta}
 use Rattle.vault_audit_records.specs.Meta.{IsFirstMeta, with_meta, IsMetaOf}
 use Rattle.vault_audit_schema.specs.Places.{BeginTo}
+use Rattle.vault_audit_schema.specs.Selects.{meta_terms}
 use Rattle.vault_audit_walk.specs.Pass.{Takes, Refuses, AllFit, after}
 use Rattle.vault_audit_walk.specs.Walk.{Walked}
 use Rattle.vault_audit_walk.proofs.ScanLemmas.{walked, first_cmp}
 use Rattle.vault_audit_walk.proofs.PassLemmas.{walk_yes, walk_no}
-use Rattle.vault_audit.specs.MetaQuery.{meta_query}
-use Rattle.vault_audit.proofs.TextLemmas.{moves_shown, meta_walks}
+use Rattle.vault_audit.proofs.TextLemmas.{meta_query, meta_walks}
 
 abbrev source : Edition → Database → List Row
-source n db = map (meta_columns_as n) (db.trees 0)
+source n db = map (meta_columns_as n) (db.trees meta_tree)
 
 answers : (n : Edition) (s : Schema) → BeginTo n s.tables table.Meta → (a b : State) → a.now.schema ≡ s → (rows : List Row) → Shown (meta_query n) [] a b rows → IsPermutation (source n a.now) rows × IsSorted first_cmp rows
-answers First s begin a b has rows shown = let it = meta_walks First s begin in walked (meta_query First) a b s has it.plain it.unlisted 0 0 (col 1 2 ∷ col 1 3 ∷ col 1 4 ∷ moves_shown First) _ it.command refl rows shown
-answers Second s begin a b has rows shown = let it = meta_walks Second s begin in walked (meta_query Second) a b s has it.plain it.unlisted 0 0 (col 1 2 ∷ col 1 3 ∷ col 1 4 ∷ moves_shown Second) _ it.command refl rows shown
-answers Third s begin a b has rows shown = let it = meta_walks Third s begin in walked (meta_query Third) a b s has it.plain it.unlisted 0 0 (col 1 2 ∷ col 1 3 ∷ col 1 4 ∷ moves_shown Third) _ it.command refl rows shown
+answers First s begin a b has rows shown = let it = meta_walks First s begin in walked (meta_query First) a b s has it.plain it.unlisted meta_tree 0 (drop 1 (meta_terms First)) _ it.command refl rows shown
+answers Second s begin a b has rows shown = let it = meta_walks Second s begin in walked (meta_query Second) a b s has it.plain it.unlisted meta_tree 0 (drop 1 (meta_terms Second)) _ it.command refl rows shown
+answers Third s begin a b has rows shown = let it = meta_walks Third s begin in walked (meta_query Third) a b s has it.plain it.unlisted meta_tree 0 (drop 1 (meta_terms Third)) _ it.command refl rows shown
 
 abbrev start : Edition → MetaPass
 start n = record { edition = n; found = None }

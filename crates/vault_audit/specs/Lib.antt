@@ -2,6 +2,15 @@ pub mod Whole
 pub mod Looks
 pub mod Found
 pub mod InOrder
-pub mod MetaQuery
-pub mod RulesQuery
+pub mod Begun
+pub mod ShowsAll
+pub mod DepartmentLaws
+pub mod CallerLaws
+pub mod BucketLaws
+pub mod RuleLaws
+pub mod ContentLaws
+pub mod SettingLaws
+pub mod NoteLaws
+pub mod HeadLaws
+pub mod TenureLaws
 pub use Rattle.vault_audit_walk.specs.Health

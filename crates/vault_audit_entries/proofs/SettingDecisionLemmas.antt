@@ -1,9 +1,8 @@
 -- What the looks at settings say together.
-use Rattle.std.proofs.Common.{◌≡◌, ℕ, List, [], ◌∷◌, map, flat_map, Bool, true, false, IsPermutation, IsSorted, Result, Ok, Err, OnOk, IfOk, refl, sym, subst, ◌∙◌, ◌+◌, arith}
+use Rattle.std.proofs.Common.{◌≡◌, ℕ, List, [], ◌∷◌, drop, map, flat_map, Bool, true, false, IsPermutation, IsSorted, Result, Ok, Err, OnOk, IfOk, refl, sym, subst, ◌∙◌, ◌+◌, arith}
 use Rattle.std.specs.List.{AllByRecursion}
 use Rattle.sqlite_trees.proofs.ListLemmas.{map-map}
 use Rattle.sqlite_value.specs.Order.{Row}
-use Rattle.sqlite_sql.specs.Term.{col}
 use Rattle.sqlite.specs.Effect.{Database}
 use Rattle.sqlite.specs.State.{State, Shown, IsUnchanged}
 use Rattle.sqlite.specs.declared.error.Error.{Error}
@@ -16,7 +15,8 @@ use Rattle.vault_audit_model.specs.Limits.{IsHistory}
 use Rattle.vault_audit_model.specs.Relations.{AreEntries, AreNumbered, AreSettings, DecidesSettings, HasSettingsAs, HasSettings}
 use Rattle.vault_audit_model.specs.Rows.{entry_row, entry_columns, setting_row, setting_columns}
 use Rattle.vault_audit_model.specs.Spells.{AreSoundAs, settings_in}
-use Rattle.vault_audit_model.specs.Tables.{schema_of, entries_tree, settings_tree}
+use Rattle.vault_audit_model.specs.Tables.{schema_of, entries_tree, settings, settings_tree}
+use Rattle.vault_audit_schema.specs.Texts.{terms_of}
 use Rattle.vault_audit_walk.specs.Pass.{Takes, Refuses}
 use Rattle.vault_audit_walk.specs.Walk.{Walked}
 use Rattle.vault_audit_walk.proofs.PairLemmas.{pair_walked, pair_cmp, pair_cmp_total}
@@ -38,7 +38,7 @@ abbrev source : Database → List Row
 source db = map setting_columns (db.trees settings_tree)
 
 answers : (n : Edition) → (a b : State) → a.now.schema ≡ schema_of n → (rows : List Row) → Shown placed_walk [] a b rows → IsPermutation (source a.now) rows × IsSorted pair_cmp rows
-answers n a b schema rows shown = pair_walked placed_walk a b (schema_of n) schema (placed_walk_plain n) (placed_walk_is n).1 settings_tree 1 2 (col 1 3 ∷ col 1 4 ∷ col 1 5 ∷ col 1 6 ∷ col 1 7 ∷ col 1 8 ∷ []) _ (placed_walk_is n).0 refl rows shown
+answers n a b schema rows shown = pair_walked placed_walk a b (schema_of n) schema (placed_walk_plain n) (placed_walk_is n).1 settings_tree 1 2 (drop 2 (terms_of settings)) _ (placed_walk_is n).0 refl rows shown
 
 module _ (n : Edition) (old new : State) (has : old.now.schema ≡ schema_of n) (same : IsUnchanged old new) (r : SettingPass) where
   pub places : (b : Bool) → Walked (Takes setting_row ComesNext with_setting) (Refuses setting_row ComesNext with_setting) placed_walk old new no_setting r b → DecidesPlaces new.now b

@@ -1,20 +1,21 @@
 -- What the second look at settings reads.
-use Rattle.std.proofs.Common.{◌≡◌, List, ℕ, [], ◌∷◌, codes, false, refl, arith}
+use Rattle.std.proofs.Common.{◌≡◌, List, ℕ, [], ◌∷◌, codes, drop, false, refl, arith}
 use Rattle.sqlite_tied.specs.Compute.{everything}
 use Rattle.sqlite.specs.Command.TheVariants.{Select}
 use Rattle.sqlite.specs.Listing.{understood, reads_listing}
 use Rattle.sqlite.proofs.Callers.{IsPlain, command_of}
 use Rattle.sqlite_sql.specs.Term.{col}
-use Rattle.vault_audit_model.specs.Tables.{schema_of, settings_tree}
+use Rattle.vault_audit_model.specs.Tables.{schema_of, settings, settings_tree}
+use Rattle.vault_audit_schema.specs.Texts.{names_of, select_text, terms_of}
 use Rattle.vault_audit_walk.proofs.PairLemmas.{pair_walk_of}
 use Rattle.vault_audit_walk.proofs.BesideLemmas.{LooksBeside}
 use Rattle.vault_audit_walk.specs.Health.{Asks}
 use Rattle.vault_audit_model.specs.declared.schema.Edition.{Edition}
 
 abbrev pub placed_walk : List ℕ
-placed_walk = codes "SELECT id, n, moment, caller, mode, until, hold, bypass FROM settings ORDER BY id, n"
+placed_walk = select_text settings (codes " ORDER BY id, n")
 
-pub placed_walk_is : (n : Edition) → (command_of (understood (schema_of n) placed_walk) ≡ Select (record { lets = []; body = pair_walk_of settings_tree 1 2 (col 1 3 ∷ col 1 4 ∷ col 1 5 ∷ col 1 6 ∷ col 1 7 ∷ col 1 8 ∷ []) }) (codes "id" ∷ codes "n" ∷ codes "moment" ∷ codes "caller" ∷ codes "mode" ∷ codes "until" ∷ codes "hold" ∷ codes "bypass" ∷ []))
+pub placed_walk_is : (n : Edition) → (command_of (understood (schema_of n) placed_walk) ≡ Select (record { lets = []; body = pair_walk_of settings_tree 1 2 (drop 2 (terms_of settings)) }) (names_of settings))
     × (reads_listing (schema_of n) placed_walk ≡ false)
 unfolding understood everything
 placed_walk_is n = (refl, refl)

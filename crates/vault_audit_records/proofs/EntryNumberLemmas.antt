@@ -1,17 +1,17 @@
 -- The walk over the entries by their ids.
-use Rattle.std.proofs.Common.{◌<◌, ◌≡◌, ◌+◌, pos, List, [], ◌∷◌, length, map, true, false, Some, None, Less, IsPermutation, IsSorted, refl, sym, ap, ◌∙◌, arith, add-zero}
+use Rattle.std.proofs.Common.{◌<◌, ◌≡◌, ◌+◌, pos, List, [], ◌∷◌, drop, length, map, true, false, Some, None, Less, IsPermutation, IsSorted, refl, sym, ap, ◌∙◌, arith, add-zero}
 use Rattle.std.specs.List.{AllByRecursion}
 use Rattle.sqlite_value.specs.Order.{Row}
 use Rattle.sqlite_value.proofs.OrderLemmas.{value_cmp-Int}
 use Rattle.sqlite_trees.specs.Tree.{IsAscending}
-use Rattle.sqlite_sql.specs.Term.{col}
 use Rattle.sqlite.specs.Effect.{Database}
 use Rattle.sqlite.specs.State.{State, Shown, IsUnchanged}
 use Rattle.vault_core_model.specs.declared.records.Entry.{Entry}
 use Rattle.vault_audit_model.proofs.SameRows.{same_entry}
 use Rattle.vault_audit_model.specs.Rows.{entry_row, entry_columns}
 use Rattle.vault_audit_model.specs.declared.schema.Edition.{Edition}
-use Rattle.vault_audit_model.specs.Tables.{schema_of, entries_tree}
+use Rattle.vault_audit_model.specs.Tables.{schema_of, entries, entries_tree}
+use Rattle.vault_audit_schema.specs.Texts.{terms_of}
 use Rattle.vault_audit_walk.specs.Pass.{Takes, Refuses, AllFit, after}
 use Rattle.vault_audit_walk.specs.Walk.{Walked}
 use Rattle.vault_audit_walk.proofs.ScanLemmas.{walked, first_cmp}
@@ -57,7 +57,7 @@ source db = map entry_columns (db.trees entries_tree)
 
 pub answers : (n : Edition) (a b : State) → a.now.schema ≡ schema_of n → (rows : List Row) → Shown numbers_walk [] a b rows → IsPermutation (source a.now) rows × IsSorted first_cmp rows
 answers n a b schema rows shown =
-    walked numbers_walk a b (schema_of n) schema (numbers_walk_plain n) (numbers_walk_is n).1 9 0 (col 1 2 ∷ col 1 3 ∷ col 1 4 ∷ col 1 5 ∷ col 1 6 ∷ col 1 7 ∷ col 1 8 ∷ col 1 9 ∷ col 1 10 ∷ col 1 11 ∷ col 1 12 ∷ []) _ (numbers_walk_is n).0 refl rows shown
+    walked numbers_walk a b (schema_of n) schema (numbers_walk_plain n) (numbers_walk_is n).1 entries_tree 0 (drop 1 (terms_of entries)) _ (numbers_walk_is n).0 refl rows shown
 
 abbrev start : NumberPass
 start = record { next = 1; low = 0 }

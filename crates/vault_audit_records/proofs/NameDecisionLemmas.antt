@@ -1,10 +1,9 @@
 -- What the walks by name say.
-use Rattle.std.proofs.Common.{◌≡◌, ℕ, List, [], ◌∷◌, map, true, false, Bool, None, Some, Option, Less, Result, Ok, Err, IfOk, OnOk, IsPermutation, IsSorted, refl, sym, ap, subst}
+use Rattle.std.proofs.Common.{◌≡◌, ℕ, List, [], ◌∷◌, drop, map, true, false, Bool, None, Some, Option, Less, Result, Ok, Err, IfOk, OnOk, IsPermutation, IsSorted, refl, sym, ap, subst}
 use Rattle.std.specs.List.{AllByRecursion}
 use Rattle.sqlite_value.specs.Order.{Row}
 use Rattle.sqlite_value.proofs.OrderLemmas.{value_cmp-Text}
 use Rattle.sqlite_trees.proofs.ListLemmas.{map-map}
-use Rattle.sqlite_sql.specs.Term.{col}
 use Rattle.sqlite.specs.Effect.{Database}
 use Rattle.sqlite.specs.State.{State, Shown, IsUnchanged}
 use Rattle.sqlite.specs.declared.error.Error.{Error}
@@ -15,7 +14,9 @@ use Rattle.vault_audit_model.specs.declared.rows.DepartmentRow.{DepartmentRow}
 use Rattle.vault_audit_model.specs.Limits.{IsPlainName, IsCaller, IsDepartmentRow}
 use Rattle.vault_audit_model.specs.Rows.{caller_row, caller_columns, department_row, department_columns_as}
 use Rattle.vault_audit_model.specs.Spells.{AreSoundAs, department_in}
-use Rattle.vault_audit_model.specs.Tables.{schema_of, callers_tree, departments_tree}
+use Rattle.vault_audit_model.specs.Tables.{schema_of, callers, callers_tree, departments_tree}
+use Rattle.vault_audit_schema.specs.Selects.{department_terms}
+use Rattle.vault_audit_schema.specs.Texts.{terms_of}
 use Rattle.vault_audit_model.proofs.SameRows.{same_caller}
 use Rattle.vault_audit_walk.specs.Pass.{Takes, Refuses}
 use Rattle.vault_audit_walk.specs.Walk.{Walked}
@@ -24,8 +25,7 @@ use Rattle.vault_audit_walk.proofs.PassLemmas.{walk_yes, walk_no, rows_yes, rows
 use Rattle.vault_audit_records.specs.ByName.{IsNextCaller, with_caller, DecidesCallers, department_cmp, IsNextDepartment, with_department, DecidesDepartments}
 use Rattle.vault_audit_records.proofs.NameRiseLemmas.{ascending, in_limits, rise, fitting}
 use Rattle.vault_audit_records.proofs.NameRowLemmas.{same_name}
-use Rattle.vault_audit_records.proofs.NameTextLemmas.{callers_walk, callers_walk_is, callers_walk_plain, departments_walk_is, departments_walk_plain, moved_shown}
-use Rattle.vault_audit_records.specs.DepartmentsWalk.{departments_walk}
+use Rattle.vault_audit_records.proofs.NameTextLemmas.{callers_walk, callers_walk_is, callers_walk_plain, departments_walk, departments_walk_is, departments_walk_plain}
 use Rattle.vault_audit_model.specs.declared.schema.Edition.{Edition}
 use Rattle.vault_audit_model.specs.declared.schema.Edition.TheVariants.{First, Second, Third}
 
@@ -39,7 +39,7 @@ callers_first x y = value_cmp-Text x.name y.name
 
 callers_answer : (n : Edition) → (a b : State) → a.now.schema ≡ schema_of n → (rows : List Row) → Shown callers_walk [] a b rows → IsPermutation (callers_in a.now) rows × IsSorted first_cmp rows
 callers_answer n a b schema rows shown =
-    walked callers_walk a b (schema_of n) schema (callers_walk_plain n) (callers_walk_is n).1 3 1 (col 1 2 ∷ col 1 3 ∷ col 1 4 ∷ []) _ (callers_walk_is n).0 refl rows shown
+    walked callers_walk a b (schema_of n) schema (callers_walk_plain n) (callers_walk_is n).1 callers_tree 1 (drop 1 (terms_of callers)) _ (callers_walk_is n).0 refl rows shown
 
 -- ---- departments
 
@@ -51,11 +51,11 @@ departments_first x y = value_cmp-Text x.name y.name
 
 departments_answer : (n : Edition) (a b : State) → a.now.schema ≡ schema_of n → (rows : List Row) → Shown (departments_walk n) [] a b rows → IsPermutation (departments_in n a.now) rows × IsSorted first_cmp rows
 departments_answer First a b schema rows shown =
-    walked (departments_walk First) a b (schema_of First) schema (departments_walk_plain First) (departments_walk_is First).1 1 1 (col 1 2 ∷ col 1 3 ∷ col 1 4 ∷ col 1 5 ∷ col 1 6 ∷ moved_shown First) _ (departments_walk_is First).0 refl rows shown
+    walked (departments_walk First) a b (schema_of First) schema (departments_walk_plain First) (departments_walk_is First).1 departments_tree 1 (drop 1 (department_terms First)) _ (departments_walk_is First).0 refl rows shown
 departments_answer Second a b schema rows shown =
-    walked (departments_walk Second) a b (schema_of Second) schema (departments_walk_plain Second) (departments_walk_is Second).1 1 1 (col 1 2 ∷ col 1 3 ∷ col 1 4 ∷ col 1 5 ∷ col 1 6 ∷ moved_shown Second) _ (departments_walk_is Second).0 refl rows shown
+    walked (departments_walk Second) a b (schema_of Second) schema (departments_walk_plain Second) (departments_walk_is Second).1 departments_tree 1 (drop 1 (department_terms Second)) _ (departments_walk_is Second).0 refl rows shown
 departments_answer Third a b schema rows shown =
-    walked (departments_walk Third) a b (schema_of Third) schema (departments_walk_plain Third) (departments_walk_is Third).1 1 1 (col 1 2 ∷ col 1 3 ∷ col 1 4 ∷ col 1 5 ∷ col 1 6 ∷ moved_shown Third) _ (departments_walk_is Third).0 refl rows shown
+    walked (departments_walk Third) a b (schema_of Third) schema (departments_walk_plain Third) (departments_walk_is Third).1 departments_tree 1 (drop 1 (department_terms Third)) _ (departments_walk_is Third).0 refl rows shown
 
 alike : (before : Option (List ℕ)) (x y : DepartmentRow) → department_row x ≡ department_row y → with_department before x ≡ with_department before y
 alike before x y e = ap Some (same_name x y e)

@@ -1,22 +1,21 @@
 -- What the walks by name read.
-use Rattle.std.proofs.Common.{◌≡◌, List, ℕ, [], ◌∷◌, codes, false, refl, arith}
+use Rattle.std.proofs.Common.{◌≡◌, List, ℕ, [], codes, drop, false, refl, arith}
 use Rattle.sqlite_tied.specs.Compute.{everything}
 use Rattle.sqlite.specs.Command.TheVariants.{Select}
 use Rattle.sqlite.specs.Listing.{understood, reads_listing}
 use Rattle.sqlite.proofs.Callers.{IsPlain, command_of}
-use Rattle.sqlite_sql.specs.Term.{Term, col, lit}
-use Rattle.vault_audit_model.specs.Tables.{schema_of}
+use Rattle.vault_audit_model.specs.Tables.{schema_of, callers, callers_tree, departments, departments_tree}
+use Rattle.vault_audit_schema.specs.Selects.{departments_select, department_terms}
+use Rattle.vault_audit_schema.specs.Texts.{names_of, select_text, terms_of}
 use Rattle.vault_audit_walk.proofs.ScanLemmas.{walk_of}
 use Rattle.vault_audit_walk.specs.Health.{Asks}
 use Rattle.vault_audit_model.specs.declared.schema.Edition.{Edition}
 use Rattle.vault_audit_model.specs.declared.schema.Edition.TheVariants.{First, Second, Third}
-use Rattle.vault_audit_model.specs.Values.{number}
-use Rattle.vault_audit_records.specs.DepartmentsWalk.{departments_walk}
 
 abbrev pub callers_walk : List ℕ
-callers_walk = codes "SELECT name, dept, rights, closed FROM callers ORDER BY name"
+callers_walk = select_text callers (codes " ORDER BY name")
 
-pub callers_walk_is : (n : Edition) → (command_of (understood (schema_of n) callers_walk) ≡ Select (record { lets = []; body = walk_of 3 1 (col 1 2 ∷ col 1 3 ∷ col 1 4 ∷ []) }) (codes "name" ∷ codes "dept" ∷ codes "rights" ∷ codes "closed" ∷ []))
+pub callers_walk_is : (n : Edition) → (command_of (understood (schema_of n) callers_walk) ≡ Select (record { lets = []; body = walk_of callers_tree 1 (drop 1 (terms_of callers)) }) (names_of callers))
     × (reads_listing (schema_of n) callers_walk ≡ false)
 unfolding understood everything
 callers_walk_is n = (refl, refl)
@@ -29,18 +28,11 @@ pub callers_walk_asks : (n : Edition) → Asks (schema_of n) callers_walk
 unfolding understood everything
 callers_walk_asks n = record { is = (omega (arith), refl, (refl, refl, refl, refl)); unlisted = refl }
 
--- what is shown of the bytes that came and went with buckets
-abbrev pub moved_shown : Edition → List Term
-moved_shown First = lit (number 0) ∷ lit (number 0) ∷ []
-moved_shown Second = lit (number 0) ∷ lit (number 0) ∷ []
-moved_shown Third = col 1 7 ∷ col 1 8 ∷ []
+-- by name
+abbrev pub departments_walk : Edition → List ℕ
+departments_walk n = departments_select n (codes " ORDER BY name")
 
-abbrev pub moved_names : Edition → List (List ℕ)
-moved_names First = codes "0" ∷ codes "0" ∷ []
-moved_names Second = codes "0" ∷ codes "0" ∷ []
-moved_names Third = codes "received" ∷ codes "handed" ∷ []
-
-pub departments_walk_is : (n : Edition) → (command_of (understood (schema_of n) (departments_walk n)) ≡ Select (record { lets = []; body = walk_of 1 1 (col 1 2 ∷ col 1 3 ∷ col 1 4 ∷ col 1 5 ∷ col 1 6 ∷ moved_shown n) }) (codes "name" ∷ codes "admitted" ∷ codes "held" ∷ codes "removed" ∷ codes "weighted" ∷ codes "closed" ∷ moved_names n))
+pub departments_walk_is : (n : Edition) → (command_of (understood (schema_of n) (departments_walk n)) ≡ Select (record { lets = []; body = walk_of departments_tree 1 (drop 1 (department_terms n)) }) (names_of departments))
     × (reads_listing (schema_of n) (departments_walk n) ≡ false)
 unfolding understood everything
 departments_walk_is First = (refl, refl)

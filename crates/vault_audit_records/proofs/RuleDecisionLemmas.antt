@@ -1,11 +1,11 @@
 -- What the looks at buckets and rules say.
-use Rattle.std.proofs.Common.{◌≡◌, ◌↔◌, IsTrue, ℕ, pos, List, [], ◌∷◌, map, flat_map, Bool, true, false, Option, None, IsPermutation, IsSorted, Result, Ok, Err, OnOk, IfOk, refl, sym, subst, ◌∙◌}
+use Rattle.std.proofs.Common.{◌≡◌, ◌↔◌, IsTrue, ℕ, pos, List, [], ◌∷◌, drop, map, flat_map, Bool, true, false, Option, None, IsPermutation, IsSorted, Result, Ok, Err, OnOk, IfOk, refl, sym, subst, ◌∙◌}
 use Rattle.std.specs.List.{AllByRecursion, list_any}
 use Rattle.std.specs.Ordering.{is_eq}
 use Rattle.sqlite_trees.proofs.ListLemmas.{map-map}
 use Rattle.sqlite_value.specs.declared.value.Value.TheVariants.{Int, Text}
 use Rattle.sqlite_value.specs.Order.{Row, column}
-use Rattle.sqlite_sql.specs.Term.{col, lit}
+use Rattle.sqlite_sql.specs.Term.{lit}
 use Rattle.sqlite.specs.Effect.{Database}
 use Rattle.sqlite.specs.declared.error.Error.{Error}
 use Rattle.sqlite.specs.State.{State, Shown, IsUnchanged}
@@ -18,7 +18,9 @@ use Rattle.vault_audit_model.specs.declared.rows.RuleRow.{RuleRow}
 use Rattle.vault_audit_model.specs.Relations.{AreBuckets, DecidesBuckets}
 use Rattle.vault_audit_model.specs.Rows.{bucket_row, bucket_columns, rule_row, rule_columns_as}
 use Rattle.vault_audit_model.specs.Spells.{AreSoundAs, bucket_of, rules_in}
-use Rattle.vault_audit_model.specs.Tables.{schema_of, buckets_tree, rules_tree}
+use Rattle.vault_audit_model.specs.Tables.{schema_of, buckets, buckets_tree, rules_tree}
+use Rattle.vault_audit_schema.specs.Selects.{rule_terms}
+use Rattle.vault_audit_schema.specs.Texts.{terms_of}
 use Rattle.vault_audit_model.proofs.SameRows.{same_bucket, same_rule}
 use Rattle.vault_audit_walk.specs.Pass.{Takes, Refuses}
 use Rattle.vault_audit_walk.specs.Records.{Checked}
@@ -33,11 +35,9 @@ use Rattle.vault_audit_records.specs.RulesByPlace.{RulesSoFar, IsNextBucket, wit
 use Rattle.vault_audit_records.proofs.RuleRiseLemmas.{buckets_rise, rules_rise}
 use Rattle.vault_audit_records.proofs.WholeWalkLemmas.{pass_only}
 use Rattle.vault_audit_records.proofs.RuleGroupLemmas.{start, make, ascend, rows_fit, after_none, rules_fit, rules_owned}
-use Rattle.vault_audit_records.proofs.RuleTextLemmas.{buckets_walk, buckets_walk_is, buckets_walk_plain, rules_walk_is, rules_walk_plain, buckets_beside, buckets_beside_is}
+use Rattle.vault_audit_records.proofs.RuleTextLemmas.{buckets_walk, buckets_walk_is, buckets_walk_plain, rules_walk, rules_walk_is, rules_walk_plain, buckets_beside, buckets_beside_is}
 use Rattle.vault_audit_model.specs.declared.schema.Edition.{Edition}
 use Rattle.vault_audit_model.specs.declared.schema.Edition.TheVariants.{First, Second, Third}
-use Rattle.vault_audit_records.specs.RulesWalk.{rules_walk}
-use Rattle.vault_audit_records.proofs.RuleTextLemmas.{bounds_shown}
 
 -- ---- the walks
 
@@ -45,18 +45,18 @@ abbrev bucket_source : Database → List Row
 bucket_source db = map bucket_columns (db.trees buckets_tree)
 
 bucket_answers : (n : Edition) (a b : State) → a.now.schema ≡ schema_of n → (rows : List Row) → Shown buckets_walk [] a b rows → IsPermutation (bucket_source a.now) rows × IsSorted first_cmp rows
-bucket_answers n a b schema rows shown = walked buckets_walk a b (schema_of n) schema (buckets_walk_plain n) (buckets_walk_is n).1 5 1 (col 1 2 ∷ col 1 3 ∷ col 1 4 ∷ col 1 5 ∷ []) _ (buckets_walk_is n).0 refl rows shown
+bucket_answers n a b schema rows shown = walked buckets_walk a b (schema_of n) schema (buckets_walk_plain n) (buckets_walk_is n).1 buckets_tree 1 (drop 1 (terms_of buckets)) _ (buckets_walk_is n).0 refl rows shown
 
 abbrev rule_source : Edition → Database → List Row
 rule_source n db = map (rule_columns_as n) (db.trees rules_tree)
 
 rule_answers : (n : Edition) (a b : State) → a.now.schema ≡ schema_of n → (rows : List Row) → Shown (rules_walk n) [] a b rows → IsPermutation (rule_source n a.now) rows × IsSorted pair_cmp rows
 rule_answers First a b schema rows shown =
-    pair_walked (rules_walk First) a b (schema_of First) schema (rules_walk_plain First) (rules_walk_is First).1 7 1 2 (col 1 3 ∷ col 1 4 ∷ col 1 5 ∷ col 1 6 ∷ col 1 7 ∷ col 1 8 ∷ col 1 9 ∷ bounds_shown First) _ (rules_walk_is First).0 refl rows shown
+    pair_walked (rules_walk First) a b (schema_of First) schema (rules_walk_plain First) (rules_walk_is First).1 rules_tree 1 2 (drop 2 (rule_terms First)) _ (rules_walk_is First).0 refl rows shown
 rule_answers Second a b schema rows shown =
-    pair_walked (rules_walk Second) a b (schema_of Second) schema (rules_walk_plain Second) (rules_walk_is Second).1 7 1 2 (col 1 3 ∷ col 1 4 ∷ col 1 5 ∷ col 1 6 ∷ col 1 7 ∷ col 1 8 ∷ col 1 9 ∷ bounds_shown Second) _ (rules_walk_is Second).0 refl rows shown
+    pair_walked (rules_walk Second) a b (schema_of Second) schema (rules_walk_plain Second) (rules_walk_is Second).1 rules_tree 1 2 (drop 2 (rule_terms Second)) _ (rules_walk_is Second).0 refl rows shown
 rule_answers Third a b schema rows shown =
-    pair_walked (rules_walk Third) a b (schema_of Third) schema (rules_walk_plain Third) (rules_walk_is Third).1 7 1 2 (col 1 3 ∷ col 1 4 ∷ col 1 5 ∷ col 1 6 ∷ col 1 7 ∷ col 1 8 ∷ col 1 9 ∷ bounds_shown Third) _ (rules_walk_is Third).0 refl rows shown
+    pair_walked (rules_walk Third) a b (schema_of Third) schema (rules_walk_plain Third) (rules_walk_is Third).1 rules_tree 1 2 (drop 2 (rule_terms Third)) _ (rules_walk_is Third).0 refl rows shown
 
 module _ (n : Edition) (old new : State) (has : old.now.schema ≡ schema_of n) (same : IsUnchanged old new) where
   pub buckets_stated : (r : Option (List ℕ)) (b : Bool) → Walked (Takes bucket_row IsNextBucket with_bucket) (Refuses bucket_row IsNextBucket with_bucket) buckets_walk old new None r b → DecidesBucketRows new.now b

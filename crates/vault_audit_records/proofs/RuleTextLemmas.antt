@@ -1,24 +1,25 @@
 -- What the second look at buckets and rules reads.
-use Rattle.std.proofs.Common.{◌≡◌, List, ℕ, [], ◌∷◌, codes, pos, false, refl, arith}
+use Rattle.std.proofs.Common.{◌≡◌, List, ℕ, [], ◌∷◌, codes, drop, pos, false, refl, arith}
 use Rattle.sqlite_tied.specs.Compute.{everything}
 use Rattle.sqlite.specs.Command.TheVariants.{Select}
 use Rattle.sqlite.specs.Listing.{understood, reads_listing}
 use Rattle.sqlite.proofs.Callers.{IsPlain, command_of}
-use Rattle.sqlite_sql.specs.Term.{Term, col, lit}
-use Rattle.sqlite_value.specs.declared.value.Value.TheVariants.{Null, Int}
+use Rattle.sqlite_sql.specs.Term.{lit}
+use Rattle.sqlite_value.specs.declared.value.Value.TheVariants.{Int}
 use Rattle.vault_audit_model.specs.declared.schema.Edition.{Edition}
 use Rattle.vault_audit_model.specs.declared.schema.Edition.TheVariants.{First, Second, Third}
-use Rattle.vault_audit_records.specs.RulesWalk.{rules_walk}
-use Rattle.vault_audit_model.specs.Tables.{schema_of}
+use Rattle.vault_audit_model.specs.Tables.{schema_of, buckets, buckets_tree, rules, rules_tree}
+use Rattle.vault_audit_schema.specs.Selects.{rules_select, rule_terms}
+use Rattle.vault_audit_schema.specs.Texts.{names_of, select_text, terms_of}
 use Rattle.vault_audit_walk.proofs.ScanLemmas.{walk_of}
 use Rattle.vault_audit_walk.proofs.PairLemmas.{pair_walk_of}
 use Rattle.vault_audit_walk.proofs.BesideLemmas.{LooksBeside}
 use Rattle.vault_audit_walk.specs.Health.{Asks}
 
 abbrev pub buckets_walk : List ℕ
-buckets_walk = codes "SELECT name, dept, mode, days, years FROM buckets ORDER BY name"
+buckets_walk = select_text buckets (codes " ORDER BY name")
 
-pub buckets_walk_is : (n : Edition) → (command_of (understood (schema_of n) buckets_walk) ≡ Select (record { lets = []; body = walk_of 5 1 (col 1 2 ∷ col 1 3 ∷ col 1 4 ∷ col 1 5 ∷ []) }) (codes "name" ∷ codes "dept" ∷ codes "mode" ∷ codes "days" ∷ codes "years" ∷ []))
+pub buckets_walk_is : (n : Edition) → (command_of (understood (schema_of n) buckets_walk) ≡ Select (record { lets = []; body = walk_of buckets_tree 1 (drop 1 (terms_of buckets)) }) (names_of buckets))
     × (reads_listing (schema_of n) buckets_walk ≡ false)
 unfolding understood everything
 buckets_walk_is n = (refl, refl)
@@ -31,18 +32,11 @@ pub buckets_walk_asks : (n : Edition) → Asks (schema_of n) buckets_walk
 unfolding understood everything
 buckets_walk_asks n = record { is = (omega (arith), refl, (refl, refl, refl, refl)); unlisted = refl }
 
--- what is shown of the bounds of sizes
-abbrev pub bounds_shown : Edition → List Term
-bounds_shown First = lit Null ∷ lit Null ∷ []
-bounds_shown Second = col 1 10 ∷ col 1 11 ∷ []
-bounds_shown Third = col 1 10 ∷ col 1 11 ∷ []
+-- by bucket and place
+abbrev pub rules_walk : Edition → List ℕ
+rules_walk n = rules_select n (codes " ORDER BY bucket, n")
 
-abbrev pub bound_names : Edition → List (List ℕ)
-bound_names First = codes "NULL" ∷ codes "NULL" ∷ []
-bound_names Second = codes "larger" ∷ codes "smaller" ∷ []
-bound_names Third = codes "larger" ∷ codes "smaller" ∷ []
-
-pub rules_walk_is : (n : Edition) → (command_of (understood (schema_of n) (rules_walk n)) ≡ Select (record { lets = []; body = pair_walk_of 7 1 2 (col 1 3 ∷ col 1 4 ∷ col 1 5 ∷ col 1 6 ∷ col 1 7 ∷ col 1 8 ∷ col 1 9 ∷ bounds_shown n) }) (codes "bucket" ∷ codes "n" ∷ codes "id" ∷ codes "prefix" ∷ codes "enabled" ∷ codes "days" ∷ codes "lone" ∷ codes "nc_days" ∷ codes "nc_keep" ∷ bound_names n))
+pub rules_walk_is : (n : Edition) → (command_of (understood (schema_of n) (rules_walk n)) ≡ Select (record { lets = []; body = pair_walk_of rules_tree 1 2 (drop 2 (rule_terms n)) }) (names_of rules))
     × (reads_listing (schema_of n) (rules_walk n) ≡ false)
 unfolding understood everything
 rules_walk_is First = (refl, refl)

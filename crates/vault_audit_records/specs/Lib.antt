@@ -1,9 +1,6 @@
 pub mod Meta
 pub mod MetaCount
-pub mod DepartmentsQuery
-pub mod DepartmentsWalk
 pub mod ByName
 pub mod RulesByPlace
-pub mod RulesWalk
 pub mod Entries
 pub mod EntriesByNumber

@@ -10,6 +10,7 @@ use std::marker::Model;
 use vault_audit_model::schema::Edition;
 use vault_audit_rows::misread::Misread;
 use vault_audit_rows::records::read_bucket;
+use vault_audit_schema::{buckets_columns, select_text};
 use vault_audit_walk::walk::{Pass, walk};
 use vault_base::name::BucketName;
 
@@ -75,7 +76,7 @@ pub(crate) fn are_buckets<S: Alter>(
     let mut pass = BucketPass { last: None };
     walk(
         conn,
-        "SELECT name, dept, mode, days, years FROM buckets ORDER BY name",
+        buckets_columns!(select_text, " ORDER BY name"),
         &mut pass,
     )
 }

@@ -13,6 +13,7 @@ use sqlite::{Alter, Connection, Error, Row};
 use std::marker::Model;
 use vault_audit_model::schema::Edition;
 use vault_audit_rows::records::read_caller;
+use vault_audit_schema::{callers_columns, select_text};
 use vault_audit_walk::walk::{Pass, walk};
 use vault_base::name::CallerName;
 
@@ -78,7 +79,7 @@ pub fn check_callers_by_name<S: Alter>(
     let mut pass = CallerPass { last: None };
     walk(
         conn,
-        "SELECT name, dept, rights, closed FROM callers ORDER BY name",
+        callers_columns!(select_text, " ORDER BY name"),
         &mut pass,
     )
 }

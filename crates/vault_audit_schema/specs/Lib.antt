@@ -2,4 +2,6 @@ pub mod Compare
 pub mod Forms
 pub mod Parts
 pub mod Places
+pub mod Selects
 pub mod Statements
+pub mod Texts

@@ -10,6 +10,10 @@ ghost use Rattle.vault_audit_schema.specs.Parts.{HasKey, IsBare};
 use crate::column::ColumnForm::{Has, MayHave};
 use crate::column::{ColumnForm, ReferenceForm};
 use crate::compare::{Form, have_forms};
+use crate::{
+    buckets_columns, callers_columns, contents_columns, departments_columns, entries_columns,
+    heads_columns, intake_columns, meta_columns, rules_columns, settings_columns, tenures_columns,
+};
 use sqlite_items::Items;
 use sqlite_schema::schema::{self, Kind};
 use sqlite_value::keys::Order;
@@ -62,23 +66,24 @@ macro_rules! column {
     };
 }
 
-/// A table, by the words that define its columns: its form, and the statement that makes it.
+/// A table, by what defines its columns: its form, and the statement that makes it.
 macro_rules! table {
     (
-        $table:ident($title:ident), tree $tree:literal, key $key:expr, references $references:expr,
-        columns(
+        $title:ident(
             $first:ident $first_kind:ident $($first_word:ident)* $(($first_at:ident))?
             $(, $name:ident $kind:ident $($word:ident)* $(($at:ident))?)*
-        )
-        $(, $constraint:literal)?
+            $(; $later:ident $later_kind:ident $($later_word:ident)* = $absent:tt)*
+        ),
+        $table:expr, $tree:expr, $key:expr, $references:expr $(, $constraint:expr)?
     ) => {
         TableForm {
-            table: Table::$table,
+            table: $table,
             tree: $tree,
             key: $key,
             columns: &[
-                column!($first $first_kind $($first_word)*),
-                $(column!($name $kind $($word)*)),*
+                column!($first $first_kind $($first_word)*)
+                $(, column!($name $kind $($word)*))*
+                $(, column!($later $later_kind $($later_word)*))*
             ],
             references: $references,
             creation: concat!(
@@ -89,9 +94,33 @@ macro_rules! table {
                     ", ", stringify!($name), " ", stringify!($kind),
                     $(" ", stringify!($word),)* $(" (", stringify!($at), ")",)?
                 )*
+                $(
+                    ", ", stringify!($later), " ", stringify!($later_kind),
+                    $(" ", stringify!($later_word),)*
+                )*
                 $(", ", $constraint,)? ") STRICT"
             ),
         }
+    };
+}
+
+/// The same of editions that lack the later columns.
+macro_rules! earlier_table {
+    (
+        $title:ident(
+            $first:ident $first_kind:ident $($first_word:ident)* $(($first_at:ident))?
+            $(, $name:ident $kind:ident $($word:ident)* $(($at:ident))?)*
+            $(; $later:ident $later_kind:ident $($later_word:ident)* = $absent:tt)*
+        )
+        $(, $more:expr)*
+    ) => {
+        table!(
+            $title(
+                $first $first_kind $($first_word)* $(($first_at))?
+                $(, $name $kind $($word)* $(($at))?)*
+            )
+            $(, $more)*
+        )
     };
 }
 
@@ -106,189 +135,117 @@ macro_rules! refers {
     };
 }
 
-/// `meta`, with the columns that an edition has besides those of the first.
-macro_rules! meta {
-    ($($name:ident $kind:ident $($word:ident)*),*) => {
-        table!(
-            Meta(meta), tree 0, key KeyForm::Number, references &[],
-            columns(
-                one INTEGER PRIMARY KEY,
-                schema INTEGER NOT NULL,
-                last INTEGER NOT NULL,
-                next INTEGER NOT NULL
-                $(, $name $kind $($word)*)*
-            )
-        )
-    };
-}
-
-/// The departments, with the columns that an edition has besides those of the first.
-macro_rules! departments {
-    ($($name:ident $kind:ident $($word:ident)*),*) => {
-        table!(
-            Departments(departments), tree 1, key KeyForm::Places(&[1]), references &[],
-            columns(
-                name TEXT NOT NULL,
-                admitted INTEGER NOT NULL,
-                held INTEGER NOT NULL,
-                removed INTEGER NOT NULL,
-                weighted INTEGER NOT NULL,
-                closed INTEGER NOT NULL
-                $(, $name $kind $($word)*)*
-            ),
-            "PRIMARY KEY (name)"
-        )
-    };
-}
-
-/// The rules, with the columns that an edition has besides those of the first.
-macro_rules! rules {
-    ($($name:ident $kind:ident $($word:ident)*),*) => {
-        table!(
-            Rules(rules), tree 7, key KeyForm::Places(&[1, 2]),
-            references &[refers!(1, Buckets, "name")],
-            columns(
-                bucket TEXT NOT NULL REFERENCES buckets (name),
-                n INTEGER NOT NULL,
-                id TEXT NOT NULL,
-                prefix TEXT NOT NULL,
-                enabled INTEGER NOT NULL,
-                days INTEGER,
-                lone INTEGER NOT NULL,
-                nc_days INTEGER,
-                nc_keep INTEGER
-                $(, $name $kind $($word)*)*
-            ),
-            "PRIMARY KEY (bucket, n)"
-        )
-    };
-}
-
 /// `meta` of the first two editions.
-const FIRST_META: TableForm = meta!();
+const FIRST_META: TableForm = meta_columns!(earlier_table, Table::Meta, 0, KeyForm::Number, &[]);
 
-pub(crate) const META: TableForm = meta!(moves INTEGER NOT NULL);
+pub(crate) const META: TableForm = meta_columns!(table, Table::Meta, 0, KeyForm::Number, &[]);
 
 /// The departments of the first two editions.
-const FIRST_DEPARTMENTS: TableForm = departments!();
-
-pub(crate) const DEPARTMENTS: TableForm =
-    departments!(received INTEGER NOT NULL, handed INTEGER NOT NULL);
-
-pub(crate) const CALLERS: TableForm = table!(
-    Callers(callers), tree 3, key KeyForm::Places(&[1]),
-    references &[refers!(2, Departments, "name")],
-    columns(
-        name TEXT NOT NULL,
-        dept TEXT REFERENCES departments (name),
-        rights INTEGER NOT NULL,
-        closed INTEGER NOT NULL
-    ),
+const FIRST_DEPARTMENTS: TableForm = departments_columns!(
+    earlier_table,
+    Table::Departments,
+    1,
+    KeyForm::Places(&[1]),
+    &[],
     "PRIMARY KEY (name)"
 );
 
-pub(crate) const BUCKETS: TableForm = table!(
-    Buckets(buckets), tree 5, key KeyForm::Places(&[1]),
-    references &[refers!(2, Departments, "name")],
-    columns(
-        name TEXT NOT NULL,
-        dept TEXT NOT NULL REFERENCES departments (name),
-        mode INTEGER NOT NULL,
-        days INTEGER,
-        years INTEGER
-    ),
+pub(crate) const DEPARTMENTS: TableForm = departments_columns!(
+    table,
+    Table::Departments,
+    1,
+    KeyForm::Places(&[1]),
+    &[],
+    "PRIMARY KEY (name)"
+);
+
+pub(crate) const CALLERS: TableForm = callers_columns!(
+    table,
+    Table::Callers,
+    3,
+    KeyForm::Places(&[1]),
+    &[refers!(2, Departments, "name")],
+    "PRIMARY KEY (name)"
+);
+
+pub(crate) const BUCKETS: TableForm = buckets_columns!(
+    table,
+    Table::Buckets,
+    5,
+    KeyForm::Places(&[1]),
+    &[refers!(2, Departments, "name")],
     "PRIMARY KEY (name)"
 );
 
 /// The rules of the first edition.
-const FIRST_RULES: TableForm = rules!();
+const FIRST_RULES: TableForm = rules_columns!(
+    earlier_table,
+    Table::Rules,
+    7,
+    KeyForm::Places(&[1, 2]),
+    &[refers!(1, Buckets, "name")],
+    "PRIMARY KEY (bucket, n)"
+);
 
-pub(crate) const RULES: TableForm = rules!(larger INTEGER, smaller INTEGER);
+pub(crate) const RULES: TableForm = rules_columns!(
+    table,
+    Table::Rules,
+    7,
+    KeyForm::Places(&[1, 2]),
+    &[refers!(1, Buckets, "name")],
+    "PRIMARY KEY (bucket, n)"
+);
 
-pub(crate) const ENTRIES: TableForm = table!(
-    Entries(entries), tree 9, key KeyForm::NumberAnd(&[2, 3, 0]),
-    references &[refers!(2, Buckets, "name")],
-    columns(
-        id INTEGER PRIMARY KEY,
-        bucket TEXT NOT NULL REFERENCES buckets (name),
-        key TEXT NOT NULL,
-        marker INTEGER NOT NULL,
-        size INTEGER NOT NULL,
-        digest BLOB,
-        admitted INTEGER NOT NULL,
-        by_rule INTEGER NOT NULL,
-        admitted_by TEXT NOT NULL,
-        removed INTEGER,
-        cause INTEGER,
-        cause_by TEXT
-    ),
+pub(crate) const ENTRIES: TableForm = entries_columns!(
+    table,
+    Table::Entries,
+    9,
+    KeyForm::NumberAnd(&[2, 3, 0]),
+    &[refers!(2, Buckets, "name")],
     "UNIQUE (bucket, key, id)"
 );
 
-pub(crate) const CONTENTS: TableForm = table!(
-    Contents(contents), tree 11, key KeyForm::Number,
-    references &[refers!(0, Entries, "id")],
-    columns(
-        id INTEGER PRIMARY KEY REFERENCES entries (id),
-        bytes BLOB NOT NULL
-    )
+pub(crate) const CONTENTS: TableForm = contents_columns!(
+    table,
+    Table::Contents,
+    11,
+    KeyForm::Number,
+    &[refers!(0, Entries, "id")]
 );
 
-pub(crate) const SETTINGS: TableForm = table!(
-    Settings(settings), tree 12, key KeyForm::Places(&[1, 2]),
-    references &[refers!(1, Entries, "id")],
-    columns(
-        id INTEGER NOT NULL REFERENCES entries (id),
-        n INTEGER NOT NULL,
-        moment INTEGER NOT NULL,
-        caller TEXT NOT NULL,
-        mode INTEGER NOT NULL,
-        until INTEGER,
-        hold INTEGER NOT NULL,
-        bypass INTEGER NOT NULL
-    ),
+pub(crate) const SETTINGS: TableForm = settings_columns!(
+    table,
+    Table::Settings,
+    12,
+    KeyForm::Places(&[1, 2]),
+    &[refers!(1, Entries, "id")],
     "PRIMARY KEY (id, n)"
 );
 
-pub(crate) const INTAKE: TableForm = table!(
-    Intake(intake), tree 14, key KeyForm::Places(&[1, 2, 3]),
-    references &[refers!(1, Buckets, "name"), refers!(10, Entries, "id")],
-    columns(
-        bucket TEXT NOT NULL REFERENCES buckets (name),
-        batch TEXT NOT NULL,
-        line INTEGER NOT NULL,
-        key TEXT NOT NULL,
-        size INTEGER NOT NULL,
-        digest BLOB NOT NULL,
-        mode INTEGER NOT NULL,
-        until INTEGER,
-        hold INTEGER,
-        id INTEGER NOT NULL REFERENCES entries (id)
-    ),
+pub(crate) const INTAKE: TableForm = intake_columns!(
+    table,
+    Table::Intake,
+    14,
+    KeyForm::Places(&[1, 2, 3]),
+    &[refers!(1, Buckets, "name"), refers!(10, Entries, "id")],
     "PRIMARY KEY (bucket, batch, line)"
 );
 
-pub(crate) const HEADS: TableForm = table!(
-    Heads(heads), tree 16, key KeyForm::Places(&[1, 2]),
-    references &[refers!(1, Buckets, "name"), refers!(3, Entries, "id")],
-    columns(
-        bucket TEXT NOT NULL REFERENCES buckets (name),
-        key TEXT NOT NULL,
-        newest INTEGER NOT NULL REFERENCES entries (id),
-        count INTEGER NOT NULL
-    ),
+pub(crate) const HEADS: TableForm = heads_columns!(
+    table,
+    Table::Heads,
+    16,
+    KeyForm::Places(&[1, 2]),
+    &[refers!(1, Buckets, "name"), refers!(3, Entries, "id")],
     "PRIMARY KEY (bucket, key)"
 );
 
-pub(crate) const TENURES: TableForm = table!(
-    Tenures(tenures), tree 18, key KeyForm::Places(&[1, 2]),
-    references &[refers!(1, Entries, "id"), refers!(3, Departments, "name")],
-    columns(
-        id INTEGER NOT NULL REFERENCES entries (id),
-        n INTEGER NOT NULL,
-        dept TEXT NOT NULL REFERENCES departments (name),
-        moment INTEGER NOT NULL
-    ),
+pub(crate) const TENURES: TableForm = tenures_columns!(
+    table,
+    Table::Tenures,
+    18,
+    KeyForm::Places(&[1, 2]),
+    &[refers!(1, Entries, "id"), refers!(3, Departments, "name")],
     "PRIMARY KEY (id, n)"
 );
 

@@ -1,58 +1,45 @@
 -- What the statements on departments, on entries beside their buckets, and on tenures beside their versions, read.
-use Rattle.std.proofs.Common.{◌≡◌, List, ℕ, pos, [], ◌∷◌, map, codes, false, refl, ap₂, arith}
+use Rattle.std.proofs.Common.{◌≡◌, List, ℕ, [], ◌∷◌, map, codes, false, refl, ap₂, arith}
 use Rattle.sqlite_tied.specs.Compute.{everything}
 use Rattle.sqlite_value.specs.Keys.{ascending}
 use Rattle.sqlite_value.specs.declared.keys.Key.{Key}
 use Rattle.sqlite_value.specs.declared.keys.Collation.TheVariants.{Binary}
-use Rattle.sqlite_value.specs.declared.value.Value.TheVariants.{Int}
 use Rattle.sqlite_value.specs.Order.{Row}
 use Rattle.sqlite.specs.Command.TheVariants.{Select}
 use Rattle.sqlite.specs.Listing.{understood, reads_listing}
 use Rattle.sqlite.proofs.Callers.{IsPlain, command_of}
-use Rattle.sqlite_sql.specs.Term.{Term, col, lit}
+use Rattle.sqlite_sql.specs.Term.{Term, col}
 use Rattle.vault_audit_model.specs.declared.schema.Edition.{Edition}
 use Rattle.vault_audit_model.specs.declared.schema.Edition.TheVariants.{First, Second, Third}
 use Rattle.vault_audit_model.specs.Rows.{department_columns_as}
-use Rattle.vault_audit_model.specs.Tables.{schema_of, departments_tree, buckets_tree, entries_tree, tenures_tree}
+use Rattle.vault_audit_model.specs.Tables.{schema_of, departments, departments_tree, buckets_tree, entries_tree, tenures_tree}
 use Rattle.vault_audit_entries.proofs.JoinLemmas.{beside_of}
-use Rattle.vault_audit_records.specs.DepartmentsQuery.{departments_query}
-use Rattle.vault_audit_records.proofs.NameTextLemmas.{moved_names}
+use Rattle.vault_audit_schema.specs.Selects.{departments_select, department_terms}
+use Rattle.vault_audit_schema.specs.Texts.{names_of}
 use Rattle.vault_audit_walk.proofs.JoinLemmas.{joined_of}
 use Rattle.vault_audit_walk.proofs.RecordLemmas.{Scans}
 use Rattle.vault_audit_walk.proofs.ScanLemmas.{shows}
 use Rattle.vault_audit_walk.specs.Health.{Asks}
 
--- what is shown of the bytes that came and went with buckets
-abbrev pub moved_shown : Edition → List Term
-moved_shown First = lit (Int (pos 0)) ∷ lit (Int (pos 0)) ∷ []
-moved_shown Second = lit (Int (pos 0)) ∷ lit (Int (pos 0)) ∷ []
-moved_shown Third = col 1 7 ∷ col 1 8 ∷ []
-
-abbrev pub departments_shown : Edition → List Term
-departments_shown n = col 1 1 ∷ col 1 2 ∷ col 1 3 ∷ col 1 4 ∷ col 1 5 ∷ col 1 6 ∷ moved_shown n
-
-abbrev pub departments_names : Edition → List (List ℕ)
-departments_names n = codes "name" ∷ codes "admitted" ∷ codes "held" ∷ codes "removed" ∷ codes "weighted" ∷ codes "closed" ∷ moved_names n
-
-pub departments_scan : (n : Edition) → Scans (schema_of n) (departments_query n) departments_tree (departments_shown n) (departments_names n)
+pub departments_scan : (n : Edition) → Scans (schema_of n) (departments_select n []) departments_tree (department_terms n) (names_of departments)
 unfolding understood everything
 departments_scan First = record { command = refl; unlisted = refl; plain = (refl, refl) }
 departments_scan Second = record { command = refl; unlisted = refl; plain = (refl, refl) }
 departments_scan Third = record { command = refl; unlisted = refl; plain = (refl, refl) }
 
-pub departments_asks : (n : Edition) → Asks (schema_of n) (departments_query n)
+pub departments_asks : (n : Edition) → Asks (schema_of n) (departments_select n [])
 unfolding understood everything
 departments_asks First = record { is = (omega (arith), refl, (refl, refl, refl, refl)); unlisted = refl }
 departments_asks Second = record { is = (omega (arith), refl, (refl, refl, refl, refl)); unlisted = refl }
 departments_asks Third = record { is = (omega (arith), refl, (refl, refl, refl, refl)); unlisted = refl }
 
 -- it shows the columns of each row
-shown_columns : (n : Edition) (row : Row) → shows (departments_shown n) [] row ≡ department_columns_as n row
+shown_columns : (n : Edition) (row : Row) → shows (department_terms n) [] row ≡ department_columns_as n row
 shown_columns First row = refl
 shown_columns Second row = refl
 shown_columns Third row = refl
 
-pub departments_shows : (n : Edition) (rows : List Row) → map (shows (departments_shown n) []) rows ≡ map (department_columns_as n) rows
+pub departments_shows : (n : Edition) (rows : List Row) → map (shows (department_terms n) []) rows ≡ map (department_columns_as n) rows
 departments_shows n [] = refl
 departments_shows n (row ∷ rows) = ap₂ (λ (r : Row) (rs : List Row). r ∷ rs) (shown_columns n row) (departments_shows n rows)
 

@@ -1,84 +1,45 @@
 -- What the statements of `Listings` show of the tables of an edition, and what they put in.
-use Rattle.std.proofs.Common.{◌≡◌, ℕ, pos, negsuc, List, [], ◌∷◌, None, false, codes, refl}
+use Rattle.std.proofs.Common.{◌≡◌, ℕ, pos, negsuc, List, [], ◌∷◌, drop, None, false, codes, refl}
 use Rattle.sqlite_tied.specs.Compute.{everything}
-use Rattle.sqlite_value.specs.declared.value.Value.TheVariants.{Null, Int}
+use Rattle.sqlite_value.specs.declared.value.Value.TheVariants.{Int}
 use Rattle.sqlite_value.specs.declared.keys.Collation.TheVariants.{Binary}
 use Rattle.sqlite_sql.specs.declared.ops.BinaryOp.TheVariants.{Compare}
 use Rattle.sqlite_sql.specs.declared.ops.CompareOp.TheVariants.{Eq}
 use Rattle.sqlite_sql.specs.Term.{Term, lit, col, op2}
 use Rattle.sqlite_sql.specs.Query.{Query, inner, end}
-use Rattle.sqlite.specs.Source.TheVariants.{Values}
-use Rattle.sqlite.specs.Command.TheVariants.{Insert, Select}
+use Rattle.sqlite.specs.Command.TheVariants.{Select}
 use Rattle.sqlite.specs.Listing.{understood, reads_listing}
 use Rattle.sqlite.proofs.Callers.{IsPlain, command_of}
 use Rattle.vault_base.specs.declared.refusal.Table.{Table}
 use Rattle.vault_base.specs.declared.refusal.Table.TheVariants as table
 use Rattle.vault_audit_model.specs.declared.schema.Edition.{Edition}
 use Rattle.vault_audit_model.specs.declared.schema.Edition.TheVariants.{First, Second, Third}
-use Rattle.vault_audit_model.specs.Order.{place_of}
-use Rattle.vault_audit_model.specs.Tables.{schema_of, vault_schema, entries_tree, buckets_tree}
+use Rattle.vault_audit_model.specs.Editions.{newest}
+use Rattle.vault_audit_model.specs.Tables.{schema_of, entries_tree, buckets_tree}
+use Rattle.vault_audit_schema.specs.Selects.{meta_terms, department_terms, rule_terms, table_as}
+use Rattle.vault_audit_schema.specs.Texts.{names_of as all_names, terms_of as all_terms}
 use Rattle.vault_audit_walk.proofs.RecordLemmas.{Scans}
 use Rattle.vault_store_edits.specs.Trees.{tree_of}
-use Rattle.vault_store_create.specs.Listings.{listing_of, tenures_listing, first_tenures_listing, putting_of}
+use Rattle.vault_store_create.specs.Listings.{listing_of, tenures_listing, first_tenures_listing}
 
 -- ---- queries
 
-abbrev pub bounds_shown : Edition → List Term
-bounds_shown First = lit Null ∷ lit Null ∷ []
-bounds_shown Second = col 1 10 ∷ col 1 11 ∷ []
-bounds_shown Third = col 1 10 ∷ col 1 11 ∷ []
+-- what is shown of each row
+abbrev pub terms_of : Edition → Table → List Term
+terms_of n table.Meta = col 1 0 ∷ lit (Int (pos 3)) ∷ drop 2 (meta_terms n)
+terms_of n table.Departments = department_terms n
+terms_of n table.Rules = rule_terms n
+terms_of n t = all_terms (table_as n t)
 
-abbrev pub bound_names : Edition → List (List ℕ)
-bound_names First = codes "NULL" ∷ codes "NULL" ∷ []
-bound_names Second = codes "larger" ∷ codes "smaller" ∷ []
-bound_names Third = codes "larger" ∷ codes "smaller" ∷ []
-
-abbrev pub moves_shown : Edition → List Term
-moves_shown First = lit (Int (pos 0)) ∷ []
-moves_shown Second = lit (Int (pos 0)) ∷ []
-moves_shown Third = col 1 5 ∷ []
-
+-- where an edition has no number of moves
 abbrev pub move_names : Edition → List (List ℕ)
 move_names First = codes "0" ∷ []
 move_names Second = codes "0" ∷ []
 move_names Third = codes "moves" ∷ []
 
-abbrev pub exchange_shown : Edition → List Term
-exchange_shown First = lit (Int (pos 0)) ∷ lit (Int (pos 0)) ∷ []
-exchange_shown Second = lit (Int (pos 0)) ∷ lit (Int (pos 0)) ∷ []
-exchange_shown Third = col 1 7 ∷ col 1 8 ∷ []
-
-abbrev pub exchange_names : Edition → List (List ℕ)
-exchange_names First = codes "0" ∷ codes "0" ∷ []
-exchange_names Second = codes "0" ∷ codes "0" ∷ []
-exchange_names Third = codes "received" ∷ codes "handed" ∷ []
-
--- what is shown of each row
-abbrev pub terms_of : Edition → Table → List Term
-terms_of n table.Meta = col 1 0 ∷ lit (Int (pos 3)) ∷ col 1 3 ∷ col 1 4 ∷ moves_shown n
-terms_of n table.Departments = col 1 1 ∷ col 1 2 ∷ col 1 3 ∷ col 1 4 ∷ col 1 5 ∷ col 1 6 ∷ exchange_shown n
-terms_of n table.Callers = col 1 1 ∷ col 1 2 ∷ col 1 3 ∷ col 1 4 ∷ []
-terms_of n table.Buckets = col 1 1 ∷ col 1 2 ∷ col 1 3 ∷ col 1 4 ∷ col 1 5 ∷ []
-terms_of n table.Rules = col 1 1 ∷ col 1 2 ∷ col 1 3 ∷ col 1 4 ∷ col 1 5 ∷ col 1 6 ∷ col 1 7 ∷ col 1 8 ∷ col 1 9 ∷ bounds_shown n
-terms_of n table.Entries = col 1 0 ∷ col 1 2 ∷ col 1 3 ∷ col 1 4 ∷ col 1 5 ∷ col 1 6 ∷ col 1 7 ∷ col 1 8 ∷ col 1 9 ∷ col 1 10 ∷ col 1 11 ∷ col 1 12 ∷ []
-terms_of n table.Contents = col 1 0 ∷ col 1 2 ∷ []
-terms_of n table.Settings = col 1 1 ∷ col 1 2 ∷ col 1 3 ∷ col 1 4 ∷ col 1 5 ∷ col 1 6 ∷ col 1 7 ∷ col 1 8 ∷ []
-terms_of n table.Intake = col 1 1 ∷ col 1 2 ∷ col 1 3 ∷ col 1 4 ∷ col 1 5 ∷ col 1 6 ∷ col 1 7 ∷ col 1 8 ∷ col 1 9 ∷ col 1 10 ∷ []
-terms_of n table.Heads = col 1 1 ∷ col 1 2 ∷ col 1 3 ∷ col 1 4 ∷ []
-terms_of n table.Tenures = col 1 1 ∷ col 1 2 ∷ col 1 3 ∷ col 1 4 ∷ []
-
 abbrev pub names_of : Edition → Table → List (List ℕ)
 names_of n table.Meta = codes "one" ∷ codes "3" ∷ codes "last" ∷ codes "next" ∷ move_names n
-names_of n table.Departments = codes "name" ∷ codes "admitted" ∷ codes "held" ∷ codes "removed" ∷ codes "weighted" ∷ codes "closed" ∷ exchange_names n
-names_of n table.Callers = codes "name" ∷ codes "dept" ∷ codes "rights" ∷ codes "closed" ∷ []
-names_of n table.Buckets = codes "name" ∷ codes "dept" ∷ codes "mode" ∷ codes "days" ∷ codes "years" ∷ []
-names_of n table.Rules = codes "bucket" ∷ codes "n" ∷ codes "id" ∷ codes "prefix" ∷ codes "enabled" ∷ codes "days" ∷ codes "lone" ∷ codes "nc_days" ∷ codes "nc_keep" ∷ bound_names n
-names_of n table.Entries = codes "id" ∷ codes "bucket" ∷ codes "key" ∷ codes "marker" ∷ codes "size" ∷ codes "digest" ∷ codes "admitted" ∷ codes "by_rule" ∷ codes "admitted_by" ∷ codes "removed" ∷ codes "cause" ∷ codes "cause_by" ∷ []
-names_of n table.Contents = codes "id" ∷ codes "bytes" ∷ []
-names_of n table.Settings = codes "id" ∷ codes "n" ∷ codes "moment" ∷ codes "caller" ∷ codes "mode" ∷ codes "until" ∷ codes "hold" ∷ codes "bypass" ∷ []
-names_of n table.Intake = codes "bucket" ∷ codes "batch" ∷ codes "line" ∷ codes "key" ∷ codes "size" ∷ codes "digest" ∷ codes "mode" ∷ codes "until" ∷ codes "hold" ∷ codes "id" ∷ []
-names_of n table.Heads = codes "bucket" ∷ codes "key" ∷ codes "newest" ∷ codes "count" ∷ []
-names_of n table.Tenures = codes "id" ∷ codes "n" ∷ codes "dept" ∷ codes "moment" ∷ []
+names_of n t = all_names (table_as newest t)
 
 abbrev pub Reads : Edition → Table → Type 0
 Reads n t = Scans (schema_of n) (listing_of n t) (tree_of t) (terms_of n t) (names_of n t)
@@ -180,87 +141,3 @@ reads_only n table.Settings = (reads_settings n).plain
 reads_only n table.Intake = (reads_intake n).plain
 reads_only n table.Heads = (reads_heads n).plain
 reads_only n table.Tenures = tenures_plain n
-
--- ---- INSERT
-
--- the statement puts one row of these values into its table
-pub record Puts (t : Table) (terms : List Term) (width : ℕ) : Type 0 where
-  pub command : command_of (understood vault_schema (putting_of t)) ≡ Insert (place_of t) (Values terms width)
-  pub plain : IsPlain (understood vault_schema (putting_of t))
-
-abbrev pub meta_terms : List Term
-meta_terms = col 0 0 ∷ lit Null ∷ col 0 1 ∷ col 0 2 ∷ col 0 3 ∷ col 0 4 ∷ []
-
-pub puts_meta : Puts table.Meta meta_terms 6
-unfolding understood everything
-puts_meta = record { command = refl; plain = (refl, refl) }
-
-abbrev pub departments_terms : List Term
-departments_terms = lit Null ∷ col 0 0 ∷ col 0 1 ∷ col 0 2 ∷ col 0 3 ∷ col 0 4 ∷ col 0 5 ∷ col 0 6 ∷ col 0 7 ∷ []
-
-pub puts_departments : Puts table.Departments departments_terms 9
-unfolding understood everything
-puts_departments = record { command = refl; plain = (refl, refl) }
-
-abbrev pub callers_terms : List Term
-callers_terms = lit Null ∷ col 0 0 ∷ col 0 1 ∷ col 0 2 ∷ col 0 3 ∷ []
-
-pub puts_callers : Puts table.Callers callers_terms 5
-unfolding understood everything
-puts_callers = record { command = refl; plain = (refl, refl) }
-
-abbrev pub buckets_terms : List Term
-buckets_terms = lit Null ∷ col 0 0 ∷ col 0 1 ∷ col 0 2 ∷ col 0 3 ∷ col 0 4 ∷ []
-
-pub puts_buckets : Puts table.Buckets buckets_terms 6
-unfolding understood everything
-puts_buckets = record { command = refl; plain = (refl, refl) }
-
-abbrev pub rules_terms : List Term
-rules_terms = lit Null ∷ col 0 0 ∷ col 0 1 ∷ col 0 2 ∷ col 0 3 ∷ col 0 4 ∷ col 0 5 ∷ col 0 6 ∷ col 0 7 ∷ col 0 8 ∷ col 0 9 ∷ col 0 10 ∷ []
-
-pub puts_rules : Puts table.Rules rules_terms 12
-unfolding understood everything
-puts_rules = record { command = refl; plain = (refl, refl) }
-
-abbrev pub entries_terms : List Term
-entries_terms = col 0 0 ∷ lit Null ∷ col 0 1 ∷ col 0 2 ∷ col 0 3 ∷ col 0 4 ∷ col 0 5 ∷ col 0 6 ∷ col 0 7 ∷ col 0 8 ∷ col 0 9 ∷ col 0 10 ∷ col 0 11 ∷ []
-
-pub puts_entries : Puts table.Entries entries_terms 13
-unfolding understood everything
-puts_entries = record { command = refl; plain = (refl, refl) }
-
-abbrev pub contents_terms : List Term
-contents_terms = col 0 0 ∷ lit Null ∷ col 0 1 ∷ []
-
-pub puts_contents : Puts table.Contents contents_terms 3
-unfolding understood everything
-puts_contents = record { command = refl; plain = (refl, refl) }
-
-abbrev pub settings_terms : List Term
-settings_terms = lit Null ∷ col 0 0 ∷ col 0 1 ∷ col 0 2 ∷ col 0 3 ∷ col 0 4 ∷ col 0 5 ∷ col 0 6 ∷ col 0 7 ∷ []
-
-pub puts_settings : Puts table.Settings settings_terms 9
-unfolding understood everything
-puts_settings = record { command = refl; plain = (refl, refl) }
-
-abbrev pub intake_terms : List Term
-intake_terms = lit Null ∷ col 0 0 ∷ col 0 1 ∷ col 0 2 ∷ col 0 3 ∷ col 0 4 ∷ col 0 5 ∷ col 0 6 ∷ col 0 7 ∷ col 0 8 ∷ col 0 9 ∷ []
-
-pub puts_intake : Puts table.Intake intake_terms 11
-unfolding understood everything
-puts_intake = record { command = refl; plain = (refl, refl) }
-
-abbrev pub heads_terms : List Term
-heads_terms = lit Null ∷ col 0 0 ∷ col 0 1 ∷ col 0 2 ∷ col 0 3 ∷ []
-
-pub puts_heads : Puts table.Heads heads_terms 5
-unfolding understood everything
-puts_heads = record { command = refl; plain = (refl, refl) }
-
-abbrev pub tenures_terms : List Term
-tenures_terms = lit Null ∷ col 0 0 ∷ col 0 1 ∷ col 0 2 ∷ col 0 3 ∷ []
-
-pub puts_tenures : Puts table.Tenures tenures_terms 5
-unfolding understood everything
-puts_tenures = record { command = refl; plain = (refl, refl) }

@@ -11,8 +11,9 @@ use Rattle.sqlite.proofs.Callers.{IsPlain, command_of}
 use Rattle.vault_base.specs.declared.refusal.Table.{Table}
 use Rattle.vault_base.specs.declared.refusal.Table.TheVariants as table
 use Rattle.vault_audit_model.specs.Order.{place_of}
-use Rattle.vault_audit_model.specs.Tables.{vault_schema}
+use Rattle.vault_audit_model.specs.Tables.{vault_schema, meta, callers}
 use Rattle.vault_audit_schema.specs.Statements.{schema_of_first}
+use Rattle.vault_audit_schema.specs.Texts.{insert_into_text}
 
 -- no rows are counted behind a table
 pub uncounted : (t : Table) → lacks_sequence (schema_of_first (place_of t + 1)) ≡ false
@@ -32,10 +33,10 @@ uncounted table.Tenures = refl
 -- ---- the first rows
 
 abbrev pub meta_row_text : List ℕ
-meta_row_text = codes "INSERT INTO meta (one, schema, last, next, moves) VALUES (1, 3, 0, 1, 0)"
+meta_row_text = insert_into_text meta (codes " VALUES (1, 3, 0, 1, 0)")
 
 abbrev pub registrar_text : List ℕ
-registrar_text = codes "INSERT INTO callers (name, dept, rights, closed) VALUES ('registrar', NULL, 1, 0)"
+registrar_text = insert_into_text callers (codes " VALUES ('registrar', NULL, 1, 0)")
 
 abbrev pub meta_row_terms : List Term
 meta_row_terms = lit (Int (pos 1)) ∷ lit Null ∷ lit (Int (pos 3)) ∷ lit (Int (pos 0)) ∷ lit (Int (pos 1)) ∷ lit (Int (pos 0)) ∷ []

@@ -6,6 +6,7 @@ ghost use Rattle.vault_store_create.specs.Create.{HasAll, HasMetaRow, IsFilled, 
 ghost use Rattle.vault_store_edits.specs.Inside.{CommitsNothing};
 
 use sqlite::{Alter, Error, Transaction};
+use vault_audit_schema::{callers_columns, insert_text, meta_columns};
 
 /// Puts the row of `meta` into the empty tables: the schema's number, the moment 0, 1 for the first entry, and no move.
 pub fn put_meta<S: Alter>(tx: &mut Transaction<'_, S>) -> Result<usize, Error>
@@ -15,10 +16,7 @@ pub fn put_meta<S: Alter>(tx: &mut Transaction<'_, S>) -> Result<usize, Error>
     ensures kept { CommitsNothing S.Store tx.old.conn.now tx.new.conn.now result }
     ensures survives { Survives (state S.Store tx.old.conn.now) (state S.Store tx.new.conn.now) (λ _. ⊥) }
 {
-    tx.execute(
-        "INSERT INTO meta (one, schema, last, next, moves) VALUES (1, 3, 0, 1, 0)",
-        &[],
-    )
+    tx.execute(meta_columns!(insert_text, " VALUES (1, 3, 0, 1, 0)"), &[])
 }
 
 /// Puts the one caller, `registrar`, beside it: of no department, with the right to administer alone, not closed.
@@ -30,7 +28,7 @@ pub fn put_registrar<S: Alter>(tx: &mut Transaction<'_, S>) -> Result<usize, Err
     ensures survives { Survives (state S.Store tx.old.conn.now) (state S.Store tx.new.conn.now) (λ _. ⊥) }
 {
     tx.execute(
-        "INSERT INTO callers (name, dept, rights, closed) VALUES ('registrar', NULL, 1, 0)",
+        callers_columns!(insert_text, " VALUES ('registrar', NULL, 1, 0)"),
         &[],
     )
 }

@@ -8,30 +8,16 @@ use Rattle.sqlite_sql.specs.declared.ops.CompareOp.TheVariants.{Eq}
 use Rattle.sqlite_sql.specs.Term.{op2}
 use Rattle.sqlite.specs.declared.types.Value.TheVariants.{Null, Int}
 use Rattle.sqlite.specs.Term.{Term, lit, col}
-use Rattle.sqlite.specs.Source.TheVariants.{Values, Query}
+use Rattle.sqlite.specs.Source.TheVariants.{Query}
 use Rattle.sqlite.specs.Command.TheVariants.{Insert, Update, Delete}
 use Rattle.sqlite.specs.Listing.{understood}
 use Rattle.sqlite.proofs.Callers.{IsPlain, command_of}
-use Rattle.vault_audit_model.specs.Tables.{vault_schema, entries_tree, contents_tree, heads_tree}
+use Rattle.vault_audit_model.specs.Tables.{vault_schema, entries_tree, contents_tree, heads_tree, tenures}
+use Rattle.vault_audit_schema.specs.Texts.{insert_into_text}
 use Rattle.vault_store_model.specs.Scans.{table_scan, scan_as}
 use Rattle.vault_store_edits.specs.Queries.{equals, FindsWhere}
 
 -- ---- entries
-
-abbrev pub entry_text : List ℕ
-entry_text = codes "INSERT INTO entries (id, bucket, key, marker, size, digest, admitted, by_rule, admitted_by, removed, cause, cause_by) VALUES (?1, ?2, ?3, ?4, ?5, ?6, ?7, ?8, ?9, ?10, ?11, ?12)"
-
-abbrev pub entry_terms : List Term
-entry_terms =
-    col 0 0 ∷ lit Null ∷ col 0 1 ∷ col 0 2 ∷ col 0 3 ∷ col 0 4 ∷ col 0 5 ∷ col 0 6 ∷ col 0 7 ∷ col 0 8 ∷ col 0 9 ∷ col 0 10 ∷ col 0 11 ∷ []
-
-pub entry_is : command_of (understood vault_schema entry_text) ≡ Insert 5 (Values entry_terms 13)
-unfolding understood everything
-entry_is = refl
-
-pub entry_plain : IsPlain (understood vault_schema entry_text)
-unfolding understood everything
-entry_plain = (refl, refl)
 
 -- the rowid, which is the id, is the first parameter
 abbrev pub by_id : List Term
@@ -58,20 +44,6 @@ finds_entry = record { names = codes "id" ∷ []; command = refl; unlisted = ref
 
 -- ---- contents
 
-abbrev pub content_text : List ℕ
-content_text = codes "INSERT INTO contents (id, bytes) VALUES (?1, ?2)"
-
-abbrev pub content_terms : List Term
-content_terms = col 0 0 ∷ lit Null ∷ col 0 1 ∷ []
-
-pub content_is : command_of (understood vault_schema content_text) ≡ Insert 6 (Values content_terms 3)
-unfolding understood everything
-content_is = refl
-
-pub content_plain : IsPlain (understood vault_schema content_text)
-unfolding understood everything
-content_plain = (refl, refl)
-
 abbrev pub no_content_text : List ℕ
 no_content_text = codes "DELETE FROM contents WHERE id = ?1"
 
@@ -89,36 +61,8 @@ finds_content = record { names = codes "id" ∷ []; command = refl; unlisted = r
 
 -- ---- settings, tenures and intake
 
-abbrev pub setting_text : List ℕ
-setting_text = codes "INSERT INTO settings (id, n, moment, caller, mode, until, hold, bypass) VALUES (?1, ?2, ?3, ?4, ?5, ?6, ?7, ?8)"
-
-abbrev pub setting_terms : List Term
-setting_terms = lit Null ∷ col 0 0 ∷ col 0 1 ∷ col 0 2 ∷ col 0 3 ∷ col 0 4 ∷ col 0 5 ∷ col 0 6 ∷ col 0 7 ∷ []
-
-pub setting_is : command_of (understood vault_schema setting_text) ≡ Insert 7 (Values setting_terms 9)
-unfolding understood everything
-setting_is = refl
-
-pub setting_plain : IsPlain (understood vault_schema setting_text)
-unfolding understood everything
-setting_plain = (refl, refl)
-
-abbrev pub tenure_text : List ℕ
-tenure_text = codes "INSERT INTO tenures (id, n, dept, moment) VALUES (?1, ?2, ?3, ?4)"
-
-abbrev pub tenure_terms : List Term
-tenure_terms = lit Null ∷ col 0 0 ∷ col 0 1 ∷ col 0 2 ∷ col 0 3 ∷ []
-
-pub tenure_is : command_of (understood vault_schema tenure_text) ≡ Insert 10 (Values tenure_terms 5)
-unfolding understood everything
-tenure_is = refl
-
-pub tenure_plain : IsPlain (understood vault_schema tenure_text)
-unfolding understood everything
-tenure_plain = (refl, refl)
-
 abbrev pub moved_text : List ℕ
-moved_text = codes "INSERT INTO tenures (id, n, dept, moment) SELECT id, ?2, ?3, ?4 FROM entries WHERE bucket = ?1 AND marker = 0 AND removed IS NULL"
+moved_text = insert_into_text tenures (codes " SELECT id, ?2, ?3, ?4 FROM entries WHERE bucket = ?1 AND marker = 0 AND removed IS NULL")
 
 -- the bucket is the first parameter, and the entry is a version that isn't removed
 abbrev pub moved_tests : List Term
@@ -138,35 +82,7 @@ pub moved_plain : IsPlain (understood vault_schema moved_text)
 unfolding understood everything
 moved_plain = (refl, refl)
 
-abbrev pub note_text : List ℕ
-note_text = codes "INSERT INTO intake (bucket, batch, line, key, size, digest, mode, until, hold, id) VALUES (?1, ?2, ?3, ?4, ?5, ?6, ?7, ?8, ?9, ?10)"
-
-abbrev pub note_terms : List Term
-note_terms = lit Null ∷ col 0 0 ∷ col 0 1 ∷ col 0 2 ∷ col 0 3 ∷ col 0 4 ∷ col 0 5 ∷ col 0 6 ∷ col 0 7 ∷ col 0 8 ∷ col 0 9 ∷ []
-
-pub note_is : command_of (understood vault_schema note_text) ≡ Insert 8 (Values note_terms 11)
-unfolding understood everything
-note_is = refl
-
-pub note_plain : IsPlain (understood vault_schema note_text)
-unfolding understood everything
-note_plain = (refl, refl)
-
 -- ---- heads
-
-abbrev pub head_text : List ℕ
-head_text = codes "INSERT INTO heads (bucket, key, newest, count) VALUES (?1, ?2, ?3, ?4)"
-
-abbrev pub head_terms : List Term
-head_terms = lit Null ∷ col 0 0 ∷ col 0 1 ∷ col 0 2 ∷ col 0 3 ∷ []
-
-pub head_is : command_of (understood vault_schema head_text) ≡ Insert 9 (Values head_terms 5)
-unfolding understood everything
-head_is = refl
-
-pub head_plain : IsPlain (understood vault_schema head_text)
-unfolding understood everything
-head_plain = (refl, refl)
 
 -- the first two columns are the first two parameters
 abbrev pub by_key : List Term

@@ -4,6 +4,7 @@ pub mod CopyLemmas
 mod EntryRowLemmas
 mod EntryTextLemmas
 pub mod ListLemmas
+pub mod PutLemmas
 pub mod QueryLemmas
 pub mod ReadyLemmas
 mod RecordRowLemmas

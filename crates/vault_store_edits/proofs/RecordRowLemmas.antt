@@ -1,6 +1,6 @@
 -- What each statement on meta, departments, callers, buckets and rules does.
-use Rattle.std.proofs.Common.{◌≡◌, ℕ, List, [], ◌∷◌, Option, None, Ok, refl, sym, subst, ◌∙◌}
-use Rattle.sqlite_value.specs.declared.value.Value.TheVariants.{Null, Text}
+use Rattle.std.proofs.Common.{◌≡◌, ℕ, List, [], ◌∷◌, Option, Ok, refl, sym, subst, ◌∙◌}
+use Rattle.sqlite_value.specs.declared.value.Value.TheVariants.{Text}
 use Rattle.sqlite_value.specs.Order.{Row, column}
 use Rattle.sqlite_schema.specs.declared.schema.Kind.TheVariants as kind
 use Rattle.sqlite_rules.specs.Cast.{cast}
@@ -9,21 +9,19 @@ use Rattle.sqlite.specs.State.{State, Executes}
 use Rattle.vault_base.specs.declared.refusal.Table.TheVariants as table
 use Rattle.vault_lock.specs.declared.retention.Default.{Default}
 use Rattle.vault_tally.specs.declared.row.Row.{Row as Sums}
-use Rattle.vault_core_model.specs.declared.records.Caller.{Caller}
-use Rattle.vault_audit_model.specs.declared.rows.RuleRow.{RuleRow}
-use Rattle.vault_audit_model.specs.Rows.{department_row, caller_row, bucket_row, rule_row, rights_number, default_mode, default_days, default_years, noncurrent_days, noncurrent_newer}
+use Rattle.vault_audit_model.specs.Rows.{default_mode, default_days, default_years}
 use Rattle.vault_audit_model.specs.Tables.{vault_schema, meta, departments, callers, buckets, rules, meta_tree, departments_tree, callers_tree, buckets_tree, rules_tree}
-use Rattle.vault_audit_model.specs.Values.{number, number_or_null, text_or_null, flag}
-use Rattle.vault_store_model.specs.Edits.{with_row, with_changed, without}
+use Rattle.vault_audit_model.specs.Values.{number}
+use Rattle.vault_store_model.specs.Edits.{with_changed, without}
 use Rattle.sqlite_tied.proofs.RuleLemmas.{and_true}
 use Rattle.vault_store_edits.specs.Apart.{IsApart}
 use Rattle.vault_store_model.specs.Scans.{passes}
 use Rattle.vault_store_model.specs.Tests.{is_text, is_named, every, with_last, with_last_and_next, with_last_and_moves, with_sums, closed_row, with_default_columns, with_owner}
-use Rattle.vault_audit_model.proofs.ValueLemmas.{cast_null, cast_int}
-use Rattle.vault_store_edits.proofs.CastLemmas.{cast_number, cast_number_or_null, cast_flag, cast_text_or_null}
-use Rattle.vault_store_edits.proofs.StatementLemmas.{Leaves, inserts, updates, deletes}
+use Rattle.vault_audit_model.proofs.ValueLemmas.{cast_int}
+use Rattle.vault_store_edits.proofs.CastLemmas.{cast_number, cast_number_or_null}
+use Rattle.vault_store_edits.proofs.StatementLemmas.{Leaves, updates, deletes}
 use Rattle.vault_store_edits.proofs.TestLemmas.{text_test}
-use Rattle.vault_store_edits.proofs.RecordTextLemmas.{department_text, department_terms, department_is, department_plain, by_name, sums_text, sums_project, sums_is, sums_plain, caller_text, caller_terms, caller_is, caller_plain, closed_text, closed_project, closed_is, closed_plain, bucket_text, bucket_terms, bucket_is, bucket_plain, default_text, default_project, default_is, default_plain, owner_text, owner_project, owner_is, owner_plain, rule_text, rule_terms, rule_is, rule_plain, no_rules_text, no_rules_is, no_rules_plain, last_text, last_project, last_is, last_plain, next_text, next_project, next_is, next_plain, moves_text, moves_project, moves_is, moves_plain}
+use Rattle.vault_store_edits.proofs.RecordTextLemmas.{by_name, sums_text, sums_project, sums_is, sums_plain, closed_text, closed_project, closed_is, closed_plain, default_text, default_project, default_is, default_plain, owner_text, owner_project, owner_is, owner_plain, no_rules_text, no_rules_is, no_rules_plain, last_text, last_project, last_is, last_plain, next_text, next_project, next_is, next_plain, moves_text, moves_project, moves_is, moves_plain}
 use Rattle.vault_store_edits.proofs.TypeLemmas.{column_taken}
 
 -- the name in the first column is the first parameter
@@ -66,16 +64,6 @@ module _ (last : ℕ) where
 
 -- ---- departments
 
-abbrev pub new_department : List ℕ → Row
-new_department name = department_row (record { name = name; sums = record { admitted = 0; received = 0; held = 0; removed = 0; handed = 0; weighted = 0; closed = 0 } })
-
-pub puts_department : (name : List ℕ) (old new : State) (count : ℕ) → old.now.schema ≡ vault_schema → Executes department_text (Text name ∷ []) old new (Ok count)
-    → Leaves old new (with_row table.Departments (new_department name))
-puts_department name =
-    inserts table.Departments 1 departments department_text (Text name ∷ []) department_terms 9
-    (Null ∷ Text name ∷ number 0 ∷ number 0 ∷ number 0 ∷ number 0 ∷ number 0 ∷ number 0 ∷ number 0 ∷ []) (new_department name) department_is department_plain (λ limit mode text db out h. h) refl refl
-    (λ rows. rw (cast_null, cast_number 0) refl)
-
 abbrev pub sums_params : List ℕ → Sums → Row
 sums_params name sums = Text name ∷ number sums.admitted ∷ number sums.held ∷ number sums.removed ∷ number sums.weighted ∷ number sums.closed ∷ number sums.received ∷ number sums.handed ∷ []
 
@@ -89,14 +77,6 @@ sets_sums name sums =
 
 -- ---- callers
 
-abbrev pub caller_params : Caller → Row
-caller_params c = Text c.name ∷ text_or_null c.dept ∷ number (rights_number c.rights) ∷ flag c.closed ∷ []
-
-pub puts_caller : (c : Caller) (old new : State) (count : ℕ) → old.now.schema ≡ vault_schema → Executes caller_text (caller_params c) old new (Ok count) → Leaves old new (with_row table.Callers (caller_row c))
-puts_caller c =
-    inserts table.Callers 2 callers caller_text (caller_params c) caller_terms 5 (Null ∷ caller_params c) (caller_row c) caller_is caller_plain (λ limit mode text db out h. h) refl refl
-    (λ rows. rw (cast_null, cast_text_or_null c.dept, cast_number (rights_number c.rights), cast_flag c.closed) refl)
-
 pub closes_caller : (name : List ℕ) (old new : State) (count : ℕ) → IsApart (passes by_name (Text name ∷ [])) (old.now.trees callers_tree) → IsDatabase old.now → old.now.schema ≡ vault_schema
     → Executes closed_text (Text name ∷ []) old new (Ok count) → Leaves old new (with_changed table.Callers (is_named name) closed_row)
 closes_caller name =
@@ -108,15 +88,6 @@ closes_caller name =
     rw (first, dept, rights, cast_number 1) refl)
 
 -- ---- buckets
-
-abbrev pub new_bucket : List ℕ → List ℕ → Row
-new_bucket name dept = bucket_row (record { name = name; config = record { dept = dept; default = None } })
-
-pub puts_bucket : (name dept : List ℕ) (old new : State) (count : ℕ) → old.now.schema ≡ vault_schema → Executes bucket_text (Text name ∷ Text dept ∷ []) old new (Ok count)
-    → Leaves old new (with_row table.Buckets (new_bucket name dept))
-puts_bucket name dept =
-    inserts table.Buckets 3 buckets bucket_text (Text name ∷ Text dept ∷ []) bucket_terms 6 (Null ∷ Text name ∷ Text dept ∷ number 0 ∷ Null ∷ Null ∷ []) (new_bucket name dept) bucket_is bucket_plain (λ limit mode text db out h. h) refl refl
-    (λ rows. rw (cast_null, cast_number 0) refl)
 
 abbrev pub default_params : List ℕ → Option Default → Row
 default_params name default = Text name ∷ default_mode default ∷ default_days default ∷ default_years default ∷ []
@@ -148,20 +119,6 @@ sets_owner name dept =
     rw (first, mode, days, years) refl)
 
 -- ---- rules
-
-abbrev pub rule_params : RuleRow → Row
-rule_params r = rule_row r
-
-pub puts_rule : (r : RuleRow) (old new : State) (count : ℕ) → old.now.schema ≡ vault_schema → Executes rule_text (rule_params r) old new (Ok count) → Leaves old new (with_row table.Rules (rule_row r))
-puts_rule r =
-    inserts table.Rules 4 rules rule_text (rule_params r) rule_terms 12 (Null ∷ rule_params r) (rule_row r) rule_is rule_plain (λ limit mode text db out h. h) refl refl
-    (λ rows.
-    let days : cast kind.Integer (number_or_null r.rule.days) ≡ number_or_null r.rule.days = cast_number_or_null _ in
-    let old : cast kind.Integer (noncurrent_days r.rule.noncurrent) ≡ noncurrent_days r.rule.noncurrent = cast_number_or_null _ in
-    let newer : cast kind.Integer (noncurrent_newer r.rule.noncurrent) ≡ noncurrent_newer r.rule.noncurrent = cast_number_or_null _ in
-    let larger : cast kind.Integer (number_or_null r.rule.larger) ≡ number_or_null r.rule.larger = cast_number_or_null _ in
-    let smaller : cast kind.Integer (number_or_null r.rule.smaller) ≡ number_or_null r.rule.smaller = cast_number_or_null _ in
-    rw (cast_null, cast_number r.place, cast_flag r.rule.enabled, days, cast_flag r.rule.lone_markers, old, newer, larger, smaller) refl)
 
 pub drops_rules : (bucket : List ℕ) (old new : State) (count : ℕ) → IsApart (passes by_name (Text bucket ∷ [])) (old.now.trees rules_tree) → old.now.schema ≡ vault_schema → Executes no_rules_text (Text bucket ∷ []) old new (Ok count)
     → Leaves old new (without table.Rules (is_named bucket))

@@ -3,28 +3,12 @@ use Rattle.std.proofs.Common.{◌≡◌, ℕ, pos, List, [], ◌∷◌, codes, r
 use Rattle.sqlite_tied.specs.Compute.{everything}
 use Rattle.sqlite.specs.declared.types.Value.TheVariants.{Null, Int}
 use Rattle.sqlite.specs.Term.{Term, lit, col}
-use Rattle.sqlite.specs.Source.TheVariants.{Values}
-use Rattle.sqlite.specs.Command.TheVariants.{Insert, Update, Delete}
+use Rattle.sqlite.specs.Command.TheVariants.{Update, Delete}
 use Rattle.sqlite.specs.Listing.{understood}
 use Rattle.sqlite.proofs.Callers.{IsPlain, command_of}
 use Rattle.vault_audit_model.specs.Tables.{vault_schema, meta_tree, departments_tree, callers_tree, buckets_tree, rules_tree}
 use Rattle.vault_store_model.specs.Scans.{table_scan}
 use Rattle.vault_store_edits.specs.Queries.{equals, FindsWhere}
-
-abbrev pub department_text : List ℕ
-department_text = codes "INSERT INTO departments (name, admitted, held, removed, weighted, closed, received, handed) VALUES (?1, 0, 0, 0, 0, 0, 0, 0)"
-
-abbrev pub department_terms : List Term
-department_terms =
-    lit Null ∷ col 0 0 ∷ lit (Int (pos 0)) ∷ lit (Int (pos 0)) ∷ lit (Int (pos 0)) ∷ lit (Int (pos 0)) ∷ lit (Int (pos 0)) ∷ lit (Int (pos 0)) ∷ lit (Int (pos 0)) ∷ []
-
-pub department_is : command_of (understood vault_schema department_text) ≡ Insert 1 (Values department_terms 9)
-unfolding understood everything
-department_is = refl
-
-pub department_plain : IsPlain (understood vault_schema department_text)
-unfolding understood everything
-department_plain = (refl, refl)
 
 -- ---- departments
 
@@ -52,20 +36,6 @@ finds_department = record { names = codes "rowid" ∷ []; command = refl; unlist
 
 -- ---- callers
 
-abbrev pub caller_text : List ℕ
-caller_text = codes "INSERT INTO callers (name, dept, rights, closed) VALUES (?1, ?2, ?3, ?4)"
-
-abbrev pub caller_terms : List Term
-caller_terms = lit Null ∷ col 0 0 ∷ col 0 1 ∷ col 0 2 ∷ col 0 3 ∷ []
-
-pub caller_is : command_of (understood vault_schema caller_text) ≡ Insert 2 (Values caller_terms 5)
-unfolding understood everything
-caller_is = refl
-
-pub caller_plain : IsPlain (understood vault_schema caller_text)
-unfolding understood everything
-caller_plain = (refl, refl)
-
 abbrev pub closed_text : List ℕ
 closed_text = codes "UPDATE callers SET closed = 1 WHERE name = ?1"
 
@@ -85,20 +55,6 @@ unfolding understood everything
 finds_caller = record { names = codes "rowid" ∷ []; command = refl; unlisted = refl; plain = (refl, refl) }
 
 -- ---- buckets
-
-abbrev pub bucket_text : List ℕ
-bucket_text = codes "INSERT INTO buckets (name, dept, mode, days, years) VALUES (?1, ?2, 0, NULL, NULL)"
-
-abbrev pub bucket_terms : List Term
-bucket_terms = lit Null ∷ col 0 0 ∷ col 0 1 ∷ lit (Int (pos 0)) ∷ lit Null ∷ lit Null ∷ []
-
-pub bucket_is : command_of (understood vault_schema bucket_text) ≡ Insert 3 (Values bucket_terms 6)
-unfolding understood everything
-bucket_is = refl
-
-pub bucket_plain : IsPlain (understood vault_schema bucket_text)
-unfolding understood everything
-bucket_plain = (refl, refl)
 
 abbrev pub default_text : List ℕ
 default_text = codes "UPDATE buckets SET mode = ?2, days = ?3, years = ?4 WHERE name = ?1"
@@ -133,20 +89,6 @@ unfolding understood everything
 finds_bucket = record { names = codes "rowid" ∷ []; command = refl; unlisted = refl; plain = (refl, refl) }
 
 -- ---- rules
-
-abbrev pub rule_text : List ℕ
-rule_text = codes "INSERT INTO rules (bucket, n, id, prefix, enabled, days, lone, nc_days, nc_keep, larger, smaller) VALUES (?1, ?2, ?3, ?4, ?5, ?6, ?7, ?8, ?9, ?10, ?11)"
-
-abbrev pub rule_terms : List Term
-rule_terms = lit Null ∷ col 0 0 ∷ col 0 1 ∷ col 0 2 ∷ col 0 3 ∷ col 0 4 ∷ col 0 5 ∷ col 0 6 ∷ col 0 7 ∷ col 0 8 ∷ col 0 9 ∷ col 0 10 ∷ []
-
-pub rule_is : command_of (understood vault_schema rule_text) ≡ Insert 4 (Values rule_terms 12)
-unfolding understood everything
-rule_is = refl
-
-pub rule_plain : IsPlain (understood vault_schema rule_text)
-unfolding understood everything
-rule_plain = (refl, refl)
 
 abbrev pub no_rules_text : List ℕ
 no_rules_text = codes "DELETE FROM rules WHERE bucket = ?1"

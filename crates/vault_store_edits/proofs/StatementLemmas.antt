@@ -30,7 +30,7 @@ use Rattle.sqlite_rules.proofs.PlaceLemmas.{given}
 use Rattle.sqlite.specs.declared.error.Error.{Error}
 use Rattle.sqlite.specs.declared.run.Mode.{Mode}
 use Rattle.sqlite.specs.Effect.{Database, IsDatabase, Answers, value_rows}
-use Rattle.sqlite.specs.Rows.{Task, Written, Sourced, stamped}
+use Rattle.sqlite.specs.Rows.{Written, Sourced, stamped}
 use Rattle.sqlite.specs.Does.{Tally, Does, OnRows}
 use Rattle.sqlite.specs.Listing.{understood}
 use Rattle.sqlite.specs.State.{State, Executes, ExecutesInside, KeepsCommit, IsUnchanged, mode_of}
@@ -42,6 +42,7 @@ use Rattle.vault_store_model.specs.Rows.{Rows, AreSameRows, rows_in}
 use Rattle.vault_store_model.specs.Edits.{with_row, with_changed, changed_if, without, IgnoresOrder, Edits}
 use Rattle.vault_store_edits.specs.Trees.{tree_of, columns_of}
 use Rattle.vault_store_edits.specs.Apart.{IsApart}
+pub use Rattle.vault_store_edits.specs.Inserts.{task_on}
 use Rattle.vault_store_model.specs.Scans.{table_scan, passes, shows}
 use Rattle.vault_store_edits.proofs.TableLemmas.{edited_alone}
 use Rattle.vault_store_edits.proofs.ListLemmas.{put_permutes, put_all_permutes, filter_alike, left_is, changed_apart}
@@ -121,9 +122,6 @@ refused_after old mid new (Ok count) one two = tt
 refused_after old mid new (Err e) one two = kept_then old mid new one two
 
 -- ---- INSERT
-
-abbrev pub task_on : Option ℕ → Mode → Columns → Row → Task
-task_on limit mode base params = record { limit = limit; keys = mode.keys; schema = vault_schema; table = record base { is_counted = false }; params = params }
 
 -- an INSERT of rows puts them into its table, since no foreign key acts on it
 pub added : (limit : Option ℕ) (mode : Mode) (base : Columns) (params : Row) (at : ℕ) (from : Source) (db : Trees) (tally : Tally) (after : Database)

@@ -6,3 +6,16 @@ pub mod Queries
 pub mod Author
 pub mod Inside
 pub mod Typed
+pub mod Casts
+pub mod Inserts
+pub mod DepartmentLaws
+pub mod CallerLaws
+pub mod BucketLaws
+pub mod RuleLaws
+pub mod EntryLaws
+pub mod ContentLaws
+pub mod SettingLaws
+pub mod NoteLaws
+pub mod HeadLaws
+pub mod TenureLaws
+pub mod NewRows

@@ -9,10 +9,51 @@ ghost use Rattle.vault_store_edits.specs.Inside.{IsEdit, IsEditOfSound};
 
 use crate::apart::check_apart;
 use crate::parameters::{default_days, default_mode, default_years};
+use crate::put::{Put, put_row};
 use sqlite::{Alter, Error, Transaction, params};
+use vault_audit_schema::{buckets_columns, insert_text};
 use vault_base::name::{BucketName, DeptName};
 use vault_base::refusal::Table;
 use vault_lock::retention::Default;
+
+/// A bucket with no default retention.
+#[derive(Clone, Copy)]
+struct NewBucket<'a> {
+    name: &'a BucketName,
+    dept: &'a DeptName,
+}
+
+impl<'a> Put for NewBucket<'a> {
+    ghost use Rattle.vault_base.specs.declared.refusal.Table.TheVariants as table;
+    ghost use Rattle.vault_audit_model.specs.Rows.{bucket_row};
+    ghost use Rattle.vault_audit_model.specs.Tables.{buckets};
+    ghost use Rattle.vault_store_edits.specs.BucketLaws.{bucket_inserts};
+    ghost use Rattle.vault_audit_model.specs.Limits.{IsBucketName, IsPlainName};
+    ghost use Rattle.vault_store_edits.specs.NewRows.{new_bucket};
+
+    ghost table = { table.Buckets };
+
+    ghost made = { buckets };
+
+    ghost as_row = { λ x. bucket_row (new_bucket x.name.now x.dept.now) };
+
+    ghost typed = { λ x r. IsBucketName x.name.now × IsPlainName x.dept.now };
+
+    fn insert<S: Alter>(&self, tx: &mut Transaction<'_, S>) -> Result<usize, Error> {
+        tx.execute(
+            buckets_columns!(insert_text),
+            params![
+                self.name.as_str(),
+                self.dept.as_str(),
+                default_mode(None),
+                default_days(None),
+                default_years(None),
+            ],
+        )
+    }
+
+    ghost inserts = { λ x. bucket_inserts (new_bucket x.name.now x.dept.now) };
+}
 
 /// Puts in a bucket of a department, with no default retention.
 pub fn put_bucket<S: Alter>(
@@ -24,10 +65,7 @@ pub fn put_bucket<S: Alter>(
     ensures edit { IsEdit S.Store tx.old.conn.now tx.new.conn.now result (with_row table.Buckets (bucket_row (record { name = name.now; config = record { dept = dept.now; default = None } }))) }
     ensures limits { IsBucketName name.now × IsPlainName dept.now }
 {
-    tx.execute(
-        "INSERT INTO buckets (name, dept, mode, days, years) VALUES (?1, ?2, 0, NULL, NULL)",
-        params![name.as_str(), dept.as_str()],
-    )
+    put_row(tx, &NewBucket { name, dept })
 }
 
 /// Writes this default retention, or none, into the row of the bucket.

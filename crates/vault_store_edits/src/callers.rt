@@ -9,10 +9,42 @@ ghost use Rattle.vault_store_edits.specs.Inside.{IsEdit, IsEditOfSound};
 
 use crate::apart::check_apart;
 use crate::parameters::{dept_text, rights_number};
+use crate::put::{Put, put_row};
 use sqlite::{Alter, Error, Transaction, params};
+use vault_audit_schema::{callers_columns, insert_text};
 use vault_base::name::CallerName;
 use vault_base::refusal::Table;
 use vault_core_model::records::Caller;
+
+impl Put for Caller {
+    ghost use Rattle.vault_base.specs.declared.refusal.Table.TheVariants as table;
+    ghost use Rattle.vault_audit_model.specs.Rows.{caller_row};
+    ghost use Rattle.vault_audit_model.specs.Tables.{callers};
+    ghost use Rattle.vault_store_edits.specs.CallerLaws.{caller_inserts};
+    ghost use Rattle.vault_audit_model.specs.Limits.{IsCaller};
+
+    ghost table = { table.Callers };
+
+    ghost made = { callers };
+
+    ghost as_row = { caller_row };
+
+    ghost typed = { λ c r. IsCaller c };
+
+    fn insert<S: Alter>(&self, tx: &mut Transaction<'_, S>) -> Result<usize, Error> {
+        tx.execute(
+            callers_columns!(insert_text),
+            params![
+                self.name.as_str(),
+                dept_text(&self.dept),
+                rights_number(self.rights),
+                self.closed,
+            ],
+        )
+    }
+
+    ghost inserts = { caller_inserts };
+}
 
 /// Puts in a caller.
 pub fn put_caller<S: Alter>(tx: &mut Transaction<'_, S>, caller: &Caller) -> Result<usize, Error>
@@ -20,15 +52,7 @@ pub fn put_caller<S: Alter>(tx: &mut Transaction<'_, S>, caller: &Caller) -> Res
     ensures edit { IsEdit S.Store tx.old.conn.now tx.new.conn.now result (with_row table.Callers (caller_row caller.now)) }
     ensures limits { IsCaller caller.now }
 {
-    tx.execute(
-        "INSERT INTO callers (name, dept, rights, closed) VALUES (?1, ?2, ?3, ?4)",
-        params![
-            caller.name.as_str(),
-            dept_text(&caller.dept),
-            rights_number(caller.rights),
-            caller.closed,
-        ],
-    )
+    put_row(tx, caller)
 }
 
 /// Closes a caller.

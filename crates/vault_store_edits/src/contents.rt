@@ -7,10 +7,44 @@ ghost use Rattle.vault_store_model.specs.Tests.{is_numbered};
 ghost use Rattle.vault_store_edits.specs.Inside.{IsEdit};
 
 use crate::by_id::check_id;
+use crate::put::{Put, put_row};
 use sqlite::{Alter, Error, Transaction, params};
+use vault_audit_schema::{contents_columns, insert_text};
 use vault_base::content::Content;
 use vault_base::name::VersionId;
 use vault_base::refusal::Table;
+
+/// The bytes of a version.
+#[derive(Clone, Copy)]
+struct NewContent<'a> {
+    id: VersionId,
+    content: &'a Content,
+}
+
+impl<'a> Put for NewContent<'a> {
+    ghost use Rattle.std.specs.Prelude.{⊤};
+    ghost use Rattle.vault_base.specs.declared.refusal.Table.TheVariants as table;
+    ghost use Rattle.vault_audit_model.specs.Rows.{content_row};
+    ghost use Rattle.vault_audit_model.specs.Tables.{contents};
+    ghost use Rattle.vault_store_edits.specs.ContentLaws.{content_inserts};
+
+    ghost table = { table.Contents };
+
+    ghost made = { contents };
+
+    ghost as_row = { λ x. content_row (record { id = x.id; content = x.content.now }) };
+
+    ghost typed = { λ x r. ⊤ };
+
+    fn insert<S: Alter>(&self, tx: &mut Transaction<'_, S>) -> Result<usize, Error> {
+        tx.execute(
+            contents_columns!(insert_text),
+            params![self.id.number(), self.content.as_slice()],
+        )
+    }
+
+    ghost inserts = { λ x. content_inserts (record { id = x.id; content = x.content.now }) };
+}
 
 /// Puts in the bytes of a version.
 pub fn put_content<S: Alter>(
@@ -21,10 +55,7 @@ pub fn put_content<S: Alter>(
     ensures same_reference { tx.new.conn.ghost_name ≡ tx.old.conn.ghost_name }
     ensures edit { IsEdit S.Store tx.old.conn.now tx.new.conn.now result (with_row table.Contents (content_row (record { id = id; content = content.now }))) }
 {
-    tx.execute(
-        "INSERT INTO contents (id, bytes) VALUES (?1, ?2)",
-        params![id.number(), content.as_slice()],
-    )
+    put_row(tx, &NewContent { id, content })
 }
 
 /// Deletes the bytes of a version.

@@ -9,10 +9,44 @@ ghost use Rattle.vault_store_edits.specs.Inside.{IsEdit, IsEditOfSound};
 
 use crate::apart::check_apart;
 use crate::parameters::whole;
+use crate::put::{Put, put_row};
 use sqlite::{Alter, Error, Transaction, params};
+use vault_audit_schema::{departments_columns, insert_text};
 use vault_base::name::DeptName;
 use vault_base::refusal::Table;
 use vault_tally::row::Row;
+
+/// A department with nothing admitted.
+#[derive(Clone, Copy)]
+struct NewDepartment<'a> {
+    name: &'a DeptName,
+}
+
+impl<'a> Put for NewDepartment<'a> {
+    ghost use Rattle.vault_base.specs.declared.refusal.Table.TheVariants as table;
+    ghost use Rattle.vault_audit_model.specs.Rows.{department_row};
+    ghost use Rattle.vault_audit_model.specs.Tables.{departments};
+    ghost use Rattle.vault_store_edits.specs.DepartmentLaws.{department_inserts};
+    ghost use Rattle.vault_audit_model.specs.Limits.{IsPlainName};
+    ghost use Rattle.vault_store_edits.specs.NewRows.{new_department};
+
+    ghost table = { table.Departments };
+
+    ghost made = { departments };
+
+    ghost as_row = { λ x. department_row (new_department x.name.now) };
+
+    ghost typed = { λ x r. IsPlainName x.name.now };
+
+    fn insert<S: Alter>(&self, tx: &mut Transaction<'_, S>) -> Result<usize, Error> {
+        tx.execute(
+            departments_columns!(insert_text),
+            params![self.name.as_str(), 0u32, 0u32, 0u32, 0u32, 0u32, 0u32, 0u32],
+        )
+    }
+
+    ghost inserts = { λ x. department_inserts (new_department x.name.now) };
+}
 
 /// Puts in a department with nothing admitted.
 pub fn put_department<S: Alter>(
@@ -23,10 +57,7 @@ pub fn put_department<S: Alter>(
     ensures edit { IsEdit S.Store tx.old.conn.now tx.new.conn.now result (with_row table.Departments (department_row (record { name = name.now; sums = record { admitted = 0; received = 0; held = 0; removed = 0; handed = 0; weighted = 0; closed = 0 } }))) }
     ensures limits { IsPlainName name.now }
 {
-    tx.execute(
-        "INSERT INTO departments (name, admitted, held, removed, weighted, closed, received, handed) VALUES (?1, 0, 0, 0, 0, 0, 0, 0)",
-        params![name.as_str()],
-    )
+    put_row(tx, &NewDepartment { name })
 }
 
 /// Writes these sums into the row of the department. `TooBig` where one is 2^63 or more.

@@ -14,10 +14,52 @@ use crate::entry_parameters::{
     removal_cause,
 };
 use crate::parameters::{seconds, whole};
+use crate::put::{Put, put_row};
 use sqlite::{Alter, Error, Transaction, params};
+use vault_audit_schema::{entries_columns, insert_text};
 use vault_base::name::VersionId;
 use vault_base::refusal::Table;
 use vault_core_model::records::{Entry, Removal};
+
+impl Put for Entry {
+    ghost use Rattle.std.specs.Prelude.{OnOk};
+    ghost use Rattle.vault_base.specs.declared.refusal.Table.TheVariants as table;
+    ghost use Rattle.vault_audit_model.specs.Rows.{entry_row};
+    ghost use Rattle.vault_audit_model.specs.Tables.{entries};
+    ghost use Rattle.vault_store_edits.specs.EntryLaws.{entry_inserts};
+    ghost use Rattle.vault_store_edits.specs.Typed.{IsTypedEntry};
+
+    ghost table = { table.Entries };
+
+    ghost made = { entries };
+
+    ghost as_row = { entry_row };
+
+    ghost typed = { λ e r. OnOk r (IsTypedEntry e) };
+
+    fn insert<S: Alter>(&self, tx: &mut Transaction<'_, S>) -> Result<usize, Error> {
+        let size = whole(self.size)?;
+        tx.execute(
+            entries_columns!(insert_text),
+            params![
+                self.id.number(),
+                self.bucket.as_str(),
+                self.key.as_str(),
+                self.marker,
+                size,
+                digest_bytes(&self.digest),
+                seconds(self.admitted),
+                is_rule(&self.by),
+                author_text(&self.by),
+                removal_at(&self.removal),
+                removal_cause(&self.removal),
+                removal_by(&self.removal),
+            ],
+        )
+    }
+
+    ghost inserts = { entry_inserts };
+}
 
 /// Puts in an entry, with its removal if it has one. `TooBig` where its size is 2^63 or more.
 pub fn put_entry<S: Alter>(tx: &mut Transaction<'_, S>, entry: &Entry) -> Result<usize, Error>
@@ -25,24 +67,7 @@ pub fn put_entry<S: Alter>(tx: &mut Transaction<'_, S>, entry: &Entry) -> Result
     ensures edit { IsEdit S.Store tx.old.conn.now tx.new.conn.now result (with_row table.Entries (entry_row entry.now)) }
     ensures limits { OnOk result (IsTypedEntry entry.now) }
 {
-    let size = whole(entry.size)?;
-    tx.execute(
-        "INSERT INTO entries (id, bucket, key, marker, size, digest, admitted, by_rule, admitted_by, removed, cause, cause_by) VALUES (?1, ?2, ?3, ?4, ?5, ?6, ?7, ?8, ?9, ?10, ?11, ?12)",
-        params![
-            entry.id.number(),
-            entry.bucket.as_str(),
-            entry.key.as_str(),
-            entry.marker,
-            size,
-            digest_bytes(&entry.digest),
-            seconds(entry.admitted),
-            is_rule(&entry.by),
-            author_text(&entry.by),
-            removal_at(&entry.removal),
-            removal_cause(&entry.removal),
-            removal_by(&entry.removal),
-        ],
-    )
+    put_row(tx, entry)
 }
 
 /// Writes this removal into the row of the entry.

@@ -8,10 +8,51 @@ ghost use Rattle.vault_store_edits.specs.Inside.{IsEdit, IsEditOfSound};
 
 use crate::apart::check_apart;
 use crate::parameters::whole;
+use crate::put::{Put, put_row};
 use sqlite::{Alter, Error, Transaction, params};
+use vault_audit_schema::{heads_columns, insert_text};
 use vault_base::name::{BucketName, ObjectKey};
 use vault_base::refusal::Table;
 use vault_core_model::records::Head;
+
+/// The head of a key.
+#[derive(Clone, Copy)]
+struct NewHead<'a> {
+    bucket: &'a BucketName,
+    key: &'a ObjectKey,
+    head: &'a Head,
+}
+
+impl<'a> Put for NewHead<'a> {
+    ghost use Rattle.std.specs.Prelude.{⊤};
+    ghost use Rattle.vault_base.specs.declared.refusal.Table.TheVariants as table;
+    ghost use Rattle.vault_audit_model.specs.Rows.{head_row};
+    ghost use Rattle.vault_audit_model.specs.Tables.{heads};
+    ghost use Rattle.vault_store_edits.specs.HeadLaws.{head_inserts};
+
+    ghost table = { table.Heads };
+
+    ghost made = { heads };
+
+    ghost as_row = { λ x. head_row (record { bucket = x.bucket.now; key = x.key.now; head = x.head.now }) };
+
+    ghost typed = { λ x r. ⊤ };
+
+    fn insert<S: Alter>(&self, tx: &mut Transaction<'_, S>) -> Result<usize, Error> {
+        let count = whole(self.head.count)?;
+        tx.execute(
+            heads_columns!(insert_text),
+            params![
+                self.bucket.as_str(),
+                self.key.as_str(),
+                self.head.newest.number(),
+                count,
+            ],
+        )
+    }
+
+    ghost inserts = { λ x. head_inserts (record { bucket = x.bucket.now; key = x.key.now; head = x.head.now }) };
+}
 
 /// Puts in the head of a key. `TooBig` where its count is 2^63 or more.
 pub fn put_head<S: Alter>(
@@ -23,11 +64,7 @@ pub fn put_head<S: Alter>(
     ensures same_reference { tx.new.conn.ghost_name ≡ tx.old.conn.ghost_name }
     ensures edit { IsEdit S.Store tx.old.conn.now tx.new.conn.now result (with_row table.Heads (head_row (record { bucket = bucket.now; key = key.now; head = head.now }))) }
 {
-    let count = whole(head.count)?;
-    tx.execute(
-        "INSERT INTO heads (bucket, key, newest, count) VALUES (?1, ?2, ?3, ?4)",
-        params![bucket.as_str(), key.as_str(), head.newest.number(), count],
-    )
+    put_row(tx, &NewHead { bucket, key, head })
 }
 
 /// Writes this head into the row of its key. `TooBig` where its count is 2^63 or more.

@@ -17,6 +17,7 @@ pub mod heads;
 pub mod intake;
 pub mod meta;
 pub mod parameters;
+mod put;
 pub mod rules;
 pub mod settings;
 pub mod tenures;

@@ -15,7 +15,9 @@ ghost use Rattle.vault_store_edits.specs.Typed.{IsTypedRule};
 
 use crate::apart::check_apart;
 use crate::parameters::{bound, noncurrent_days, noncurrent_newer};
+use crate::put::{Put, put_row};
 use sqlite::{Alter, Error, ErrorCode, Transaction, params};
+use vault_audit_schema::{insert_text, rules_columns};
 use vault_base::name::BucketName;
 use vault_base::refusal::Table;
 use vault_rules::rule::Rule;
@@ -40,6 +42,54 @@ pub fn delete_rules<S: Alter>(
     )
 }
 
+/// A rule of a bucket, at its place.
+#[derive(Clone, Copy)]
+struct NewRule<'a> {
+    bucket: &'a BucketName,
+    place: u32,
+    rule: &'a Rule,
+}
+
+impl<'a> Put for NewRule<'a> {
+    ghost use Rattle.std.specs.Prelude.{OnOk};
+    ghost use Rattle.vault_base.specs.declared.refusal.Table.TheVariants as table;
+    ghost use Rattle.vault_audit_model.specs.Rows.{rule_row};
+    ghost use Rattle.vault_audit_model.specs.Tables.{rules};
+    ghost use Rattle.vault_store_edits.specs.RuleLaws.{rule_inserts};
+    ghost use Rattle.vault_store_edits.specs.Typed.{IsTypedRule};
+
+    ghost table = { table.Rules };
+
+    ghost made = { rules };
+
+    ghost as_row = { λ x. rule_row (record { bucket = x.bucket.now; place = x.place; rule = x.rule.now }) };
+
+    ghost typed = { λ x r. OnOk r (IsTypedRule x.rule.now) };
+
+    fn insert<S: Alter>(&self, tx: &mut Transaction<'_, S>) -> Result<usize, Error> {
+        let larger = bound(self.rule.larger)?;
+        let smaller = bound(self.rule.smaller)?;
+        tx.execute(
+            rules_columns!(insert_text),
+            params![
+                self.bucket.as_str(),
+                self.place,
+                self.rule.id.as_str(),
+                self.rule.prefix.as_str(),
+                self.rule.enabled,
+                self.rule.days,
+                self.rule.lone_markers,
+                noncurrent_days(self.rule.noncurrent),
+                noncurrent_newer(self.rule.noncurrent),
+                larger,
+                smaller,
+            ],
+        )
+    }
+
+    ghost inserts = { λ x. rule_inserts (record { bucket = x.bucket.now; place = x.place; rule = x.rule.now }) };
+}
+
 /// Puts in a rule of a bucket at its place, counted from 1.
 pub fn put_rule<S: Alter>(
     tx: &mut Transaction<'_, S>,
@@ -51,24 +101,12 @@ pub fn put_rule<S: Alter>(
     ensures edit { IsEdit S.Store tx.old.conn.now tx.new.conn.now result (with_row table.Rules (rule_row (record { bucket = bucket.now; place = place; rule = rule.now }))) }
     ensures limits { OnOk result (IsTypedRule rule.now) }
 {
-    let larger = bound(rule.larger)?;
-    let smaller = bound(rule.smaller)?;
-    tx.execute(
-        "INSERT INTO rules (bucket, n, id, prefix, enabled, days, lone, nc_days, nc_keep, larger, smaller) VALUES (?1, ?2, ?3, ?4, ?5, ?6, ?7, ?8, ?9, ?10, ?11)",
-        params![
-            bucket.as_str(),
-            place,
-            rule.id.as_str(),
-            rule.prefix.as_str(),
-            rule.enabled,
-            rule.days,
-            rule.lone_markers,
-            noncurrent_days(rule.noncurrent),
-            noncurrent_newer(rule.noncurrent),
-            larger,
-            smaller,
-        ],
-    )
+    let what = NewRule {
+        bucket,
+        place,
+        rule,
+    };
+    put_row(tx, &what)
 }
 
 /// Puts in the rules of a bucket, at the places 1, 2, 3 and so on.

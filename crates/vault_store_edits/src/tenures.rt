@@ -8,10 +8,49 @@ ghost use Rattle.vault_store_model.specs.Edits.{with_row};
 ghost use Rattle.vault_store_edits.specs.Inside.{IsEdit};
 
 use crate::parameters::seconds;
+use crate::put::{Put, put_row};
 use sqlite::{Alter, Error, Transaction, params};
+use vault_audit_schema::{insert_text, tenures_columns};
 use vault_base::moment::Moment;
 use vault_base::name::{BucketName, DeptName, VersionId};
 use vault_core_model::records::Tenure;
+
+/// A tenure of a version.
+#[derive(Clone, Copy)]
+struct NewTenure<'a> {
+    id: VersionId,
+    tenure: &'a Tenure,
+}
+
+impl<'a> Put for NewTenure<'a> {
+    ghost use Rattle.std.specs.Prelude.{⊤};
+    ghost use Rattle.vault_base.specs.declared.refusal.Table.TheVariants as table;
+    ghost use Rattle.vault_audit_model.specs.Rows.{tenure_row};
+    ghost use Rattle.vault_audit_model.specs.Tables.{tenures};
+    ghost use Rattle.vault_store_edits.specs.TenureLaws.{tenure_inserts};
+
+    ghost table = { table.Tenures };
+
+    ghost made = { tenures };
+
+    ghost as_row = { λ x. tenure_row (record { id = x.id; tenure = x.tenure.now }) };
+
+    ghost typed = { λ x r. ⊤ };
+
+    fn insert<S: Alter>(&self, tx: &mut Transaction<'_, S>) -> Result<usize, Error> {
+        tx.execute(
+            tenures_columns!(insert_text),
+            params![
+                self.id.number(),
+                self.tenure.number,
+                self.tenure.dept.as_str(),
+                seconds(self.tenure.from),
+            ],
+        )
+    }
+
+    ghost inserts = { λ x. tenure_inserts (record { id = x.id; tenure = x.tenure.now }) };
+}
 
 /// Puts in a tenure of a version.
 pub fn put_tenure<S: Alter>(
@@ -22,15 +61,7 @@ pub fn put_tenure<S: Alter>(
     ensures same_reference { tx.new.conn.ghost_name ≡ tx.old.conn.ghost_name }
     ensures edit { IsEdit S.Store tx.old.conn.now tx.new.conn.now result (with_row table.Tenures (tenure_row (record { id = id; tenure = tenure.now }))) }
 {
-    tx.execute(
-        "INSERT INTO tenures (id, n, dept, moment) VALUES (?1, ?2, ?3, ?4)",
-        params![
-            id.number(),
-            tenure.number,
-            tenure.dept.as_str(),
-            seconds(tenure.from),
-        ],
-    )
+    put_row(tx, &NewTenure { id, tenure })
 }
 
 /// Gives each held version of a bucket one tenure more: of that department, from that moment, by the move
@@ -47,7 +78,10 @@ pub fn put_tenures<S: Alter>(
     ensures limits { IsPlainName dept.now }
 {
     tx.execute(
-        "INSERT INTO tenures (id, n, dept, moment) SELECT id, ?2, ?3, ?4 FROM entries WHERE bucket = ?1 AND marker = 0 AND removed IS NULL",
+        tenures_columns!(
+            insert_text,
+            " SELECT id, ?2, ?3, ?4 FROM entries WHERE bucket = ?1 AND marker = 0 AND removed IS NULL"
+        ),
         params![bucket.as_str(), number, dept.as_str(), seconds(at)],
     )
 }

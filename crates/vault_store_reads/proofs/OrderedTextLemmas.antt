@@ -12,7 +12,8 @@ use Rattle.sqlite_sql.specs.Term.{Term, lit, col, op1, op2}
 use Rattle.sqlite_schema.specs.declared.command.Command.TheVariants.{Select}
 use Rattle.sqlite.specs.Listing.{understood}
 use Rattle.sqlite.proofs.Callers.{IsPlain, command_of}
-use Rattle.vault_audit_model.specs.Tables.{vault_schema, entries_tree, heads_tree, rules_tree, settings_tree, tenures_tree}
+use Rattle.vault_audit_model.specs.Tables.{vault_schema, entries, rules, settings, tenures, entries_tree, heads_tree, rules_tree, settings_tree, tenures_tree}
+use Rattle.vault_audit_schema.specs.Texts.{names_of, select_text, terms_of}
 use Rattle.vault_store_reads.specs.Queries.{Selects}
 use Rattle.vault_store_reads.proofs.SelectLemmas.{select_of}
 
@@ -43,49 +44,49 @@ setting_is = record { names = codes "n" ∷ codes "mode" ∷ codes "until" ∷ c
 -- ---- all settings of a version
 
 abbrev pub settings_text : List ℕ
-settings_text = codes "SELECT id, n, moment, caller, mode, until, hold, bypass FROM settings WHERE id = ?1 ORDER BY n"
+settings_text = select_text settings (codes " WHERE id = ?1 ORDER BY n")
 
 abbrev pub settings_shown : List Term
-settings_shown = col 1 1 ∷ col 1 2 ∷ col 1 3 ∷ col 1 4 ∷ col 1 5 ∷ col 1 6 ∷ col 1 7 ∷ col 1 8 ∷ []
+settings_shown = terms_of settings
 
 abbrev pub settings_order : List (Term × Key)
 settings_order = (col 1 2, ascending Binary) ∷ []
 
 pub settings_is : Selects settings_text (select_of settings_tree setting_tests settings_shown settings_order no_limit)
 unfolding understood everything
-settings_is = record { names = codes "id" ∷ codes "n" ∷ codes "moment" ∷ codes "caller" ∷ codes "mode" ∷ codes "until" ∷ codes "hold" ∷ codes "bypass" ∷ []; is = refl; plain = (refl, refl); unlisted = refl }
+settings_is = record { names = names_of settings; is = refl; plain = (refl, refl); unlisted = refl }
 
 -- ---- the rules of a bucket
 
 abbrev pub rules_text : List ℕ
-rules_text = codes "SELECT bucket, n, id, prefix, enabled, days, lone, nc_days, nc_keep, larger, smaller FROM rules WHERE bucket = ?1 ORDER BY n"
+rules_text = select_text rules (codes " WHERE bucket = ?1 ORDER BY n")
 
 abbrev pub rules_tests : List Term
 rules_tests = op2 (Compare Eq Binary) (col 1 1) (col 0 0) ∷ []
 
 abbrev pub rules_shown : List Term
-rules_shown = col 1 1 ∷ col 1 2 ∷ col 1 3 ∷ col 1 4 ∷ col 1 5 ∷ col 1 6 ∷ col 1 7 ∷ col 1 8 ∷ col 1 9 ∷ col 1 10 ∷ col 1 11 ∷ []
+rules_shown = terms_of rules
 
 abbrev pub rules_order : List (Term × Key)
 rules_order = (col 1 2, ascending Binary) ∷ []
 
 pub rules_is : Selects rules_text (select_of rules_tree rules_tests rules_shown rules_order no_limit)
 unfolding understood everything
-rules_is = record { names = codes "bucket" ∷ codes "n" ∷ codes "id" ∷ codes "prefix" ∷ codes "enabled" ∷ codes "days" ∷ codes "lone" ∷ codes "nc_days" ∷ codes "nc_keep" ∷ codes "larger" ∷ codes "smaller" ∷ []; is = refl; plain = (refl, refl); unlisted = refl }
+rules_is = record { names = names_of rules; is = refl; plain = (refl, refl); unlisted = refl }
 
 -- ---- the tenures of a version, and the last of them
 
 abbrev pub tenures_text : List ℕ
-tenures_text = codes "SELECT id, n, dept, moment FROM tenures WHERE id = ?1 ORDER BY n"
+tenures_text = select_text tenures (codes " WHERE id = ?1 ORDER BY n")
 
 abbrev pub last_tenure_text : List ℕ
-last_tenure_text = codes "SELECT id, n, dept, moment FROM tenures WHERE id = ?1 ORDER BY n DESC LIMIT 1"
+last_tenure_text = select_text tenures (codes " WHERE id = ?1 ORDER BY n DESC LIMIT 1")
 
 abbrev pub tenures_tests : List Term
 tenures_tests = op2 (Compare Eq Binary) (col 1 1) (col 0 0) ∷ []
 
 abbrev pub tenures_shown : List Term
-tenures_shown = col 1 1 ∷ col 1 2 ∷ col 1 3 ∷ col 1 4 ∷ []
+tenures_shown = terms_of tenures
 
 abbrev pub tenures_order : List (Term × Key)
 tenures_order = (col 1 2, ascending Binary) ∷ []
@@ -95,11 +96,11 @@ last_tenure_order = (col 1 2, descending) ∷ []
 
 pub tenures_is : Selects tenures_text (select_of tenures_tree tenures_tests tenures_shown tenures_order no_limit)
 unfolding understood everything
-tenures_is = record { names = codes "id" ∷ codes "n" ∷ codes "dept" ∷ codes "moment" ∷ []; is = refl; plain = (refl, refl); unlisted = refl }
+tenures_is = record { names = names_of tenures; is = refl; plain = (refl, refl); unlisted = refl }
 
 pub last_tenure_is : Selects last_tenure_text (select_of tenures_tree tenures_tests tenures_shown last_tenure_order (lit (Int (pos 1))))
 unfolding understood everything
-last_tenure_is = record { names = codes "id" ∷ codes "n" ∷ codes "dept" ∷ codes "moment" ∷ []; is = refl; plain = (refl, refl); unlisted = refl }
+last_tenure_is = record { names = names_of tenures; is = refl; plain = (refl, refl); unlisted = refl }
 
 -- ---- the held entries of a key, the newest first
 
@@ -170,17 +171,16 @@ keys_is = record { names = codes "key" ∷ []; is = refl; plain = (refl, refl); 
 -- ---- the removed entries
 
 abbrev pub removed_text : List ℕ
-removed_text = codes "SELECT id, bucket, key, marker, size, digest, admitted, by_rule, admitted_by, removed, cause, cause_by FROM entries WHERE removed IS NOT NULL ORDER BY id"
+removed_text = select_text entries (codes " WHERE removed IS NOT NULL ORDER BY id")
 
 abbrev pub removed_tests : List Term
 removed_tests = op1 Not (op2 (Is Binary) (col 1 10) (lit Null)) ∷ []
 
 abbrev pub removed_shown : List Term
-removed_shown = col 1 0 ∷ col 1 2 ∷ col 1 3 ∷ col 1 4 ∷ col 1 5 ∷ col 1 6 ∷ col 1 7 ∷ col 1 8 ∷ col 1 9 ∷ col 1 10 ∷ col 1 11 ∷ col 1 12 ∷ []
+removed_shown = terms_of entries
 
 abbrev pub removed_names : List (List ℕ)
-removed_names =
-    codes "id" ∷ codes "bucket" ∷ codes "key" ∷ codes "marker" ∷ codes "size" ∷ codes "digest" ∷ codes "admitted" ∷ codes "by_rule" ∷ codes "admitted_by" ∷ codes "removed" ∷ codes "cause" ∷ codes "cause_by" ∷ []
+removed_names = names_of entries
 
 pub removed_is : Selects removed_text (select_of entries_tree removed_tests removed_shown entries_order no_limit)
 unfolding understood everything

@@ -11,6 +11,7 @@ ghost use Rattle.vault_store_reads.specs.Wants.{WantsMemoryIfErr};
 use crate::query::{query_rows, unread};
 use sqlite::{Alter, Connection, Error, params};
 use vault_audit_rows::records;
+use vault_audit_schema::{contents_columns, entries_columns, select_text};
 use vault_base::content::Content;
 use vault_base::name::VersionId;
 use vault_core_model::records::Entry;
@@ -24,7 +25,7 @@ pub fn read_entry<S: Alter>(conn: &mut Connection<S>, id: VersionId) -> Result<O
 {
     let rows = query_rows(
         conn,
-        "SELECT id, bucket, key, marker, size, digest, admitted, by_rule, admitted_by, removed, cause, cause_by FROM entries WHERE id = ?1",
+        entries_columns!(select_text, " WHERE id = ?1"),
         params![id.number()],
     )?;
     match rows.first() {
@@ -48,7 +49,7 @@ pub fn read_content<S: Alter>(
 {
     let rows = query_rows(
         conn,
-        "SELECT id, bytes FROM contents WHERE id = ?1",
+        contents_columns!(select_text, " WHERE id = ?1"),
         params![id.number()],
     )?;
     match rows.first() {

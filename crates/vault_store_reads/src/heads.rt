@@ -11,6 +11,7 @@ ghost use Rattle.vault_store_reads.specs.Wants.{WantsMemoryIfErr};
 use crate::query::{query_rows, unread};
 use sqlite::{Alter, Connection, Error, params};
 use vault_audit_rows::records;
+use vault_audit_schema::{heads_columns, select_text};
 use vault_base::name::{BucketName, ObjectKey};
 use vault_core_model::records::Head;
 
@@ -27,7 +28,7 @@ pub fn read_head<S: Alter>(
 {
     let rows = query_rows(
         conn,
-        "SELECT bucket, key, newest, count FROM heads WHERE bucket = ?1 AND key = ?2",
+        heads_columns!(select_text, " WHERE bucket = ?1 AND key = ?2"),
         params![bucket.as_str(), key.as_str()],
     )?;
     match rows.first() {

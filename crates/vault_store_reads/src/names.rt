@@ -11,6 +11,7 @@ ghost use Rattle.vault_store_reads.specs.Wants.{WantsMemoryIfErr};
 use crate::query::{query_rows, unread};
 use sqlite::{Alter, Connection, Error, params};
 use vault_audit_rows::records;
+use vault_audit_schema::{buckets_columns, callers_columns, departments_columns, select_text};
 use vault_base::name::{BucketName, CallerName, DeptName};
 use vault_core_model::records::{BucketConfig, Caller};
 use vault_tally::row::Row as Sums;
@@ -24,7 +25,7 @@ pub fn has_department<S: Alter>(conn: &mut Connection<S>, name: &DeptName) -> Re
 {
     let rows = query_rows(
         conn,
-        "SELECT name, admitted, held, removed, weighted, closed, received, handed FROM departments WHERE name = ?1",
+        departments_columns!(select_text, " WHERE name = ?1"),
         params![name.as_str()],
     )?;
     Ok(!rows.is_empty())
@@ -39,7 +40,7 @@ pub fn read_totals<S: Alter>(conn: &mut Connection<S>, dept: &DeptName) -> Resul
 {
     let rows = query_rows(
         conn,
-        "SELECT name, admitted, held, removed, weighted, closed, received, handed FROM departments WHERE name = ?1",
+        departments_columns!(select_text, " WHERE name = ?1"),
         params![dept.as_str()],
     )?;
     match rows.first() {
@@ -71,7 +72,7 @@ pub fn read_caller<S: Alter>(
 {
     let rows = query_rows(
         conn,
-        "SELECT name, dept, rights, closed FROM callers WHERE name = ?1",
+        callers_columns!(select_text, " WHERE name = ?1"),
         params![name.as_str()],
     )?;
     match rows.first() {
@@ -95,7 +96,7 @@ pub fn read_bucket<S: Alter>(
 {
     let rows = query_rows(
         conn,
-        "SELECT name, dept, mode, days, years FROM buckets WHERE name = ?1",
+        buckets_columns!(select_text, " WHERE name = ?1"),
         params![name.as_str()],
     )?;
     match rows.first() {

@@ -10,6 +10,7 @@ ghost use Rattle.vault_store_reads.specs.Wants.{WantsMemoryIfErr};
 use crate::query::{query_rows, unread};
 use sqlite::{Alter, Connection, Error, params};
 use vault_audit_rows::records;
+use vault_audit_schema::{intake_columns, select_text};
 use vault_base::name::{BatchName, BucketName};
 use vault_core_model::records::Note;
 
@@ -27,7 +28,7 @@ pub fn read_note<S: Alter>(
 {
     let rows = query_rows(
         conn,
-        "SELECT bucket, batch, line, key, size, digest, mode, until, hold, id FROM intake WHERE bucket = ?1 AND batch = ?2 AND line = ?3",
+        intake_columns!(select_text, " WHERE bucket = ?1 AND batch = ?2 AND line = ?3"),
         params![bucket.as_str(), batch.as_str(), line],
     )?;
     match rows.first() {

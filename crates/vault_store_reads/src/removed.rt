@@ -18,6 +18,7 @@ ghost use Rattle.vault_store_reads.specs.Wants.{WantsMemoryIfErr};
 use crate::query::unread;
 use sqlite::{Alter, Connection, Error, ErrorCode, Row};
 use vault_audit_rows::records::read_entry;
+use vault_audit_schema::{entries_columns, select_text};
 use vault_core_model::keeper::Sink;
 
 /// Hands the entry of a row on: whether the sink took it.
@@ -44,7 +45,7 @@ fn hand_each<S: Alter, T: Sink>(conn: &mut Connection<S>, sink: &mut T) -> Resul
     ensures survives { Survives (state S.Store conn.old) (state S.Store conn.new) (IsQuiet (state S.Store conn.old)) }
 {
     let mut rows = conn.query(
-        "SELECT id, bucket, key, marker, size, digest, admitted, by_rule, admitted_by, removed, cause, cause_by FROM entries WHERE removed IS NOT NULL ORDER BY id",
+        entries_columns!(select_text, " WHERE removed IS NOT NULL ORDER BY id"),
         &[],
     )?;
     'rows: for _ in 0..u64::MAX {

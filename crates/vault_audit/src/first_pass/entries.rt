@@ -15,6 +15,7 @@ ghost use Rattle.vault_audit_walk.specs.Health.{IsHealthy, IsMemory, OnlyLooks};
 use sqlite::{Alter, Connection, Error};
 use vault_audit_model::schema::Edition;
 use vault_audit_records::entries::row::EntryCheck;
+use vault_audit_schema::{entries_columns, select_text};
 use vault_audit_walk::check::check_rows;
 use vault_base::moment::Moment;
 
@@ -33,7 +34,7 @@ pub fn check_entries<S: Alter>(
 {
     check_rows(
         conn,
-        "SELECT id, bucket, key, marker, size, digest, admitted, by_rule, admitted_by, removed, cause, cause_by FROM entries",
+        entries_columns!(select_text),
         &EntryCheck { last },
     )
 }

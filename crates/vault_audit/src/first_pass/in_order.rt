@@ -11,12 +11,17 @@ ghost use Rattle.vault_audit_records.specs.Meta.{IsMetaOf};
 ghost use Rattle.vault_audit.specs.InOrder.{AreRowsRight, ReportedInOrder};
 ghost use Rattle.vault_audit_walk.specs.Health.{IsHealthy, IsMemory, OnlyLooks};
 
+use crate::first_pass::buckets::check_buckets;
+use crate::first_pass::callers::check_callers;
+use crate::first_pass::contents::check_contents;
+use crate::first_pass::departments::check_departments;
 use crate::first_pass::entries::check_entries;
+use crate::first_pass::heads::check_heads;
+use crate::first_pass::intake::check_intake;
 use crate::first_pass::meta::check_meta;
-use crate::first_pass::table_rows::{
-    check_buckets, check_callers, check_contents, check_departments, check_heads, check_intake,
-    check_rules, check_settings, check_tenures,
-};
+use crate::first_pass::rules::check_rules;
+use crate::first_pass::settings::check_settings;
+use crate::first_pass::tenures::check_tenures;
 use sqlite::{Alter, Connection, Error};
 use vault_audit_model::rows::MetaRow;
 use vault_audit_model::schema::Edition;

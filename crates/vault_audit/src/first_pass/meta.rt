@@ -1,5 +1,5 @@
 //! The first look at `meta`: it is one row, of the schema's number.
-ghost use Rattle.std.specs.Prelude.{◌≡◌, None, IfOk, IfErr};
+ghost use Rattle.std.specs.Prelude.{◌≡◌, codes, None, IfOk, IfErr};
 ghost use Rattle.sqlite.specs.State.{HasCleanDisk};
 ghost use Rattle.sqlite.specs.Held.{state};
 ghost use Rattle.vault_core_model.specs.Vault.{Vault};
@@ -7,24 +7,23 @@ ghost use Rattle.vault_audit_model.specs.Spells.{AreSoundAs};
 ghost use Rattle.vault_audit_records.specs.Meta.{IsMetaOf};
 ghost use Rattle.vault_base.specs.declared.refusal.Table.TheVariants as table;
 ghost use Rattle.vault_audit_schema.specs.Places.{BeginTo};
-ghost use Rattle.vault_audit.specs.MetaQuery.{meta_query};
+ghost use Rattle.vault_audit_schema.specs.Selects.{meta_select};
 ghost use Rattle.vault_audit_walk.specs.Health.{IsHealthy, IsMemory, OnlyLooks};
 
 use sqlite::{Alter, Connection, Error};
 use vault_audit_model::rows::MetaRow;
 use vault_audit_model::schema::Edition;
 use vault_audit_records::meta::row::MetaPass;
+use vault_audit_schema::{earlier_select_text, meta_columns, select_text};
 use vault_audit_walk::walk::walk;
 
 /// The query for the rows of `meta`. What an edition has no column for is 0.
 fn meta_query(edition: Edition) -> &'static str
-    ensures { result.now ≡ meta_query edition }
+    ensures { result.now ≡ meta_select edition (codes " ORDER BY one") }
 {
     match edition {
-        Edition::First | Edition::Second => {
-            "SELECT one, schema, last, next, 0 FROM meta ORDER BY one"
-        }
-        Edition::Third => "SELECT one, schema, last, next, moves FROM meta ORDER BY one",
+        Edition::First | Edition::Second => meta_columns!(earlier_select_text, " ORDER BY one"),
+        Edition::Third => meta_columns!(select_text, " ORDER BY one"),
     }
 }
 

@@ -10,6 +10,7 @@ use vault_audit_model::rows::SettingRow;
 use vault_audit_model::schema::Edition;
 use vault_audit_rows::misread::Misread;
 use vault_audit_rows::records::read_setting;
+use vault_audit_schema::{select_text, settings_columns};
 use vault_audit_walk::walk::{Pass, walk};
 
 /// The check of settings by rising id and place.
@@ -73,7 +74,7 @@ pub(crate) fn are_placed<S: Alter>(
     let mut pass = SettingPass { id: 0, next: 0 };
     walk(
         conn,
-        "SELECT id, n, moment, caller, mode, until, hold, bypass FROM settings ORDER BY id, n",
+        settings_columns!(select_text, " ORDER BY id, n"),
         &mut pass,
     )
 }

@@ -1,11 +1,11 @@
 //! Whether the rows of `departments` are departments, by rising name.
-ghost use Rattle.std.specs.Prelude.{◌≡◌, ◌↔◌, false, IsTrue, IfOk, IfErr};
+ghost use Rattle.std.specs.Prelude.{◌≡◌, ◌↔◌, codes, false, IsTrue, IfOk, IfErr};
 ghost use Rattle.sqlite.specs.State.{HasCleanDisk};
 ghost use Rattle.sqlite.specs.Held.{state};
 ghost use Rattle.vault_core_model.specs.Vault.{Vault};
 ghost use Rattle.vault_audit_model.specs.Spells.{AreSoundAs};
 ghost use Rattle.vault_audit_model.specs.Relations.{IsAfter};
-ghost use Rattle.vault_audit_records.specs.DepartmentsWalk.{departments_walk};
+ghost use Rattle.vault_audit_schema.specs.Selects.{departments_select};
 ghost use Rattle.vault_audit_records.specs.ByName.{DecidesDepartments};
 ghost use Rattle.vault_audit_walk.specs.Health.{IsHealthy, IsMemory, IsOfEdition, OnlyLooks};
 
@@ -14,6 +14,7 @@ use sqlite::{Alter, Connection, Error, Row};
 use std::marker::Model;
 use vault_audit_model::schema::Edition;
 use vault_audit_rows::records::read_department;
+use vault_audit_schema::{departments_columns, earlier_select_text, select_text};
 use vault_audit_walk::walk::{Pass, walk};
 use vault_base::name::DeptName;
 
@@ -67,15 +68,13 @@ impl Pass for DepartmentPass {
 
 /// The query for the departments by name. What an edition has no column for is 0.
 fn departments_walk(edition: Edition) -> &'static str
-    ensures { result.now ≡ departments_walk edition }
+    ensures { result.now ≡ departments_select edition (codes " ORDER BY name") }
 {
     match edition {
         Edition::First | Edition::Second => {
-            "SELECT name, admitted, held, removed, weighted, closed, 0, 0 FROM departments ORDER BY name"
+            departments_columns!(earlier_select_text, " ORDER BY name")
         }
-        Edition::Third => {
-            "SELECT name, admitted, held, removed, weighted, closed, received, handed FROM departments ORDER BY name"
-        }
+        Edition::Third => departments_columns!(select_text, " ORDER BY name"),
     }
 }
 

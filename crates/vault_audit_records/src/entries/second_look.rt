@@ -12,6 +12,7 @@ use crate::row_check::refused;
 use sqlite::{Alter, Connection, Error, Row};
 use vault_audit_model::schema::Edition;
 use vault_audit_rows::records::read_entry;
+use vault_audit_schema::{entries_columns, select_text};
 use vault_audit_walk::walk::{Pass, walk};
 use vault_core_model::records::Entry;
 
@@ -75,7 +76,7 @@ pub fn check_numbers<S: Alter>(
     let mut pass = NumberPass { next: 1, low: 0 };
     let whole = walk(
         conn,
-        "SELECT id, bucket, key, marker, size, digest, admitted, by_rule, admitted_by, removed, cause, cause_by FROM entries ORDER BY id",
+        entries_columns!(select_text, " ORDER BY id"),
         &mut pass,
     )?;
     if !whole {

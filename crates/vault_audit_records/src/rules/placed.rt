@@ -1,9 +1,9 @@
 //! Whether the rules of each bucket stand at the places 1, 2, 3 .. and are a set.
-ghost use Rattle.std.specs.Prelude.{◌≡◌, ◌↔◌, ◌+◌, Some, [], length, IsTrue, IfOk, IfErr};
+ghost use Rattle.std.specs.Prelude.{◌≡◌, ◌↔◌, ◌+◌, codes, Some, [], length, IsTrue, IfOk, IfErr};
 ghost use Rattle.sqlite.specs.State.{HasCleanDisk};
 ghost use Rattle.sqlite.specs.Held.{state};
 ghost use Rattle.vault_audit_records.specs.RulesByPlace.{IsWhole, DecidesRuns};
-ghost use Rattle.vault_audit_records.specs.RulesWalk.{rules_walk};
+ghost use Rattle.vault_audit_schema.specs.Selects.{rules_select};
 ghost use Rattle.vault_audit_walk.specs.Health.{IsHealthy, IsMemory, IsOfEdition, OnlyLooks};
 
 use crate::buckets::is_after;
@@ -15,6 +15,7 @@ use vault_audit_model::rows::RuleRow;
 use vault_audit_model::schema::Edition;
 use vault_audit_rows::misread::Misread;
 use vault_audit_rows::records::read_rule;
+use vault_audit_schema::{earlier_select_text, rules_columns, select_text};
 use vault_audit_walk::walk::{Pass, walk};
 use vault_base::name::BucketName;
 use vault_rules::rule::Rule;
@@ -101,15 +102,11 @@ impl Pass for RulePass {
 
 /// The query for the rules by bucket and place. What an edition has no column for is NULL.
 fn rules_walk(edition: Edition) -> &'static str
-    ensures { result.now ≡ rules_walk edition }
+    ensures { result.now ≡ rules_select edition (codes " ORDER BY bucket, n") }
 {
     match edition {
-        Edition::First => {
-            "SELECT bucket, n, id, prefix, enabled, days, lone, nc_days, nc_keep, NULL, NULL FROM rules ORDER BY bucket, n"
-        }
-        Edition::Second | Edition::Third => {
-            "SELECT bucket, n, id, prefix, enabled, days, lone, nc_days, nc_keep, larger, smaller FROM rules ORDER BY bucket, n"
-        }
+        Edition::First => rules_columns!(earlier_select_text, " ORDER BY bucket, n"),
+        Edition::Second | Edition::Third => rules_columns!(select_text, " ORDER BY bucket, n"),
     }
 }
 

@@ -1,8 +1,14 @@
 //! The statements that read the tables of an edition, and that put rows into those of the newest.
-ghost use Rattle.std.specs.Prelude.{◌≡◌};
-ghost use Rattle.vault_store_create.specs.Listings.{meta_listing, departments_listing, rules_listing, tenures_listing, listing_of, putting_of};
+ghost use Rattle.std.specs.Prelude.{◌≡◌, []};
+ghost use Rattle.vault_store_create.specs.Listings.{meta_listing, tenures_listing, listing_of, putting_of};
+ghost use Rattle.vault_audit_schema.specs.Selects.{departments_select, rules_select};
 
 use vault_audit_model::schema::Edition;
+use vault_audit_schema::{
+    buckets_columns, callers_columns, contents_columns, departments_columns, earlier_select_text,
+    entries_columns, heads_columns, insert_text, intake_columns, meta_columns, rules_columns,
+    select_text, settings_columns, tenures_columns,
+};
 use vault_base::refusal::Table;
 
 /// The query for the row of `meta`, with the number of the newest edition. Where an edition has no number of
@@ -19,11 +25,11 @@ fn meta_listing(edition: Edition) -> &'static str
 /// The query for the departments. Where an edition has no columns for them, no bytes came or went with a
 /// bucket.
 fn departments_listing(edition: Edition) -> &'static str
-    ensures { result.now ≡ departments_listing edition }
+    ensures { result.now ≡ departments_select edition [] }
 {
     match edition {
-        Edition::First | Edition::Second => "SELECT *, 0, 0 FROM departments",
-        Edition::Third => "SELECT * FROM departments",
+        Edition::First | Edition::Second => departments_columns!(earlier_select_text),
+        Edition::Third => departments_columns!(select_text),
     }
 }
 
@@ -36,17 +42,17 @@ fn tenures_listing(edition: Edition) -> &'static str
         Edition::First | Edition::Second => {
             "SELECT e.id, 0, b.dept, e.admitted FROM entries AS e JOIN buckets AS b ON b.name = e.bucket WHERE e.marker = 0"
         }
-        Edition::Third => "SELECT * FROM tenures",
+        Edition::Third => tenures_columns!(select_text),
     }
 }
 
 /// The query for the rules. What an edition has no column for is NULL.
 fn rules_listing(edition: Edition) -> &'static str
-    ensures { result.now ≡ rules_listing edition }
+    ensures { result.now ≡ rules_select edition [] }
 {
     match edition {
-        Edition::First => "SELECT *, NULL, NULL FROM rules",
-        Edition::Second | Edition::Third => "SELECT * FROM rules",
+        Edition::First => rules_columns!(earlier_select_text),
+        Edition::Second | Edition::Third => rules_columns!(select_text),
     }
 }
 
@@ -57,14 +63,14 @@ pub(crate) fn listing(edition: Edition, table: Table) -> &'static str
     match table {
         Table::Meta => meta_listing(edition),
         Table::Departments => departments_listing(edition),
-        Table::Callers => "SELECT * FROM callers",
-        Table::Buckets => "SELECT * FROM buckets",
+        Table::Callers => callers_columns!(select_text),
+        Table::Buckets => buckets_columns!(select_text),
         Table::Rules => rules_listing(edition),
-        Table::Entries => "SELECT * FROM entries",
-        Table::Contents => "SELECT * FROM contents",
-        Table::Settings => "SELECT * FROM settings",
-        Table::Intake => "SELECT * FROM intake",
-        Table::Heads => "SELECT * FROM heads",
+        Table::Entries => entries_columns!(select_text),
+        Table::Contents => contents_columns!(select_text),
+        Table::Settings => settings_columns!(select_text),
+        Table::Intake => intake_columns!(select_text),
+        Table::Heads => heads_columns!(select_text),
         Table::Tenures => tenures_listing(edition),
     }
 }
@@ -74,20 +80,16 @@ pub(crate) fn putting(table: Table) -> &'static str
     ensures { result.now ≡ putting_of table }
 {
     match table {
-        Table::Meta => "INSERT INTO meta VALUES (?1, ?2, ?3, ?4, ?5)",
-        Table::Departments => "INSERT INTO departments VALUES (?1, ?2, ?3, ?4, ?5, ?6, ?7, ?8)",
-        Table::Callers => "INSERT INTO callers VALUES (?1, ?2, ?3, ?4)",
-        Table::Buckets => "INSERT INTO buckets VALUES (?1, ?2, ?3, ?4, ?5)",
-        Table::Rules => {
-            "INSERT INTO rules VALUES (?1, ?2, ?3, ?4, ?5, ?6, ?7, ?8, ?9, ?10, ?11)"
-        }
-        Table::Entries => {
-            "INSERT INTO entries VALUES (?1, ?2, ?3, ?4, ?5, ?6, ?7, ?8, ?9, ?10, ?11, ?12)"
-        }
-        Table::Contents => "INSERT INTO contents VALUES (?1, ?2)",
-        Table::Settings => "INSERT INTO settings VALUES (?1, ?2, ?3, ?4, ?5, ?6, ?7, ?8)",
-        Table::Intake => "INSERT INTO intake VALUES (?1, ?2, ?3, ?4, ?5, ?6, ?7, ?8, ?9, ?10)",
-        Table::Heads => "INSERT INTO heads VALUES (?1, ?2, ?3, ?4)",
-        Table::Tenures => "INSERT INTO tenures VALUES (?1, ?2, ?3, ?4)",
+        Table::Meta => meta_columns!(insert_text),
+        Table::Departments => departments_columns!(insert_text),
+        Table::Callers => callers_columns!(insert_text),
+        Table::Buckets => buckets_columns!(insert_text),
+        Table::Rules => rules_columns!(insert_text),
+        Table::Entries => entries_columns!(insert_text),
+        Table::Contents => contents_columns!(insert_text),
+        Table::Settings => settings_columns!(insert_text),
+        Table::Intake => intake_columns!(insert_text),
+        Table::Heads => heads_columns!(insert_text),
+        Table::Tenures => tenures_columns!(insert_text),
     }
 }

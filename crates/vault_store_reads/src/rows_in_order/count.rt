@@ -20,6 +20,7 @@ use crate::rows_in_order::shown::UNREADABLE;
 use sqlite::{Alter, Connection, Error, Row, params};
 use vault_audit_model::rows::HeadRow;
 use vault_audit_rows::records::read_head;
+use vault_audit_schema::{heads_columns, select_text};
 use vault_base::name::{BucketName, ObjectKey};
 
 /// The head of a row.
@@ -58,7 +59,7 @@ pub fn find_count<S: Alter>(
 {
     let rows = open_rows(
         conn,
-        "SELECT bucket, key, newest, count FROM heads WHERE bucket = ?1 AND key = ?2",
+        heads_columns!(select_text, " WHERE bucket = ?1 AND key = ?2"),
         params![bucket.as_str(), key.as_str()],
     )?;
     let Some(row) = rows.first() else {

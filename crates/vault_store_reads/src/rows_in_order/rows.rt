@@ -25,6 +25,7 @@ ghost use Rattle.vault_store_reads.specs.Wants.{IsAskedWith, WantsMemoryIfErr};
 use crate::query::query_rows;
 use sqlite::types::ValueRef;
 use sqlite::{Alter, Connection, Error, Row, params};
+use vault_audit_schema::{rules_columns, select_text, settings_columns, tenures_columns};
 use vault_base::name::{BucketName, KeyPrefix, ObjectKey, VersionId};
 
 /// All rows of a query over the tables of a vault, which shows that the connection is open.
@@ -70,7 +71,7 @@ pub fn last_tenure_rows<S: Alter>(
 {
     open_rows(
         conn,
-        "SELECT id, n, dept, moment FROM tenures WHERE id = ?1 ORDER BY n DESC LIMIT 1",
+        tenures_columns!(select_text, " WHERE id = ?1 ORDER BY n DESC LIMIT 1"),
         params![id.number()],
     )
 }
@@ -85,7 +86,7 @@ pub fn tenure_rows<S: Alter>(conn: &mut Connection<S>, id: VersionId) -> Result<
 {
     query_rows(
         conn,
-        "SELECT id, n, dept, moment FROM tenures WHERE id = ?1 ORDER BY n",
+        tenures_columns!(select_text, " WHERE id = ?1 ORDER BY n"),
         params![id.number()],
     )
 }
@@ -118,7 +119,7 @@ pub fn rule_rows<S: Alter>(conn: &mut Connection<S>, bucket: &BucketName) -> Res
 {
     query_rows(
         conn,
-        "SELECT bucket, n, id, prefix, enabled, days, lone, nc_days, nc_keep, larger, smaller FROM rules WHERE bucket = ?1 ORDER BY n",
+        rules_columns!(select_text, " WHERE bucket = ?1 ORDER BY n"),
         params![bucket.as_str()],
     )
 }
@@ -193,7 +194,7 @@ pub fn settings_rows<S: Alter>(conn: &mut Connection<S>, id: VersionId) -> Resul
 {
     query_rows(
         conn,
-        "SELECT id, n, moment, caller, mode, until, hold, bypass FROM settings WHERE id = ?1 ORDER BY n",
+        settings_columns!(select_text, " WHERE id = ?1 ORDER BY n"),
         params![id.number()],
     )
 }

@@ -7,10 +7,9 @@ use Rattle.sqlite.specs.Listing.{understood}
 use Rattle.vault_core_model.specs.Vault.{Vault}
 use Rattle.vault_audit_model.specs.Spells.{AreSoundAs}
 use Rattle.vault_audit_records.proofs.DamageLemmas.{refused_if_ok}
-use Rattle.vault_audit_records.specs.DepartmentsWalk.{departments_walk}
 use Rattle.vault_audit_records.specs.ByName.{DecidesDepartments}
 use Rattle.vault_audit_records.proofs.NameDecisionLemmas.{departments_if_ok, no_departments}
-use Rattle.vault_audit_records.proofs.NameTextLemmas.{departments_walk_plain, departments_walk_asks}
+use Rattle.vault_audit_records.proofs.NameTextLemmas.{departments_walk, departments_walk_plain, departments_walk_asks}
 use Rattle.vault_audit_records.proofs.departments.by_name.check_departments_by_name.Goals as goal
 
 pub walk-requires : goal.walk-requires

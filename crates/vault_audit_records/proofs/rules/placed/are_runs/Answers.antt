@@ -5,9 +5,8 @@ use Rattle.vault_audit_walk.specs.Health.{Asks, IsMemory}
 use Rattle.sqlite.specs.Given.{IsPlain}
 use Rattle.sqlite.specs.Listing.{understood}
 use Rattle.vault_audit_records.proofs.RuleDecisionLemmas.{rules_stopped, rules_closed}
-use Rattle.vault_audit_records.proofs.RuleTextLemmas.{rules_walk_plain, rules_walk_asks}
+use Rattle.vault_audit_records.proofs.RuleTextLemmas.{rules_walk, rules_walk_plain, rules_walk_asks}
 use Rattle.vault_audit_records.proofs.rules.placed.are_runs.Goals as goal
-use Rattle.vault_audit_records.specs.RulesWalk.{rules_walk}
 
 pub walk-requires : goal.walk-requires
 walk-requires g c clean = rw c.rules_walk.ensures (subst (λ s. IsPlain (understood s (rules_walk c.args.edition))) (sym (c.requires clean)) (rules_walk_plain c.args.edition))

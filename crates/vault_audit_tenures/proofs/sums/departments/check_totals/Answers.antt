@@ -1,10 +1,10 @@
-use Rattle.std.proofs.Common.{IfOk, refl, sym, subst, arith}
+use Rattle.std.proofs.Common.{[], IfOk, refl, sym, subst, arith}
 use Rattle.sqlite.specs.Held.{state}
 use Rattle.sqlite.specs.State.{HasCleanDisk}
 use Rattle.sqlite.specs.Given.{IsPlain}
 use Rattle.sqlite.specs.Listing.{understood}
 use Rattle.vault_audit_model.specs.Rows.{department_row}
-use Rattle.vault_audit_records.specs.DepartmentsQuery.{departments_query}
+use Rattle.vault_audit_schema.specs.Selects.{departments_select}
 use Rattle.vault_audit_walk.specs.Health.{Asks}
 use Rattle.vault_audit_walk.specs.Records.{AreRecords}
 use Rattle.vault_audit_walk.proofs.RecordLemmas.{records_if_ok}
@@ -13,7 +13,7 @@ use Rattle.vault_audit_tenures.specs.DepartmentSums.{HasTotal}
 use Rattle.vault_audit_tenures.proofs.sums.departments.check_totals.Goals as goal
 
 pub check_rows-requires : goal.check_rows-requires
-check_rows-requires g c clean = rw c.departments_query.ensures (subst (λ s. IsPlain (understood s (departments_query c.args.edition))) (sym (c.requires clean)) (departments_scan c.args.edition).plain)
+check_rows-requires g c clean = rw c.departments_query.ensures (subst (λ s. IsPlain (understood s (departments_select c.args.edition []))) (sym (c.requires clean)) (departments_scan c.args.edition).plain)
 
 pub returns-clause-reported : goal.returns-clause-reported
 returns-clause-reported g c clean =
@@ -22,4 +22,4 @@ returns-clause-reported g c clean =
     (records_if_ok department_row (HasTotal c.args.check.now.totals) (departments_scan c.args.edition) (state g.S.Store c.args.conn.now) (state g.S.Store c.check_rows.new.conn) (c.requires early) (λ trees. refl) (c.check_rows.result) (c.check_rows.ensures.look.same clean) (rw c.departments_query.ensures at (c.check_rows.ensures.checked clean)))
 
 pub returns-clause-err : goal.returns-clause-err
-returns-clause-err g c well = c.check_rows.ensures.err well (λ clean. rw c.departments_query.ensures (subst (λ s. Asks s (departments_query c.args.edition)) (sym (c.requires clean)) (departments_asks c.args.edition)))
+returns-clause-err g c well = c.check_rows.ensures.err well (λ clean. rw c.departments_query.ensures (subst (λ s. Asks s (departments_select c.args.edition [])) (sym (c.requires clean)) (departments_asks c.args.edition)))

@@ -1,0 +1,36 @@
+-- What the query for all rows of buckets shows, and what they have to be.
+use Rattle.std.specs.Prelude.{⊤}
+use Rattle.std.proofs.Common.{◌≡◌, List, [], map, false, refl, arith}
+use Rattle.sqlite_tied.specs.Compute.{everything}
+use Rattle.sqlite.specs.Effect.{Database}
+use Rattle.sqlite.specs.Listing.{understood}
+use Rattle.sqlite.specs.Schema.{Schema}
+use Rattle.vault_base.specs.declared.refusal.Table.TheVariants as table
+use Rattle.vault_core_model.specs.Vault.{Vault}
+use Rattle.vault_audit_model.specs.declared.schema.Edition.{Edition}
+use Rattle.vault_audit_model.specs.Limits.{IsBucketRow}
+use Rattle.vault_audit_model.specs.Rows.{bucket_row, bucket_columns}
+use Rattle.vault_audit_model.specs.Spells.{AreSoundAs}
+use Rattle.vault_audit_model.specs.Tables.{buckets, buckets_tree}
+use Rattle.vault_audit_schema.specs.Places.{BeginTo}
+use Rattle.vault_audit_schema.specs.Texts.{names_of, select_text, terms_of}
+use Rattle.vault_audit_walk.specs.Records.{AreRecords}
+use Rattle.vault_audit_records.proofs.DamageLemmas.{no_buckets}
+use Rattle.vault_audit.specs.Begun.{as_begun}
+use Rattle.vault_audit.specs.ShowsAll.{ShowsAll}
+
+abbrev Shows : Schema → Type 0
+Shows s = ShowsAll s (select_text buckets []) buckets_tree bucket_columns
+
+pub bucket_shows_all : (n : Edition) (s : Schema) → ⊤ → BeginTo n s.tables table.Buckets → Shows s
+unfolding understood everything
+bucket_shows_all n s has begin = as_begun Shows n s table.Buckets begin (record {
+  terms = terms_of buckets;
+  names = names_of buckets;
+  scans = record { command = refl; unlisted = refl; plain = (refl, refl) };
+  asks = record { is = (omega (arith), refl, (refl, refl, refl, refl)); unlisted = refl };
+  alike = λ rows. refl;
+})
+
+pub bucket_unsound : (n : Edition) (db : Database) (v : Vault) → ⊤ → AreRecords bucket_row IsBucketRow (map bucket_columns (db.trees buckets_tree)) false → ¬ AreSoundAs n db v
+bucket_unsound n db v has none = no_buckets n db v none

@@ -1,0 +1,36 @@
+-- What the query for all rows of heads shows, and what they have to be.
+use Rattle.std.specs.Prelude.{⊤}
+use Rattle.std.proofs.Common.{◌≡◌, List, [], map, false, refl, arith}
+use Rattle.sqlite_tied.specs.Compute.{everything}
+use Rattle.sqlite.specs.Effect.{Database}
+use Rattle.sqlite.specs.Listing.{understood}
+use Rattle.sqlite.specs.Schema.{Schema}
+use Rattle.vault_base.specs.declared.refusal.Table.TheVariants as table
+use Rattle.vault_core_model.specs.Vault.{Vault}
+use Rattle.vault_audit_model.specs.declared.schema.Edition.{Edition}
+use Rattle.vault_audit_model.specs.Limits.{IsHeadRow}
+use Rattle.vault_audit_model.specs.Rows.{head_row, head_columns}
+use Rattle.vault_audit_model.specs.Spells.{AreSoundAs}
+use Rattle.vault_audit_model.specs.Tables.{heads, heads_tree}
+use Rattle.vault_audit_schema.specs.Places.{BeginTo}
+use Rattle.vault_audit_schema.specs.Texts.{names_of, select_text, terms_of}
+use Rattle.vault_audit_walk.specs.Records.{AreRecords}
+use Rattle.vault_audit_records.proofs.DamageLemmas.{no_heads}
+use Rattle.vault_audit.specs.Begun.{as_begun}
+use Rattle.vault_audit.specs.ShowsAll.{ShowsAll}
+
+abbrev Shows : Schema → Type 0
+Shows s = ShowsAll s (select_text heads []) heads_tree head_columns
+
+pub head_shows_all : (n : Edition) (s : Schema) → ⊤ → BeginTo n s.tables table.Heads → Shows s
+unfolding understood everything
+head_shows_all n s has begin = as_begun Shows n s table.Heads begin (record {
+  terms = terms_of heads;
+  names = names_of heads;
+  scans = record { command = refl; unlisted = refl; plain = (refl, refl) };
+  asks = record { is = (omega (arith), refl, (refl, refl, refl, refl)); unlisted = refl };
+  alike = λ rows. refl;
+})
+
+pub head_unsound : (n : Edition) (db : Database) (v : Vault) → ⊤ → AreRecords head_row IsHeadRow (map head_columns (db.trees heads_tree)) false → ¬ AreSoundAs n db v
+head_unsound n db v has none = no_heads n db v none

@@ -1,0 +1,73 @@
+//! The first look at `departments`: its rows hold records, with values in their limits.
+ghost use Rattle.std.specs.Prelude.{◌≡◌, false, map, IfOk, IfErr};
+ghost use Rattle.sqlite.specs.State.{HasCleanDisk};
+ghost use Rattle.sqlite.specs.Held.{state};
+ghost use Rattle.vault_base.specs.declared.refusal.Table.TheVariants as table;
+ghost use Rattle.vault_core_model.specs.Vault.{Vault};
+ghost use Rattle.vault_audit_model.specs.Limits.{IsDepartmentRow};
+ghost use Rattle.vault_audit_model.specs.Rows.{department_row, department_columns_as};
+ghost use Rattle.vault_audit_model.specs.Spells.{AreSoundAs};
+ghost use Rattle.vault_audit_model.specs.Tables.{departments_tree};
+ghost use Rattle.vault_audit_schema.specs.Places.{BeginTo};
+ghost use Rattle.vault_audit_walk.specs.Health.{IsHealthy, IsMemory, OnlyLooks};
+ghost use Rattle.vault_audit_walk.specs.Records.{AreRecords};
+
+use crate::first_pass::record::{Record, check_table};
+use sqlite::{Alter, Connection, Error, Row};
+use vault_audit_model::rows::DepartmentRow;
+use vault_audit_model::schema::Edition;
+use vault_audit_records::departments::query::departments_query;
+use vault_audit_rows::misread::Misread;
+use vault_audit_rows::records::read_department;
+
+impl Record for DepartmentRow {
+    ghost use Rattle.std.specs.Prelude.{[], refl, ⊤};
+    ghost use Rattle.vault_base.specs.declared.refusal.Table.TheVariants as table;
+    ghost use Rattle.vault_audit_model.specs.Limits.{IsDepartmentRow};
+    ghost use Rattle.vault_audit_model.specs.Rows.{department_row, department_columns_as};
+    ghost use Rattle.vault_audit_model.specs.Tables.{departments_tree};
+    ghost use Rattle.vault_audit_schema.specs.Selects.{departments_select};
+    ghost use Rattle.vault_audit.specs.DepartmentLaws.{department_shows_all, department_unsound};
+
+    ghost table = { table.Departments };
+
+    ghost tree = { departments_tree };
+
+    ghost has_table = { λ _. ⊤ };
+
+    ghost as_row = { department_row };
+
+    ghost is_in_limits = { IsDepartmentRow };
+
+    ghost columns = { department_columns_as };
+
+    ghost select = { λ n. departments_select n [] };
+
+    fn select(edition: Edition) -> &'static str {
+        departments_query(edition)
+    }
+
+    fn read(row: &Row) -> Result<DepartmentRow, Misread> {
+        read_department(row)
+    }
+
+    ghost shows_all = { department_shows_all };
+
+    ghost bare = { λ trees. refl };
+
+    ghost unsound = { department_unsound };
+}
+
+/// Whether each row of `departments` holds a record in its limits.
+pub fn check_departments<S: Alter>(
+    conn: &mut Connection<S>,
+    edition: Edition,
+) -> Result<bool, Error>
+    requires { HasCleanDisk (state S.Store conn.old) → BeginTo edition (state S.Store conn.old).now.schema.tables table.Departments }
+    ensures reported { HasCleanDisk (state S.Store conn.new) → IfOk result (AreRecords department_row IsDepartmentRow (map (department_columns_as edition) ((state S.Store conn.new).now.trees departments_tree))) }
+    ensures damaged { HasCleanDisk (state S.Store conn.new) → IfOk result (λ stated. stated ≡ false → (v : Vault) → ¬ AreSoundAs edition (state S.Store conn.new).now v) }
+    ensures look { OnlyLooks S.Store conn.old conn.new result }
+    ensures err { IsHealthy (state S.Store conn.new) → IfErr result IsMemory }
+{
+    check_table::<S, DepartmentRow>(conn, edition)
+}
