@@ -385,6 +385,13 @@ class Heads(GatewayTest):
         for it in asked:
             self.assertIn(it.removesuffix(" HTTP/1.1").replace(signature, ".."), log.getvalue())
 
+    def test_the_log_says_who_asked_for_what(self) -> None:
+        self.server.is_quiet = False
+        with contextlib.redirect_stderr(io.StringIO()) as log:
+            self.refused("InvalidRequest", 400, self.ask("PUT", "/docs/a", b"x", {"x-amz-meta-a": "b"}, BEA))
+        self.assertIn(" bea PUT /docs/a 400 InvalidRequest\n", log.getvalue())
+        self.assertNotIn(SECRET, log.getvalue())
+
     def test_a_client_from_which_nothing_comes_is_left(self) -> None:
         with mock.patch.object(server.Handler, "timeout", 0.3):
             for begun in (b"", b"GET /docs HTTP/1.1\r\n", request("PUT", "/docs/a", b"hello")[:-1]):
