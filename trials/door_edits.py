@@ -65,6 +65,8 @@ EDITS = [
     ("intake", "(\"hold\", it.hold))}", ")}", BATCH),
     ("intake", "os.O_NOFOLLOW | ", "", DELIVERED + "test_no_link_is_followed"),
     ("intake", "            causes[it.number] = meaning(error)\n", "", DELIVERED + "test_a_row_that_is_refused_has_its_cause"),
+    ("intake", "(it.file, it.key, it.mode, it.until, it.hold))", "(it.file, it.key, \"\", \"\", it.hold))", BATCH),
+    ("intake", "(it.file, it.key, it.mode, it.until, it.hold))", "(it.file, it.key, it.mode, it.until, \"\"))", BATCH),
     # units
     ("night", "with contextlib.nullcontext() if goes_on else served.standing_still():", "with served.standing_still():",
      NIGHT + "test_the_server_goes_on"),

@@ -4,11 +4,22 @@ from __future__ import annotations
 
 import base64
 import csv
+import hashlib
 import json
 import unittest
 from pathlib import Path
 
 from tests.office import OfficeTest
+from vaultdesk.documents import checked_content
+from vaultdesk.errors import DeskError
+
+
+class Checked(unittest.TestCase):
+    def test_a_content_of_another_digest_is_no_document(self) -> None:
+        found = {"version_id": 7, "hex": b"hello".hex(), "sha256": hashlib.sha256(b"hello").hexdigest()}
+        self.assertEqual(checked_content(found), b"hello")
+        with self.assertRaisesRegex(DeskError, "version 7"):
+            checked_content({**found, "hex": b"other".hex()})
 
 
 class PutAndGet(OfficeTest):
@@ -46,6 +57,11 @@ class PutAndGet(OfficeTest):
         wanted = {"version": 1, "size": 5, "mode": "GOVERNANCE", "until": "2034-01-01T00:00:00Z", "hold": "ON"}
         self.assertEqual({name: found[name] for name in wanted}, wanted)
         self.assertRegex(self.done("info", "docs", "a"), r"(?s)version +2\n.*mode +none\n.*hold +OFF\n")
+
+    def test_an_older_version_is_read_by_its_number(self) -> None:
+        for content in (b"first", b"second"):
+            self.done("put", "docs", "a", self.written("a.txt", content))
+        self.assertEqual([self.done("get", "docs", "a", *it) for it in ((), ("--version", "1"))], ["second", "first"])
 
     def test_a_content_is_json_too(self) -> None:
         content = bytes(range(256))
