@@ -76,7 +76,9 @@ EDITS = [
      PUT + "test_a_plus_in_a_path_is_a_plus"),
     ("request", "_text(bucket), _text(key))", "_text(bucket), __import__(\"posixpath\").normpath(_text(key)))",
      PUT + "test_odd_keys"),
-    ("door", "            raise of_refusal(refusal) from refusal\n", "            return Told({\"version_id\": 1, \"again\": True}, \"\")\n",
+    ("door", "            value = self.engine.ask(do, caller, **members)\n",
+     "            value = {\"version_id\": 1, \"again\": True}\n            with suppress(Refused):\n"
+     "                value = self.engine.ask(do, caller, **members)\n",
      REFUSED + "test_the_engine_decides_who_may_what"),
     ("objects", "        return \"Error\", [*named, (\"Code\", fault.code), (\"Message\", fault.message)]\n",
      "        return \"Deleted\", named\n", LOCKS + "test_governance_and_its_bypass"),
@@ -191,7 +193,7 @@ EDITS = [
      REFUSED + "test_an_unknown_key_and_another_secret"),
     ("server", "re.sub(\"(?<=[?&]X-Amz-Signature=)[^&]*\", \"..\", target)", "target",
      PROGRAMS + "test_it_says_what_isnt_locked_serves_and_ends_by_a_signal"),
-    ("words", "        if not has_default:\n", "        if False:\n",
+    ("words", "        _say_unlocked(unlocked)\n", "",
      PROGRAMS + "test_it_says_what_isnt_locked_serves_and_ends_by_a_signal"),
-    ("words", "    door.open()\n", "", PROGRAMS + "test_a_damaged_vault_keeps_it_from_starting"),
+    ("words", "    buckets = door.open()\n", "    buckets = door.buckets()\n", PROGRAMS + "test_a_damaged_vault_keeps_it_from_starting"),
 ]
