@@ -67,6 +67,11 @@ EDITS = [
     ("intake", "            causes[it.number] = meaning(error)\n", "", DELIVERED + "test_a_row_that_is_refused_has_its_cause"),
     ("intake", "(it.file, it.key, it.mode, it.until, it.hold))", "(it.file, it.key, \"\", \"\", it.hold))", BATCH),
     ("intake", "(it.file, it.key, it.mode, it.until, it.hold))", "(it.file, it.key, it.mode, it.until, \"\"))", BATCH),
+    # who is first to put a key
+    ("documents", "        _look_still_new(engine, words, version)\n", "        pass\n",
+     ASKED + "test_a_new_one_above_a_put_that_came_in_between_is_said"),
+    ("documents", "done = engine.ask(\"intake\", batch=_turn(words.key, number), line=1, **members)",
+     "done = {**engine.ask(\"put\", **members), \"again\": False}", ASKED + "test_of_many_who_put_a_new_one_at_once_one_does"),
     # units
     ("night", "with contextlib.nullcontext() if goes_on else served.standing_still():", "with served.standing_still():",
      NIGHT + "test_the_server_goes_on"),
