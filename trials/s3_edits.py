@@ -82,7 +82,9 @@ EDITS = [
      PUT + "test_a_plus_in_a_path_is_a_plus"),
     ("request", "_text(bucket), _text(key))", "_text(bucket), __import__(\"posixpath\").normpath(_text(key)))",
      PUT + "test_odd_keys"),
-    ("door", "            raise of_refusal(refusal) from refusal\n", "            return Told({\"version_id\": 1, \"again\": True}, \"\")\n",
+    ("door", "            value = self.engine.ask(do, caller, **members)\n",
+     "            value = {\"version_id\": 1, \"again\": True}\n            with suppress(Refused):\n"
+     "                value = self.engine.ask(do, caller, **members)\n",
      REFUSED + "test_the_engine_decides_who_may_what"),
     ("objects", "        return \"Error\", [*named, (\"Code\", fault.code), (\"Message\", fault.message)]\n",
      "        return \"Deleted\", named\n", LOCKS + "test_governance_and_its_bypass"),
@@ -234,7 +236,7 @@ EDITS = [
      HEADS + "test_no_signature_is_in_the_log"),
     ("server", "re.sub(\"(?<=[?&]X-Amz-Signature=)[^& ]*\", \"..\", text)", "text",
      PROGRAMS + "test_it_says_what_isnt_locked_serves_and_ends_by_a_signal"),
-    ("words", "        if not has_default:\n", "        if False:\n",
+    ("words", "        _say_unlocked(unlocked)\n", "",
      PROGRAMS + "test_it_says_what_isnt_locked_serves_and_ends_by_a_signal"),
-    ("words", "    door.open()\n", "", PROGRAMS + "test_a_damaged_vault_keeps_it_from_starting"),
+    ("words", "    buckets = door.open()\n", "    buckets = door.buckets()\n", PROGRAMS + "test_a_damaged_vault_keeps_it_from_starting"),
 ]
