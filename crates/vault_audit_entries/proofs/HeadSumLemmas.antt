@@ -21,7 +21,7 @@ use Rattle.vault_audit_model.specs.Rows.{bit, head_row}
 use Rattle.vault_audit_entries.specs.Heads.{head_cmp, sum_of_counts}
 use Rattle.vault_audit_entries.specs.HeadCounts.{is_under, IsCounted, is_held_entry, held_entry_count}
 use Rattle.vault_audit_entries.proofs.CurrentLemmas.{head_cmp_total}
-use Rattle.vault_audit_entries.proofs.MemberLemmas.{In, at_in, all_of, any_in, tied, one_of}
+use Rattle.vault_audit_entries.proofs.MemberLemmas.{at_in, all_of, any_in, tied, one_of}
 
 -- ---- how many pass a test
 

@@ -1,5 +1,5 @@
 -- What the looks at settings say together.
-use Rattle.std.proofs.Common.{◌≡◌, ℕ, List, [], ◌∷◌, drop, map, flat_map, Bool, true, false, IsPermutation, IsSorted, Result, Ok, Err, OnOk, IfOk, refl, sym, subst, ◌∙◌, ◌+◌, arith}
+use Rattle.std.proofs.Common.{◌≡◌, ℕ, List, [], ◌∷◌, drop, map, flat_map, Bool, true, false, IsPermutation, IsSorted, Result, Ok, Err, OnOk, IfOk, refl, sym, subst, ◌+◌, arith}
 use Rattle.std.specs.List.{AllByRecursion}
 use Rattle.sqlite_trees.proofs.ListLemmas.{map-map}
 use Rattle.sqlite_value.specs.Order.{Row}

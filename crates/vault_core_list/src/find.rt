@@ -1,9 +1,9 @@
 //! Records found by name or id, going over a whole list.
-ghost use Rattle.std.specs.Prelude.{◌≡◌, ◌==◌, ◌&&◌, [], IfOk, find, map, option_map, option_and_then, unwrap_or, filter};
+ghost use Rattle.std.specs.Prelude.{◌≡◌, ◌==◌, ◌&&◌, [], IfOk, find, map, option_map, option_and_then, unwrap_or, filter, take};
 ghost use Rattle.std.specs.List.{list_any};
 ghost use Rattle.std.specs.Option.{option_copied};
 ghost use Rattle.std.specs.Str.{bytes_eq};
-ghost use Rattle.vault_core_model.specs.Places.{is_held_at};
+ghost use Rattle.vault_core_model.specs.Places.{is_behind, is_held_at};
 ghost use Rattle.vault_core_model.specs.Reads.{head_over, held_of, last_setting};
 ghost use Rattle.vault_core_model.specs.Vault.{bucket_in, config_in, last_lock};
 
@@ -230,5 +230,40 @@ pub(crate) fn entries(
         .iter()
         .filter(|history| is_held_at(bucket, key, &history.entry))
         .map(held_of)
+        .collect(alloc)
+}
+
+/// Whether the name comes after that text; every name comes after the empty one.
+fn is_behind(name: &BucketName, after: &str) -> bool
+    ensures { result ≡ is_behind name.now after.now }
+{
+    after.is_empty() || name.as_str() > after
+}
+
+/// The names of these buckets.
+fn names(alloc: Global, buckets: &[Bucket]) -> Result<Vec<BucketName>, AllocError>
+    ensures { IfOk result (λ list. list.items ≡ map (λ b. b.name) buckets.now) }
+{
+    let mut list = Vec::new(alloc);
+    for bucket in buckets {
+        list.push(bucket.name.clone()?)?;
+    }
+    Ok(list)
+}
+
+/// The names of the first buckets after `after`: at most `most`.
+pub(crate) fn bucket_names(
+    alloc: Global,
+    buckets: &[Bucket],
+    after: &str,
+    most: u32,
+) -> Result<Vec<BucketName>, AllocError>
+    ensures { IfOk result (λ names. names.items ≡ take most (filter (λ name. is_behind name after.now) (map (λ b. b.name) buckets.now))) }
+{
+    let names = names(alloc, buckets)?;
+    names
+        .into_iter()
+        .filter(|name| is_behind(name, after))
+        .take(most as usize)
         .collect(alloc)
 }

@@ -7,6 +7,7 @@
 mod bucket;
 mod change;
 mod find;
+mod ids;
 mod keys;
 pub mod list_keeper;
 mod place;

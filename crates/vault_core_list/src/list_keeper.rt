@@ -3,7 +3,7 @@ ghost use Rattle.std.specs.Prelude.{◌≡◌, IfOk};
 ghost use Rattle.vault_core_model.specs.Change.{new_bucket};
 ghost use Rattle.vault_core_model.specs.Vault as vaults;
 
-use crate::{bucket, change, find, keys, place, removed, sums};
+use crate::{bucket, change, find, ids, keys, place, removed, sums};
 use std::alloc::{AllocError, Global};
 use std::marker::Model;
 use vault_base::content::Content;
@@ -182,6 +182,20 @@ impl Keeper for ListKeeper {
         most: u32,
     ) -> Result<Vec<ObjectKey>, Fault> {
         Ok(keys::behind(self.alloc, &self.histories, bucket, after, most)?)
+    }
+
+    fn ids(
+        &mut self,
+        bucket: &BucketName,
+        key: &ObjectKey,
+        than: Option<VersionId>,
+        most: u32,
+    ) -> Result<Vec<VersionId>, Fault> {
+        Ok(ids::older(self.alloc, &self.histories, bucket, key, than, most)?)
+    }
+
+    fn buckets(&mut self, after: &str, most: u32) -> Result<Vec<BucketName>, Fault> {
+        Ok(find::bucket_names(self.alloc, &self.buckets, after, most)?)
     }
 
     fn note(

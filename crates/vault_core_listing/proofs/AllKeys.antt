@@ -26,7 +26,7 @@ use Rattle.vault_core_model.specs.Sound.{Sound}
 use Rattle.vault_core_model.specs.Vault.{Vault}
 use Rattle.vault_core_listing.specs.Walk.{has_prefix, is_past, EndsOrAdvances, asked_at, asked_first, beginning, completed, filled, has_first, is_prefix_later, keys_behind, page_of}
 use Rattle.vault_core_listing.proofs.Keys.{IsOver, greater, over_behind, IsRising, among-set, behind_page, cmp, is_among, rising_set, split_at}
-use Rattle.vault_core_listing.proofs.KeyWalk.{nothing_asked, without_prefix}
+use Rattle.vault_core_listing.proofs.KeyWalk.{filter_few, nothing_asked, without_prefix}
 use Rattle.vault_core_listing.proofs.Prefixes.{before, past}
 use Rattle.vault_core_listing.proofs.Pages.{cut_off, filled-append, from_empty}
 
@@ -159,12 +159,6 @@ with_few k (x ∷ xs) =
 set_few : (ks : List (List ℕ)) → length (key_set ks) ≤ length ks
 set_few [] = omega arith
 set_few (k ∷ ks) = omega (arith, with_few k (key_set ks), set_few ks)
-
-filter_few : {X : Type 0} (p : X → Bool) (xs : List X) → length (filter p xs) ≤ length xs
-filter_few p [] = omega arith
-filter_few p (x ∷ xs) =
-    elim (p x) as (λ b. length (if b then x ∷ filter p xs else filter p xs) ≤ length (x ∷ xs))
-    [ true ↦ omega (arith, filter_few p xs) | false ↦ omega (arith, filter_few p xs) ]
 
 -- there are no more keys than ids
 pub few_keys : (v : Vault) (bucket after : List ℕ) → Sound v → length (keys_behind v bucket after) ≤ 1000000000

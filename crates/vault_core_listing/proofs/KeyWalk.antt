@@ -1,113 +1,226 @@
 -- A key gone through, newest first.
-use Rattle.std.proofs.Common.{◌≡◌, ℕ, ◌+◌, ◌<◌, ◌≤◌, ◌++◌, Bool, true, false, List, [], ◌∷◌, length, map, drop, get_or, Some, refl, sym, ap, subst, ◌∙◌, add-one, drop-cons}
-use Rattle.std.specs.Prelude.{filter, if◌then◌else◌, reverse}
-use Rattle.std.proofs.lemmas.List.{map-append, reverse-append}
+use Rattle.std.proofs.Common.{◌≡◌, ◌⊎◌, inl, inr, ℕ, ◌+◌, ◌-◌, ◌<◌, ◌≤◌, ◌++◌, ◌&&◌, ◌||◌, Bool, true, false, List, [], ◌∷◌, length, map, drop, take, get_or, suc, zero, Option, None, Some, refl, sym, ap, subst, ◌∙◌, arith, add-one, drop-cons}
+use Rattle.std.specs.Prelude.{filter, if◌then◌else◌, is_some, min, nat_le, reverse, slice_get}
+use Rattle.std.specs.List.{AllByRecursion, take-map}
+use Rattle.std.specs.Str.{bytes_eq}
+use Rattle.std.proofs.lemmas.Bool.Decides.{nat_tests}
+use Rattle.std.proofs.lemmas.List.{length-map, length-reverse, map-append, reverse-append}
 use Rattle.std.proofs.Math.ListN.{drop_of_length-le}
-use Rattle.vault_rules.specs.declared.plan.Held.{Held}
 use Rattle.vault_core_model.specs.declared.command.ListVersions.{ListVersions}
 use Rattle.vault_core_model.specs.declared.records.Entry.{Entry}
 use Rattle.vault_core_model.specs.declared.records.History.{History}
-use Rattle.vault_core_model.specs.declared.reply.Listed.{Listed}
 use Rattle.vault_core_model.specs.declared.reply.Page.{Page}
-use Rattle.vault_core_model.specs.ListingOutcome.{is_asked_for}
+use Rattle.vault_core_model.specs.ListingOutcome.{is_asked_for, is_below}
 use Rattle.vault_core_model.specs.ListingOutcome as outcome
-use Rattle.vault_core_model.specs.Places.{held_at}
-use Rattle.vault_core_model.specs.Reads.{entries_of, entry_of, held_of}
+use Rattle.vault_core_model.specs.Places.{held_at, is_behind, is_held_at}
+use Rattle.vault_core_model.specs.Reads.{entry_of, ids_before, is_older}
 use Rattle.vault_core_model.specs.Sound.{Sound}
 use Rattle.vault_core_model.specs.Vault.{Vault}
-use Rattle.vault_core_listing.specs.Walk.{asked_at, filled, grown, has_prefix, is_asked}
-use Rattle.vault_core_listing.proofs.Newer.{AreListed, newest_first}
+use Rattle.vault_core_laws.proofs.Lists.{All-filter}
+use Rattle.vault_core_listing.specs.Walk.{asked_at, filled, grown, has_prefix, ids_read, is_key_asked, newest_id, older_than}
+use Rattle.vault_core_listing.proofs.Newer.{IsListed, is_that, newest_first}
+use Rattle.vault_core_listing.proofs.Pages.{filled_take}
 
--- those of these that are asked for
-abbrev pub asked_of : Vault → ListVersions → List History → List Listed
-asked_of v c hs = map (outcome.listed v) (filter (λ h. is_asked_for c h.entry) hs)
+abbrev id_of : History → ℕ
+id_of h = h.entry.id
 
--- what is left of a key: these entries, with which the page becomes the last one
-pub record IsLeft (v : Vault) (c : ListVersions) (key : List ℕ) (current : Bool) (page last : Page) (left : List Held) : Type 0 where
-  pub rest : List History
-  pub items : left ≡ map held_of rest
-  pub listed : AreListed v key current rest
-  pub fills : filled c.most page (asked_of v c rest) ≡ last
+-- the entry of that key and that id is asked for
+abbrev pub is_asked : ListVersions → List ℕ → ℕ → Bool
+is_asked c key id =
+    has_prefix c key && (is_behind key c.after_key || (bytes_eq key c.after_key && is_below c.after_id id))
 
-map-reverse : (hs : List History) → reverse (map held_of hs) ≡ map held_of (reverse hs)
+-- ---- the entries that are read
+
+-- of a key of which something may be asked for, the older ones are
+older_asked : (p b e : Bool) (o : Option ℕ) (id : ℕ) → (p && (b || (e && is_some o))) ≡ true → (p && (b || (e && is_below o id))) ≡ is_older (if b then None else o) id
+older_asked true true e o id asked = refl
+older_asked true false true (Some after) id asked = refl
+older_asked true false true None id asked = absurd (cc asked)
+older_asked true false false o id asked = absurd (cc asked)
+older_asked false b e o id asked = absurd (cc asked)
+
+asked_are_older : (v : Vault) (c : ListVersions) (key : List ℕ) (newest : Option ℕ) (hs : List History) → is_key_asked c key ≡ true → AllByRecursion (IsListed v key newest) hs
+    → filter (λ h. is_asked_for c h.entry) hs ≡ filter (λ h. is_older (older_than c key) h.entry.id) hs
+asked_are_older v c key newest [] asked are = refl
+asked_are_older v c key newest (h ∷ hs) asked are =
+    let P : List ℕ → Type 0 = λ k. is_asked c k h.entry.id ≡ is_older (older_than c key) h.entry.id in
+    let same : is_asked_for c h.entry ≡ is_older (older_than c key) h.entry.id = subst P (sym are.0.keyed) (older_asked (has_prefix c key) (is_behind key c.after_key) (bytes_eq key c.after_key) c.after_id h.entry.id asked) in
+    ap (λ b. if b then h ∷ filter (λ g. is_asked_for c g.entry) hs else filter (λ g. is_asked_for c g.entry) hs) same
+    ∙ ap (λ (l : List History). if is_older (older_than c key) h.entry.id then h ∷ l else l) (asked_are_older v c key newest hs asked are.1)
+
+map-reverse : (hs : List History) → reverse (map id_of hs) ≡ map id_of (reverse hs)
 map-reverse [] = refl
 map-reverse (h ∷ hs) =
-    reverse-append (held_of h ∷ []) (map held_of hs)
-    ∙ ap (λ (l : List Held). l ++ held_of h ∷ []) (map-reverse hs)
-    ∙ sym (map-append held_of (reverse hs) (h ∷ []))
-    ∙ ap (map held_of) (sym (reverse-append (h ∷ []) hs))
+    reverse-append (id_of h ∷ []) (map id_of hs)
+    ∙ ap (λ (l : List ℕ). l ++ id_of h ∷ []) (map-reverse hs)
+    ∙ sym (map-append id_of (reverse hs) (h ∷ []))
+    ∙ ap (map id_of) (sym (reverse-append (h ∷ []) hs))
 
-pub all_left : (v : Vault) (c : ListVersions) (key : List ℕ) (page : Page) (entries items : List Held)
-    → Sound v → entries ≡ entries_of v c.bucket key → items ≡ reverse entries
-    → IsLeft v c key true page (filled c.most page (asked_at v c key)) items
-all_left v c key page entries items sound read reversed = record {
-  rest = reverse (held_at v c.bucket key);
-  items = reversed ∙ ap (λ (l : List Held). reverse l) read ∙ map-reverse (held_at v c.bucket key);
-  listed = newest_first v c.bucket key sound;
-  fills = refl;
-}
-
-entry_fills : (v : Vault) (c : ListVersions) (page : Page) (h : History) (hs : List History)
-    → filled c.most (if is_asked_for c h.entry then grown c.most page (outcome.listed v h) else page) (asked_of v c hs) ≡ filled c.most page (asked_of v c (h ∷ hs))
-entry_fills v c page h hs =
-    elim (is_asked_for c h.entry) as (λ b. filled c.most (if b then grown c.most page (outcome.listed v h) else page) (asked_of v c hs) ≡ filled c.most page (map (outcome.listed v) (if b then h ∷ filter (λ g. is_asked_for c g.entry) hs else filter (λ g. is_asked_for c g.entry) hs)))
+filter-ids : (p : ℕ → Bool) (hs : List History) → filter p (map id_of hs) ≡ map id_of (filter (λ h. p h.entry.id) hs)
+filter-ids p [] = refl
+filter-ids p (h ∷ hs) =
+    ap (λ (l : List ℕ). if p h.entry.id then h.entry.id ∷ l else l) (filter-ids p hs)
+    ∙ elim (p h.entry.id) as (λ b. (if b then h.entry.id ∷ map id_of (filter (λ g. p g.entry.id) hs) else map id_of (filter (λ g. p g.entry.id) hs)) ≡ map id_of (if b then h ∷ filter (λ g. p g.entry.id) hs else filter (λ g. p g.entry.id) hs))
     [ true ↦ refl | false ↦ refl ]
 
--- the next entry listed, where it is asked for
-pub one_listed : (v mid : Vault) (c : ListVersions) (key : List ℕ) (current : Bool) (page page' last : Page) (item : Held) (more : List Held)
-    → mid ≡ v
-    → ((entry : Entry) → entry_of mid item.id ≡ Some entry → page' ≡ (if is_asked c key item.id then grown c.most page (record { entry = entry; current = current }) else page))
-    → IsLeft v c key current page last (item ∷ more)
-    → IsLeft v c key false page' last more
-one_listed v mid c key current page page' last item more same grows left = by_rest left.rest left.items left.listed left.fills
+pub filter_few : {X : Type 0} (p : X → Bool) (xs : List X) → length (filter p xs) ≤ length xs
+filter_few p [] = omega arith
+filter_few p (x ∷ xs) =
+    elim (p x) as (λ b. length (if b then x ∷ filter p xs else filter p xs) ≤ length (x ∷ xs))
+    [ true ↦ omega (arith, filter_few p xs) | false ↦ omega (arith, filter_few p xs) ]
+
+-- the older entries of a key, newest first
+abbrev older_at : Vault → List ℕ → List ℕ → Option ℕ → List History
+older_at v bucket key than = filter (λ h. is_older than h.entry.id) (reverse (held_at v bucket key))
+
+ids_are : (v : Vault) (bucket key : List ℕ) (than : Option ℕ) (n : ℕ) → ids_before v bucket key than n ≡ map id_of (take n (older_at v bucket key than))
+ids_are v bucket key than n =
+    ap (λ (l : List ℕ). take n (filter (is_older than) l)) (map-reverse (held_at v bucket key))
+    ∙ ap (take n) (filter-ids (is_older than) (reverse (held_at v bucket key)))
+    ∙ take-map id_of n (older_at v bucket key than)
+
+-- there are no more of them than ids
+few_older : (v : Vault) (bucket key : List ℕ) (than : Option ℕ) → Sound v → length (older_at v bucket key than) ≤ 1000000000
+few_older v bucket key than sound =
+    omega (arith, filter_few (λ h. is_older than h.entry.id) (reverse (held_at v bucket key)), length-reverse (held_at v bucket key), filter_few (λ h. is_held_at bucket key h.entry) v.histories, sound.enough_ids)
+
+-- ---- the page as it fills
+
+-- what is left of a key: these entries, with which the page becomes the last one
+pub record IsLeft (v : Vault) (c : ListVersions) (key : List ℕ) (newest : Option ℕ) (page last : Page) (left : List ℕ) : Type 0 where
+  pub rest : List History
+  pub ids : left ≡ map id_of rest
+  pub listed : AllByRecursion (IsListed v key newest) rest
+  pub fills : filled c.most page (map (outcome.listed v) rest) ≡ last
+
+All-take : (P : History → Type 0) (n : ℕ) (hs : List History) → AllByRecursion P hs → AllByRecursion P (take n hs)
+All-take P zero hs all = tt
+All-take P (suc n) [] all = tt
+All-take P (suc n) (h ∷ hs) all = (all.0, All-take P n hs all.1)
+
+pub all_left : (v : Vault) (c : ListVersions) (key : List ℕ) (page : Page) (than : Option ℕ) (n : ℕ) (ids : List ℕ)
+    → Sound v → is_key_asked c key ≡ true → than ≡ older_than c key → n ≡ ids_read c page → ids ≡ ids_before v c.bucket key than n
+    → IsLeft v c key (newest_id v c.bucket key) page (filled c.most page (asked_at v c key)) ids
+all_left v c key page than n ids sound asked older many read =
+    let all : List History = older_at v c.bucket key (older_than c key) in
+    let are : AllByRecursion (IsListed v key (newest_id v c.bucket key)) (reverse (held_at v c.bucket key)) = newest_first v c.bucket key sound in
+    let whole : take (ids_read c page) (map (outcome.listed v) all) ≡ map (outcome.listed v) (take (ids_read c page) all) = take-map (outcome.listed v) (ids_read c page) all in
+    record {
+      rest = take (ids_read c page) all;
+      ids = read ∙ ap (λ o. ids_before v c.bucket key o n) older ∙ ap (ids_before v c.bucket key (older_than c key)) many ∙ ids_are v c.bucket key (older_than c key) (ids_read c page);
+      listed = All-take (IsListed v key (newest_id v c.bucket key)) (ids_read c page) all (All-filter (IsListed v key (newest_id v c.bucket key)) (λ h. is_older (older_than c key) h.entry.id) (reverse (held_at v c.bucket key)) are);
+      fills = ap (filled c.most page) (sym whole)
+          ∙ filled_take c.most (ids_read c page) page (map (outcome.listed v) all) (enough (c.most - length page.entries) (length (map (outcome.listed v) all)) (omega (arith, length-map all (outcome.listed v), few_older v c.bucket key (older_than c key) sound)))
+          ∙ ap (λ (l : List History). filled c.most page (map (outcome.listed v) l)) (sym (asked_are_older v c key (newest_id v c.bucket key) (reverse (held_at v c.bucket key)) asked are));
+    }
   where
-    by_rest : (rest : List History) → item ∷ more ≡ map held_of rest → AreListed v key current rest → filled c.most page (asked_of v c rest) ≡ last → IsLeft v c key false page' last more
-    by_rest [] items are fills = absurd (cc items)
-    by_rest (h ∷ hs) items are fills =
-        let id : item.id ≡ h.entry.id = cc items in
-        let found : entry_of mid item.id ≡ Some h.entry = rw (same, id) are.1 in
-        let shown : page' ≡ (if is_asked c key item.id then grown c.most page (record { entry = h.entry; current = current }) else page) = grows h.entry found in
-        let K : List ℕ → Type 0 = λ k. page' ≡ (if is_asked c k item.id then grown c.most page (record { entry = h.entry; current = current }) else page) in
-        let I : ℕ → Type 0 = λ i. page' ≡ (if is_asked c h.entry.key i then grown c.most page (record { entry = h.entry; current = current }) else page) in
-        let C : Bool → Type 0 = λ b. page' ≡ (if is_asked c h.entry.key h.entry.id then grown c.most page (record { entry = h.entry; current = b }) else page) in
-        let next : page' ≡ (if is_asked_for c h.entry then grown c.most page (outcome.listed v h) else page) = subst C (sym are.0) (subst I id (subst K (sym are.2) shown)) in
+    enough : (room size : ℕ) → size ≤ 1000000000 → (room < min room 1000000000 + 1) ⊎ (size ≤ min room 1000000000 + 1)
+    enough room size few = by_test (nat_le room 1000000000) refl
+      where
+        by_test : (b : Bool) → nat_le room 1000000000 ≡ b → (room < min room 1000000000 + 1) ⊎ (size ≤ min room 1000000000 + 1)
+        by_test true e = let le : room ≤ 1000000000 = grind (arith, nat_tests) in inl (omega arith)
+        by_test false e = let lt : 1000000000 < room = grind (arith, nat_tests) in inr (omega arith)
+
+-- where each is asked for, the first of them is the newest
+pub first_newest : (v : Vault) (c : ListVersions) (key : List ℕ) (page : Page) (than : Option ℕ) (n : ℕ) (ids : List ℕ) (first : ℕ)
+    → n ≡ ids_read c page → ids ≡ ids_before v c.bucket key than n → Some first ≡ slice_get ids 0
+    → than ≡ None → newest_id v c.bucket key ≡ Some first
+first_newest v c key page than n ids first many read at none =
+    by_all (filter (is_older None) (reverse (map id_of (held_at v c.bucket key)))) (min (c.most - length page.entries) 1000000000) (at ∙ ap (λ (l : List ℕ). slice_get l 0) (read ∙ ap (λ o. ids_before v c.bucket key o n) none ∙ ap (ids_before v c.bucket key None) many))
+  where
+    by_all : (all : List ℕ) (m : ℕ) → Some first ≡ slice_get (take (m + 1) all) 0 → slice_get (take 1 all) 0 ≡ Some first
+    by_all [] m is = sym (rw add-one at is)
+    by_all (x ∷ xs) m is = sym (rw add-one at is)
+
+-- the ids that were read, before the first is listed
+pub begun : (v mid : Vault) (c : ListVersions) (key : List ℕ) (page : Page) (than : Option ℕ) (n : ℕ) (ids items : List ℕ) (first : ℕ) (newest : Option ℕ)
+    → Sound v → is_key_asked c key ≡ true → than ≡ older_than c key → n ≡ ids_read c page → ids ≡ ids_before v c.bucket key than n
+    → mid ≡ v → items ≡ ids → Some first ≡ slice_get ids 0
+    → ((older_than c key ≡ None → newest_id mid c.bucket key ≡ Some first) → newest ≡ newest_id mid c.bucket key)
+    → IsLeft v c key newest page (filled c.most page (asked_at v c key)) items
+begun v mid c key page than n ids items first newest sound asked older many read same are at finds =
+    let last : Page = filled c.most page (asked_at v c key) in
+    let id_same : newest_id mid c.bucket key ≡ newest_id v c.bucket key = ap (λ w. newest_id w c.bucket key) same in
+    let found : newest ≡ newest_id v c.bucket key = finds (λ none. id_same ∙ first_newest v c key page than n ids first many read at (older ∙ none)) ∙ id_same in
+    subst (λ o. IsLeft v c key o page last items) (sym found)
+    (subst (IsLeft v c key (newest_id v c.bucket key) page last) (sym are) (all_left v c key page than n ids sound asked older many read))
+
+-- the next entry listed
+one_listed : (v mid : Vault) (c : ListVersions) (key : List ℕ) (newest : Option ℕ) (page page' last : Page) (id : ℕ) (more : List ℕ)
+    → mid ≡ v
+    → ((entry : Entry) → entry_of mid id ≡ Some entry → page' ≡ grown c.most page (record { entry = entry; current = is_that newest id }))
+    → IsLeft v c key newest page last (id ∷ more)
+    → IsLeft v c key newest page' last more
+one_listed v mid c key newest page page' last id more same grows left = by_rest left.rest left.ids left.listed left.fills
+  where
+    by_rest : (rest : List History) → id ∷ more ≡ map id_of rest → AllByRecursion (IsListed v key newest) rest → filled c.most page (map (outcome.listed v) rest) ≡ last → IsLeft v c key newest page' last more
+    by_rest [] ids are fills = absurd (cc ids)
+    by_rest (h ∷ hs) ids are fills =
+        let id_is : id ≡ h.entry.id = cc ids in
+        let found : entry_of mid id ≡ Some h.entry = rw (same, id_is) are.0.found in
+        let I : ℕ → Type 0 = λ i. page' ≡ grown c.most page (record { entry = h.entry; current = is_that newest i }) in
+        let C : Bool → Type 0 = λ b. page' ≡ grown c.most page (record { entry = h.entry; current = b }) in
+        let next : page' ≡ grown c.most page (outcome.listed v h) = subst C (sym are.0.is) (subst I id_is (grows h.entry found)) in
         record {
           rest = hs;
-          items = cc items;
-          listed = are.3;
-          fills = ap (λ (p : Page). filled c.most p (asked_of v c hs)) next ∙ entry_fills v c page h hs ∙ fills;
+          ids = cc ids;
+          listed = are.1;
+          fills = ap (λ (p : Page). filled c.most p (map (outcome.listed v) hs)) next ∙ fills;
         }
 
 -- the same, of a list gone through by its places
-pub item_listed : (v mid : Vault) (c : ListVersions) (key : List ℕ) (current : Bool) (page page' last : Page) (items : List Held) (i : ℕ) (item : Held)
-    → mid ≡ v → i < length items → item ≡ get_or items i item
-    → ((entry : Entry) → entry_of mid item.id ≡ Some entry → page' ≡ (if is_asked c key item.id then grown c.most page (record { entry = entry; current = current }) else page))
-    → IsLeft v c key current page last (drop i items)
-    → IsLeft v c key false page' last (drop (i + 1) items)
-item_listed v mid c key current page page' last items i item same lt is grows left =
-    let parts : drop i items ≡ item ∷ drop (i + 1) items = rw (add-one, drop-cons items i item lt, ← is) refl in
-    one_listed v mid c key current page page' last item (drop (i + 1) items) same grows (subst (IsLeft v c key current page last) parts left)
+pub id_listed : (v mid : Vault) (c : ListVersions) (key : List ℕ) (newest : Option ℕ) (page page' last : Page) (ids : List ℕ) (i : ℕ) (id : ℕ)
+    → mid ≡ v → i < length ids → id ≡ get_or ids i id
+    → ((entry : Entry) → entry_of mid id ≡ Some entry → page' ≡ grown c.most page (record { entry = entry; current = is_that newest id }))
+    → IsLeft v c key newest page last (drop i ids)
+    → IsLeft v c key newest page' last (drop (i + 1) ids)
+id_listed v mid c key newest page page' last ids i id same lt is grows left =
+    let parts : drop i ids ≡ id ∷ drop (i + 1) ids = rw (add-one, drop-cons ids i id lt, ← is) refl in
+    one_listed v mid c key newest page page' last id (drop (i + 1) ids) same grows (subst (IsLeft v c key newest page last) parts left)
 
-pub none_left : (v : Vault) (c : ListVersions) (key : List ℕ) (current : Bool) (page last : Page) (items : List Held) (i : ℕ)
-    → length items ≤ i → IsLeft v c key current page last (drop i items) → page ≡ last
-none_left v c key current page last items i all left = by_rest left.rest (sym (drop_of_length-le items all) ∙ left.items) left.fills
+pub none_left : (v : Vault) (c : ListVersions) (key : List ℕ) (newest : Option ℕ) (page last : Page) (ids : List ℕ) (i : ℕ)
+    → length ids ≤ i → IsLeft v c key newest page last (drop i ids) → page ≡ last
+none_left v c key newest page last ids i all left = by_rest left.rest (sym (drop_of_length-le ids all) ∙ left.ids) left.fills
   where
-    by_rest : (rest : List History) → [] ≡ map held_of rest → filled c.most page (asked_of v c rest) ≡ last → page ≡ last
-    by_rest [] items fills = fills
-    by_rest (h ∷ hs) items fills = absurd (cc items)
+    by_rest : (rest : List History) → [] ≡ map id_of rest → filled c.most page (map (outcome.listed v) rest) ≡ last → page ≡ last
+    by_rest [] ids fills = fills
+    by_rest (h ∷ hs) ids fills = absurd (cc ids)
+
+-- no id was read
+pub none_read : (v : Vault) (c : ListVersions) (key : List ℕ) (page : Page) (than : Option ℕ) (n : ℕ) (ids : List ℕ)
+    → Sound v → is_key_asked c key ≡ true → than ≡ older_than c key → n ≡ ids_read c page → ids ≡ ids_before v c.bucket key than n
+    → None ≡ slice_get ids 0
+    → page ≡ filled c.most page (asked_at v c key)
+none_read v c key page than n ids sound asked older many read none =
+    none_left v c key (newest_id v c.bucket key) page (filled c.most page (asked_at v c key)) ids 0 (empty ids none) (all_left v c key page than n ids sound asked older many read)
+  where
+    empty : (ids : List ℕ) → None ≡ slice_get ids 0 → length ids ≤ 0
+    empty [] none = omega arith
+    empty (x ∷ xs) none = absurd (cc none)
 
 -- ---- keys of which nothing is asked for
 
-none_asked : (v : Vault) (c : ListVersions) (key : List ℕ) (current : Bool) (hs : List History) → ((id : ℕ) → is_asked c key id ≡ false) → AreListed v key current hs → asked_of v c hs ≡ []
-none_asked v c key current [] never are = refl
-none_asked v c key current (h ∷ hs) never are =
+none_asked : (v : Vault) (c : ListVersions) (key : List ℕ) (newest : Option ℕ) (hs : List History) → ((id : ℕ) → is_asked c key id ≡ false) → AllByRecursion (IsListed v key newest) hs → map (outcome.listed v) (filter (λ h. is_asked_for c h.entry) hs) ≡ []
+none_asked v c key newest [] never are = refl
+none_asked v c key newest (h ∷ hs) never are =
     let P : List ℕ → Type 0 = λ k. is_asked c k h.entry.id ≡ false in
-    let lacks : is_asked_for c h.entry ≡ false = subst P (sym are.2) (never h.entry.id) in
+    let lacks : is_asked_for c h.entry ≡ false = subst P (sym are.0.keyed) (never h.entry.id) in
     ap (λ b. map (outcome.listed v) (if b then h ∷ filter (λ g. is_asked_for c g.entry) hs else filter (λ g. is_asked_for c g.entry) hs)) lacks
-    ∙ none_asked v c key false hs never are.3
+    ∙ none_asked v c key newest hs never are.1
 
 pub nothing_asked : (v : Vault) (c : ListVersions) (key : List ℕ) → Sound v → ((id : ℕ) → is_asked c key id ≡ false) → asked_at v c key ≡ []
-nothing_asked v c key sound never = none_asked v c key true (reverse (held_at v c.bucket key)) never (newest_first v c.bucket key sound)
+nothing_asked v c key sound never = none_asked v c key (newest_id v c.bucket key) (reverse (held_at v c.bucket key)) never (newest_first v c.bucket key sound)
 
 pub without_prefix : (v : Vault) (c : ListVersions) (key : List ℕ) → Sound v → has_prefix c key ≡ false → asked_at v c key ≡ []
 without_prefix v c key sound other = nothing_asked v c key sound (λ id. rw other refl)
+
+never_asked : (p b e : Bool) (o : Option ℕ) (id : ℕ) → (p && (b || (e && is_some o))) ≡ false → (p && (b || (e && is_below o id))) ≡ false
+never_asked true true e o id other = absurd (cc other)
+never_asked true false true (Some after) id other = absurd (cc other)
+never_asked true false true None id other = refl
+never_asked true false false o id other = refl
+never_asked false b e o id other = refl
+
+pub key_not_asked : (v : Vault) (c : ListVersions) (key : List ℕ) → Sound v → is_key_asked c key ≡ false → asked_at v c key ≡ []
+key_not_asked v c key sound other =
+    nothing_asked v c key sound (λ id. never_asked (has_prefix c key) (is_behind key c.after_key) (bytes_eq key c.after_key) c.after_id id other)

@@ -1,5 +1,5 @@
 -- How a page fills.
-use Rattle.std.proofs.Common.{◌≡◌, ℕ, ◌<◌, ◌≤◌, ◌++◌, Bool, true, false, List, [], ◌∷◌, length, take, refl, ap, subst, ◌∙◌, arith, append_assoc, length-append}
+use Rattle.std.proofs.Common.{◌≡◌, ◌⊎◌, inl, inr, ℕ, ◌-◌, ◌<◌, ◌≤◌, ◌++◌, Bool, true, false, List, [], ◌∷◌, length, take, suc, zero, refl, sym, ap, subst, ◌∙◌, arith, append_assoc, length-append}
 use Rattle.std.specs.Prelude.{if◌then◌else◌, nat_lt}
 use Rattle.std.proofs.lemmas.Bool.Decides.{nat_tests}
 use Rattle.std.proofs.lemmas.List.{append-nil, take_all}
@@ -56,3 +56,36 @@ from_part most ys (x ∷ xs) le = by_room (nat_lt (length ys) most) refl (from_p
 
 pub from_empty : (most : ℕ) (xs : List Listed) → filled most (record { entries = []; more = false }) xs ≡ cut_off most xs
 from_empty most xs = from_part most [] xs (omega arith)
+
+-- the first of these fill it as all do, where there are more of them than it takes, or all
+pub filled_take : (most n : ℕ) (page : Page) (ls : List Listed) → ((most - length page.entries < n) ⊎ (length ls ≤ n)) → filled most page (take n ls) ≡ filled most page ls
+filled_take most zero page [] enough = refl
+filled_take most zero page (l ∷ ls) (inl room) = absurd (omega (arith, room))
+filled_take most zero page (l ∷ ls) (inr all) = absurd (omega (arith, all))
+filled_take most (suc n) page [] enough = refl
+filled_take most (suc n) page (l ∷ ls) enough = by_more page.more refl (filled_take most n (record { entries = page.entries ++ l ∷ []; more = false }) ls)
+  where
+    full : (p : Page) → p.more ≡ true → filled most p (take n ls) ≡ filled most p ls
+    full p more = filled_full most p (take n ls) more ∙ sym (filled_full most p ls more)
+
+    grows : Page
+    grows = record { entries = page.entries ++ l ∷ []; more = false }
+
+    stays : Page
+    stays = record { entries = page.entries; more = true }
+
+    fewer : nat_lt (length page.entries) most ≡ true → ((most - length page.entries < suc n) ⊎ (length (l ∷ ls) ≤ suc n)) → ((most - length (page.entries ++ l ∷ []) < n) ⊎ (length ls ≤ n))
+    fewer room (inl less) = inl (omega (arith, less, lt_from (length page.entries) most room, length-append page.entries (l ∷ [])))
+    fewer room (inr all) = inr (omega (arith, all))
+
+    by_room : (b : Bool) → nat_lt (length page.entries) most ≡ b
+        → (((most - length (page.entries ++ l ∷ []) < n) ⊎ (length ls ≤ n)) → filled most grows (take n ls) ≡ filled most grows ls)
+        → filled most (if b then grows else stays) (take n ls) ≡ filled most (if b then grows else stays) ls
+    by_room true e rest = rest (fewer e enough)
+    by_room false e rest = full stays refl
+
+    by_more : (b : Bool) → page.more ≡ b
+        → (((most - length (page.entries ++ l ∷ []) < n) ⊎ (length ls ≤ n)) → filled most grows (take n ls) ≡ filled most grows ls)
+        → filled most (grown most page l) (take n ls) ≡ filled most (grown most page l) ls
+    by_more true e rest = rw (grown_full most page l e) (full page e)
+    by_more false e rest = rw e (by_room (nat_lt (length page.entries) most) refl rest)

@@ -1,5 +1,5 @@
 -- A listing's page as it fills, key by key.
-use Rattle.std.specs.Prelude.{◌≡◌, ◌==◌, ℕ, ◌+◌, ◌≤◌, Bool, true, false, ◌&&◌, ◌||◌, not, nat_lt, nat_eq, List, [], ◌∷◌, ◌++◌, length, map, filter, flat_map, take, reverse, Option, Some, None, is_some, if◌then◌else◌}
+use Rattle.std.specs.Prelude.{◌≡◌, ◌==◌, ℕ, ◌+◌, ◌-◌, ◌≤◌, Bool, true, false, ◌&&◌, ◌||◌, not, nat_lt, nat_eq, min, List, [], ◌∷◌, ◌++◌, length, map, filter, flat_map, take, reverse, slice_get, Option, Some, None, is_some, if◌then◌else◌}
 use Rattle.std.specs.List.{starts_with}
 use Rattle.std.specs.Str.{bytes_eq}
 use Rattle.std.specs.Ordering.{nat_cmp, is_gt}
@@ -9,7 +9,8 @@ use Rattle.vault_core_model.specs.declared.reply.Listed.{Listed}
 use Rattle.vault_core_model.specs.declared.reply.Page.{Page}
 use Rattle.vault_core_model.specs.Vault.{Vault}
 use Rattle.vault_core_model.specs.Places.{held_at, is_behind, keys_of}
-use Rattle.vault_core_model.specs.ListingOutcome.{asked_for, is_asked_for, is_below, listed}
+use Rattle.vault_core_model.specs.ListingOutcome.{asked_for, is_asked_for, listed}
+use Rattle.vault_core_model.specs.Reads.{ids_before}
 
 -- the page with one entry more while there is room; then it is known that there are more
 abbrev pub grown : ℕ → Page → Listed → Page
@@ -30,10 +31,22 @@ has_prefix c key = starts_with nat_eq key c.prefix
 abbrev pub is_past : ListVersions → List ℕ → Bool
 is_past c key = is_gt (slice_cmp nat_cmp key c.prefix) && not (has_prefix c key)
 
--- the entry of that key and that id is asked for
-abbrev pub is_asked : ListVersions → List ℕ → ℕ → Bool
-is_asked c key id =
-    has_prefix c key && (is_behind key c.after_key || (bytes_eq key c.after_key && is_below c.after_id id))
+-- something of that key may be asked for
+abbrev pub is_key_asked : ListVersions → List ℕ → Bool
+is_key_asked c key =
+    has_prefix c key && (is_behind key c.after_key || (bytes_eq key c.after_key && is_some c.after_id))
+
+-- of that key the entries older than that one are asked for; each is where there is none
+abbrev pub older_than : ListVersions → List ℕ → Option ℕ
+older_than c key = if is_behind key c.after_key then None else c.after_id
+
+-- how many ids of a key are read: one for each entry that the page still takes, and one by which it is known that there are more
+abbrev pub ids_read : ListVersions → Page → ℕ
+ids_read c page = min (c.most - length page.entries) 1000000000 + 1
+
+-- the id of the newest held entry of a key
+abbrev pub newest_id : Vault → List ℕ → List ℕ → Option ℕ
+newest_id v bucket key = slice_get (ids_before v bucket key None 1) 0
 
 -- the entries of a key that are asked for, newest first
 abbrev pub asked_at : Vault → ListVersions → List ℕ → List Listed

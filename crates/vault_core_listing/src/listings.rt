@@ -1,5 +1,5 @@
 //! Listings of a bucket's versions: keys by their bytes, within a key newest first.
-ghost use Rattle.std.specs.Prelude.{◌≡◌, ◌&&◌, IfOk, Err, Some, if◌then◌else◌, flat_map, false};
+ghost use Rattle.std.specs.Prelude.{◌≡◌, ◌&&◌, IfOk, Err, None, Some, is_some, flat_map, false};
 ghost use Rattle.vault_core_model.specs.Leaves.{Leaves, ReadsAs};
 ghost use Rattle.vault_core_model.specs.Halts.{ChecksAs, AnswersAs, is_device};
 ghost use Rattle.vault_core_model.specs.Checks.{check};
@@ -7,7 +7,7 @@ ghost use Rattle.vault_core_model.specs.Reads.{entry_of};
 ghost use Rattle.std.specs.Str.{bytes_eq};
 ghost use Rattle.vault_core_model.specs.Places.{is_behind};
 ghost use Rattle.vault_core_model.specs.ListingOutcome as outcome;
-ghost use Rattle.vault_core_listing.specs.Walk.{EndsOrAdvances, asked_at, asked_first, beginning, completed, filled, grown, has_first, has_prefix, is_asked, is_past, is_prefix_later, page_of};
+ghost use Rattle.vault_core_listing.specs.Walk.{EndsOrAdvances, asked_at, asked_first, beginning, completed, filled, grown, has_first, has_prefix, ids_read, is_key_asked, is_past, is_prefix_later, newest_id, older_than, page_of};
 
 use std::alloc::{AllocError, Global};
 use vault_base::moment::Moment;
@@ -26,6 +26,9 @@ const MOST_KEYS: u32 = 256;
 
 /// So many pages of keys hold a key for each id that there is.
 const MOST_PAGES: u32 = 3_906_251;
+
+/// How many ids there are.
+const MOST_IDS: u64 = 1_000_000_000;
 
 /// Lists the held entries of a bucket that are asked for, and says whether there are more.
 pub fn list_versions<K: Keeper>(
@@ -189,32 +192,50 @@ fn list_key<K: Keeper>(
     ensures value { K.is_honest keeper.new → IfOk result (λ _. page.new ≡ filled command.now.most page.old (asked_at (K.vault keeper.old) command.now key.now)) }
     ensures leaves { ReadsAs K.Kept keeper.old keeper.new result }
 {
-    if page.more || !has_prefix(command, key) {
+    if page.more || !is_key_asked(command, key) {
         return Ok(());
     }
-    let mut newest_first = keeper.entries(&command.bucket, key)?;
-    newest_first.reverse();
-    let mut current = true;
-    for held in &newest_first {
-        list_entry(keeper, page, command, key, held.id, current)?;
-        current = false;
+    let than = older_than(command, key);
+    let ids = keeper.ids(&command.bucket, key, than, ids_read(command, page))?;
+    let Some(first) = ids.first() else {
+        return Ok(());
+    };
+    let newest = find_newest(keeper, command, key, *first)?;
+    for id in &ids {
+        list_entry(keeper, page, command, *id, newest == Some(*id))?;
     }
     Ok(())
 }
 
-/// Lists an entry of a key, where it is asked for.
+/// The newest held entry of a key, of which `first` is the first that is asked for: that one, where each is.
+fn find_newest<K: Keeper>(
+    keeper: &mut K,
+    command: &ListVersions,
+    key: &ObjectKey,
+    first: VersionId,
+) -> Result<Option<VersionId>, Fault>
+    ensures value { K.is_honest keeper.new → (older_than command.now key.now ≡ None → newest_id (K.vault keeper.old) command.now.bucket key.now ≡ Some first) → IfOk result (λ newest. newest ≡ newest_id (K.vault keeper.old) command.now.bucket key.now) }
+    ensures leaves { ReadsAs K.Kept keeper.old keeper.new result }
+{
+    if older_than(command, key).is_none() {
+        return Ok(Some(first));
+    }
+    let newest = keeper.ids(&command.bucket, key, None, 1)?;
+    Ok(newest.first().copied())
+}
+
+/// Lists an entry that is asked for, while the page takes one; then it is known that there are more.
 fn list_entry<K: Keeper>(
     keeper: &mut K,
     page: &mut Page,
     command: &ListVersions,
-    key: &ObjectKey,
     id: VersionId,
     current: bool,
 ) -> Result<(), Fault>
-    ensures value { K.is_honest keeper.new → IfOk result (λ _. (entry : Entry) → entry_of (K.vault keeper.old) id ≡ Some entry → page.new ≡ (if is_asked command.now key.now id then grown command.now.most page.old (record { entry = entry; current = current }) else page.old)) }
+    ensures value { K.is_honest keeper.new → IfOk result (λ _. (entry : Entry) → entry_of (K.vault keeper.old) id ≡ Some entry → page.new ≡ grown command.now.most page.old (record { entry = entry; current = current })) }
     ensures leaves { ReadsAs K.Kept keeper.old keeper.new result }
 {
-    if page.more || !is_asked(command, key, id) {
+    if page.more {
         return Ok(());
     }
     if page.entries.as_slice().len() as u64 >= u64::from(command.most) {
@@ -225,6 +246,16 @@ fn list_entry<K: Keeper>(
         page.entries.push(Listed { entry, current })?;
     }
     Ok(())
+}
+
+/// How many ids of a key are read: one for each entry that the page still takes, and one by which it is known
+/// that there are more.
+fn ids_read(command: &ListVersions, page: &Page) -> u32
+    ensures { result ≡ ids_read command.now page.now }
+{
+    let listed = page.entries.as_slice().len() as u64;
+    let room = u64::from(command.most).saturating_sub(listed);
+    room.min(MOST_IDS) as u32 + 1
 }
 
 /// Whether a key begins as asked.
@@ -242,11 +273,11 @@ fn is_past(command: &ListVersions, key: &ObjectKey) -> bool
     key.as_str() > command.prefix.as_str() && !has_prefix(command, key)
 }
 
-/// Whether the entry of that key and that id is asked for.
-fn is_asked(command: &ListVersions, key: &ObjectKey, id: VersionId) -> bool
-    ensures { result ≡ is_asked command.now key.now id }
+/// Whether something of the key may be asked for.
+fn is_key_asked(command: &ListVersions, key: &ObjectKey) -> bool
+    ensures { result ≡ is_key_asked command.now key.now }
 {
-    has_prefix(command, key) && (is_behind(&command.after_key, key) || is_left_of(command, key, id))
+    has_prefix(command, key) && (is_behind(&command.after_key, key) || is_left_of(command, key))
 }
 
 /// Whether the key comes after that one; every key comes after the empty text.
@@ -257,19 +288,20 @@ fn is_behind(after: &KeyPrefix, key: &ObjectKey) -> bool
     after.is_empty() || key.as_str() > after
 }
 
-/// Whether an entry of the key at which the listing begins comes after the one given.
-fn is_left_of(command: &ListVersions, key: &ObjectKey, id: VersionId) -> bool
-    ensures { result ≡ (bytes_eq key.now command.now.after_key && outcome.is_below command.now.after_id id) }
+/// Whether the listing begins within the key, after an entry that is given.
+fn is_left_of(command: &ListVersions, key: &ObjectKey) -> bool
+    ensures { result ≡ (bytes_eq key.now command.now.after_key && is_some command.now.after_id) }
 {
-    key.as_str() == command.after_key.as_str() && is_below(command.after_id, id)
+    key.as_str() == command.after_key.as_str() && command.after_id.is_some()
 }
 
-/// Whether the id is smaller than the one given; no id is, where none is given.
-fn is_below(after: Option<VersionId>, id: VersionId) -> bool
-    ensures { result ≡ outcome.is_below after id }
+/// The entry than which those that are asked for of a key are older; each is asked for where there is none.
+fn older_than(command: &ListVersions, key: &ObjectKey) -> Option<VersionId>
+    ensures { result ≡ older_than command.now key.now }
 {
-    match after {
-        None => false,
-        Some(after) => id < after,
+    if is_behind(&command.after_key, key) {
+        None
+    } else {
+        command.after_id
     }
 }

@@ -15,3 +15,5 @@ mod limits;
 mod pages;
 #[cfg(test)]
 mod ranges;
+#[cfg(test)]
+mod versions;

@@ -113,7 +113,7 @@ const LISTINGS: [Asked; 6] = [
 {"at":"2024-03-02T00:00:00Z","as":"ann","do":"list-versions","bucket":"docs","prefix":"k1001","most":1}
   {"ok":{"entries":[{"admitted":"2024-03-01T00:00:00Z","current":true,"delete_marker":false,"key":"k1001","size":1,"version_id":1}],"more":false}}
 "#,
-        calls: "last\ncaller ann\nbucket docs\nentries k1001\nentry\n256 keys after k1001\n",
+        calls: "last\ncaller ann\nbucket docs\n2 ids of k1001\nentry\n256 keys after k1001\n",
     },
     Asked {
         before: "",
@@ -121,7 +121,7 @@ const LISTINGS: [Asked; 6] = [
 {"at":"2024-03-02T00:00:00Z","as":"ann","do":"list-versions","bucket":"docs","prefix":"k1600","most":1}
   {"ok":{"entries":[{"admitted":"2024-03-01T00:00:00Z","current":true,"delete_marker":false,"key":"k1600","size":1,"version_id":600}],"more":false}}
 "#,
-        calls: "last\ncaller ann\nbucket docs\nentries k1600\nentry\n256 keys after k1600\n",
+        calls: "last\ncaller ann\nbucket docs\n2 ids of k1600\nentry\n256 keys after k1600\n",
     },
     Asked {
         before: "",
@@ -130,7 +130,7 @@ const LISTINGS: [Asked; 6] = [
   {"ok":{"entries":[{"admitted":"2024-03-01T00:00:00Z","current":true,"delete_marker":false,"key":"k1500","size":1,"version_id":500}],"more":true}}
 "#,
         calls: "last\ncaller ann\nbucket docs\n\
-                entries k15\n256 keys after k15\nentries k1500\nentry\nentries k1501\n",
+                2 ids of k15\n256 keys after k15\n2 ids of k1500\nentry\n1 ids of k1501\n",
     },
     Asked {
         before: "",
@@ -138,7 +138,7 @@ const LISTINGS: [Asked; 6] = [
 {"at":"2024-03-02T00:00:00Z","as":"ann","do":"list-versions","bucket":"docs","prefix":"k1500","after_key":"k1499","after_id":499}
   {"ok":{"entries":[{"admitted":"2024-03-01T00:00:00Z","current":true,"delete_marker":false,"key":"k1500","size":1,"version_id":500}],"more":false}}
 "#,
-        calls: "last\ncaller ann\nbucket docs\nentries k1500\nentry\n256 keys after k1500\n",
+        calls: "last\ncaller ann\nbucket docs\n1001 ids of k1500\nentry\n256 keys after k1500\n",
     },
     Asked {
         before: "",
@@ -146,7 +146,7 @@ const LISTINGS: [Asked; 6] = [
 {"at":"2024-03-02T00:00:00Z","as":"ann","do":"list-versions","bucket":"docs","prefix":"k15","after_key":"k1550","most":1}
   {"ok":{"entries":[{"admitted":"2024-03-01T00:00:00Z","current":true,"delete_marker":false,"key":"k1551","size":1,"version_id":551}],"more":true}}
 "#,
-        calls: "last\ncaller ann\nbucket docs\n256 keys after k1550\nentries k1551\nentry\nentries k1552\n",
+        calls: "last\ncaller ann\nbucket docs\n256 keys after k1550\n2 ids of k1551\nentry\n1 ids of k1552\n",
     },
     Asked {
         before: "",
@@ -154,7 +154,7 @@ const LISTINGS: [Asked; 6] = [
 {"at":"2024-03-02T00:00:00Z","as":"ann","do":"list-versions","bucket":"docs","prefix":"z"}
   {"ok":{"entries":[],"more":false}}
 "#,
-        calls: "last\ncaller ann\nbucket docs\nentries z\n256 keys after z\n",
+        calls: "last\ncaller ann\nbucket docs\n1001 ids of z\n256 keys after z\n",
     },
 ];
 

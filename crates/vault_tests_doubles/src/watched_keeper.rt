@@ -23,6 +23,7 @@ const PAST_THE_LAST: u64 = 1_000_000_001;
 /// left. Once it has said so, it refuses every change with `Memory`.
 #[derive(Drop)]
 pub struct WatchedKeeper<'a, K> {
+    alloc: Global,
     keeper: &'a mut K,
     calls: String,
     /// How many ids it still states as they are.
@@ -34,6 +35,7 @@ impl<'a, K> WatchedKeeper<'a, K> {
     /// A keeper over another one, of which nothing was asked yet, that states n ids before it is full.
     pub fn new(alloc: Global, keeper: &'a mut K, ids: u64) -> WatchedKeeper<'a, K> {
         WatchedKeeper {
+            alloc,
             keeper,
             calls: String::new(alloc),
             ids,
@@ -56,6 +58,20 @@ fn push_call(calls: &mut String, call: &str, about: &str) -> Result<(), AllocErr
 /// Notes a call, and what it was about. A note without room is left out, so that the calls aren't those wanted.
 fn note_call(calls: &mut String, call: &str, about: &str) {
     let _ = push_call(calls, call, about);
+}
+
+fn push_ids(
+    alloc: Global,
+    calls: &mut String,
+    key: &str,
+    than: Option<VersionId>,
+    most: u32,
+) -> Result<(), AllocError> {
+    let asked = match than {
+        None => format!(in alloc; "{most} ids of {key}")?,
+        Some(than) => format!(in alloc; "{most} ids of {key} older than {}", than.number())?,
+    };
+    push_call(calls, asked.as_str(), "")
 }
 
 /// What a change is, as far as runs make it.
@@ -172,7 +188,7 @@ impl<K: Keeper> Keeper for WatchedKeeper<'_, K> {
         than: Option<VersionId>,
         most: u32,
     ) -> Result<Vec<VersionId>, Fault> {
-        note_call(&mut self.calls, "ids of ", key.as_str());
+        let _ = push_ids(self.alloc, &mut self.calls, key.as_str(), than, most);
         self.keeper.ids(bucket, key, than, most)
     }
 

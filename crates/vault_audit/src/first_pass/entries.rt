@@ -32,9 +32,5 @@ pub fn check_entries<S: Alter>(
     ensures look { OnlyLooks S.Store conn.old conn.new result }
     ensures err { IsHealthy (state S.Store conn.new) → IfErr result IsMemory }
 {
-    check_rows(
-        conn,
-        entries_columns!(select_text),
-        &EntryCheck { last },
-    )
+    check_rows(conn, entries_columns!(select_text), &EntryCheck { last })
 }

@@ -97,5 +97,9 @@ pub fn check_table<S: Alter, R: Record>(
     ensures look { OnlyLooks S.Store conn.old conn.new result }
     ensures err { IsHealthy (state S.Store conn.new) → IfErr result IsMemory }
 {
-    check_rows(conn, R::select(edition), &RecordCheck::<R> { of: PhantomData })
+    check_rows(
+        conn,
+        R::select(edition),
+        &RecordCheck::<R> { of: PhantomData },
+    )
 }

@@ -18,7 +18,7 @@ use vault_audit_model::rows::SettingRow;
 use vault_audit_model::schema::Edition;
 use vault_audit_rows::misread::Misread;
 use vault_audit_rows::records::read_setting;
-use vault_audit_schema::{settings_columns, select_text};
+use vault_audit_schema::{select_text, settings_columns};
 
 impl Record for SettingRow {
     ghost use Rattle.std.specs.Prelude.{[], refl, ⊤};

@@ -1,32 +1,46 @@
 use Rattle.std.proofs.Common.{rules, ◌∙◌, sym, arith, ap}
-use Rattle.vault_core_listing.specs.Walk.{filled, asked_at}
-use Rattle.vault_core_listing.proofs.KeyWalk.{all_left, item_listed, none_left, without_prefix}
+use Rattle.std.specs.Prelude.{slice_get}
+use Rattle.vault_core_listing.specs.Walk.{asked_at, filled, grown}
+use Rattle.vault_core_listing.proofs.KeyWalk.{begun, id_listed, key_not_asked, none_left, none_read}
 use Rattle.vault_core_listing.proofs.Pages.{filled_full}
 use Rattle.vault_core_listing.proofs.listings.list_key.Goals as goal
-use Rattle.vault_core_listing.proofs.listings.list_key.Goals.{then-page-via-then-page, then-page-via-else-page+then-not-has_prefix}
+use Rattle.vault_core_listing.proofs.listings.list_key.Goals.{then-page-via-then-page, then-page-via-else-page+then-not-is_key_asked}
 
--- the page is cut off, or the key doesn't begin as asked
+-- the page is cut off, or nothing is asked for of the key
 pub returns-then-page-clause-value : goal.returns-then-page-clause-value
 returns-then-page-clause-value g c = λ honest.
+    let v = g.K.Kept.vault c.args.keeper.now in
     elim c.then-page.branch [
-      | then-page-via-then-page w ↦ sym (filled_full c.args.command.now.most c.args.page.now (asked_at (g.K.Kept.vault c.args.keeper.now) c.args.command.now c.args.key.now) w.if-page.true)
-      | then-page-via-else-page+then-not-has_prefix w ↦ sym (ap (filled c.args.command.now.most c.args.page.now) (without_prefix (g.K.Kept.vault c.args.keeper.now) c.args.command.now c.args.key.now (g.K.Kept.sound _ honest) (sym w.has_prefix.ensures ∙ w.if-not-has_prefix.true)))
+      | then-page-via-then-page w ↦ sym (filled_full c.args.command.now.most c.args.page.now (asked_at v c.args.command.now c.args.key.now) w.if-page.true)
+      | then-page-via-else-page+then-not-is_key_asked w ↦ sym (ap (filled c.args.command.now.most c.args.page.now) (key_not_asked v c.args.command.now c.args.key.now (g.K.Kept.sound _ honest) (sym w.is_key_asked.ensures ∙ w.if-not-is_key_asked.true)))
     ]
 
-pub loop-held-init : goal.loop-held-init
-loop-held-init g c = record {
+-- no entry is asked for
+pub returns-in_default-clause-value : goal.returns-in_default-clause-value
+returns-in_default-clause-value g c = λ honest.
+    none_read (g.K.Kept.vault c.args.keeper.now) c.args.command.now c.args.key.now c.args.page.now c.older_than-than.result c.ids_read.result c.in_ok-ids.ids.items
+    (g.K.Kept.sound _ (c.ids.ensures.leaves.honest honest)) (sym c.is_key_asked.ensures ∙ c.if-not-is_key_asked.false) c.older_than-than.ensures c.ids_read.ensures (c.in_ok-ids.ensures.value honest)
+    (c.in_default.ensures.value ∙ ap (λ ids. slice_get ids 0) c.deref.ensures.value)
+
+pub loop-id-init : goal.loop-id-init
+loop-id-init g c = record {
   leaves = search rules;
-  left = λ honest. all_left (g.K.Kept.vault c.args.keeper.now) c.args.command.now c.args.key.now c.args.page.now c.in_ok-newest_first.newest_first.items c.deref-held-items.result.now
-      (g.K.Kept.sound _ (c.entries.ensures.leaves.honest honest)) (c.in_ok-newest_first.ensures.value honest) (c.deref-held-items.ensures.value ∙ c.reverse.ensures.items);
+  left = λ honest.
+      let read = c.find_newest.ensures.leaves.honest honest in
+      begun (g.K.Kept.vault c.args.keeper.now) (g.K.Kept.vault c.ids.new.self) c.args.command.now c.args.key.now c.args.page.now c.older_than-than.result c.ids_read.result c.in_ok-ids.ids.items c.deref-id-items.result.now
+      c.in-Some.first.now c.in_ok-newest.newest (g.K.Kept.sound _ (c.ids.ensures.leaves.honest read)) (sym c.is_key_asked.ensures ∙ c.if-not-is_key_asked.false) c.older_than-than.ensures c.ids_read.ensures
+      (c.in_ok-ids.ensures.value read) c.ids.ensures.leaves.same c.deref-id-items.ensures.value (c.in-Some.ensures.value ∙ ap (λ ids. slice_get ids 0) c.deref.ensures.value) (c.in_ok-newest.ensures.value honest);
 }
 
-pub loop-held-preserved : goal.loop-held-preserved
-loop-held-preserved g c = record {
+pub loop-id-preserved : goal.loop-id-preserved
+loop-id-preserved g c = record {
   leaves = search rules;
-  left = λ honest. item_listed (g.K.Kept.vault c.args.keeper.now) (g.K.Kept.vault c.loop-held.keeper) c.args.command.now c.args.key.now c.loop-held.current c.loop-held.page c.list_entry.new.page
-      (filled c.args.command.now.most c.args.page.now (asked_at (g.K.Kept.vault c.args.keeper.now) c.args.command.now c.args.key.now)) c.deref-held-items.result.now c.loop-held.held-index c.held-item.result
-      c.loop-held.invariant.leaves.same c.loop-held-test.true c.held-item.is (c.in_ok-list_entry.ensures.value honest) (c.loop-held.invariant.left (c.list_entry.ensures.leaves.honest honest));
+  left = λ honest. id_listed (g.K.Kept.vault c.args.keeper.now) (g.K.Kept.vault c.loop-id.keeper) c.args.command.now c.args.key.now c.in_ok-newest.newest c.loop-id.page c.list_entry.new.page
+      (filled c.args.command.now.most c.args.page.now (asked_at (g.K.Kept.vault c.args.keeper.now) c.args.command.now c.args.key.now)) c.deref-id-items.result.now c.loop-id.id-index c.id-item.result
+      c.loop-id.invariant.leaves.same c.loop-id-test.true c.id-item.is
+      (λ entry found. c.in_ok-list_entry.ensures.value honest entry found ∙ ap (λ b. grown c.args.command.now.most c.loop-id.page (record { entry = entry; current = b })) c.eq.ensures)
+      (c.loop-id.invariant.left (c.list_entry.ensures.leaves.honest honest));
 }
 
 pub returns-clause-value : goal.returns-clause-value
-returns-clause-value g c = λ honest. none_left (g.K.Kept.vault c.args.keeper.now) c.args.command.now c.args.key.now c.loop-held.current c.loop-held.page (filled c.args.command.now.most c.args.page.now (asked_at (g.K.Kept.vault c.args.keeper.now) c.args.command.now c.args.key.now)) c.deref-held-items.result.now c.loop-held.held-index (omega arith) (c.loop-held.invariant.left honest)
+returns-clause-value g c = λ honest. none_left (g.K.Kept.vault c.args.keeper.now) c.args.command.now c.args.key.now c.in_ok-newest.newest c.loop-id.page (filled c.args.command.now.most c.args.page.now (asked_at (g.K.Kept.vault c.args.keeper.now) c.args.command.now c.args.key.now)) c.deref-id-items.result.now c.loop-id.id-index (omega arith) (c.loop-id.invariant.left honest)
