@@ -408,6 +408,10 @@ class Queries(OfTheYear):
         vault.replay([{"at": at[1], "as": "ann", "do": "delete-version", "bucket": "docs", "key": "k", "id": 1}])
         told = [tuple(it.values()) for it in vault.query("batches")]
         check(told == [("docs", "b0", 1, 2, at[1], at[1]), ("docs", "b1", 2, 6, *at)], f"the batches are {told}")
+        names = [*(f"s3-{it * 40}" for it in "ab"), f"new-{'c' * 40}", "new-x", "s3-y"]
+        vault.replay([{**line, "at": at[1], "batch": it, "line": 1, "key": it, "text": "x"} for it in names])
+        told = {it["batch"]: it["lines"] for it in vault.query("batches")}
+        check(told == {"b0": 1, "b1": 2, "new-*": 1, "new-x": 1, "s3-*": 2, "s3-y": 1}, f"the batches are {told}")
 
     def test_past_reports(self):
         """The sums of a past moment are those that `report` had then, over a vault that ended there."""

@@ -2,12 +2,13 @@
 
 The tables are desk_edits.py, door_edits.py (a vault that is served) and s3_edits.py (the gateway for clients of S3). A
 row of each has a module of the desk, a text in it, the text that takes its place, and a test of `desk/tests`. An edit
-is made in a copy of `desk`, which runs over the program. The gate looks only whether each can be made, and its test is
-there (`CanBeMade`).
+is made in a copy of `desk`, which runs over the program. A body that names what isn't there says nothing of the test:
+it is no edit of these. The gate looks only whether each can be made, and its test is there (`CanBeMade`).
 """
 
 import os
 import pathlib
+import re
 import shutil
 import sys
 from collections.abc import Iterator
@@ -21,6 +22,10 @@ TAKES_LONG = True
 TABLES = ((desk_edits, "desk/vaultdesk"), (door_edits, "desk/vaultdesk"), (s3_edits, "desk/vaultdesk/s3"))
 
 
+# Errors of a body that isn't one, with which each test fails.
+NO_BODY = re.compile(r"\b(NameError|UnboundLocalError|SyntaxError|IndentationError|ImportError|ModuleNotFoundError)\b.*")
+
+
 class Edit(NamedTuple):
     """In that file, by its path from the top of the repository, the one text becomes the other; the test has to fail."""
 
@@ -32,8 +37,14 @@ class Edit(NamedTuple):
     def unmade(self, top: pathlib.Path) -> str:
         """Why it can't be made and tried below that folder; nothing where it can."""
         module, _, test = self.test.split(".")
-        if self.old not in (top / self.file).read_text(encoding="utf-8"):
+        text = (top / self.file).read_text(encoding="utf-8")
+        if self.old not in text:
             return f"{self.file}: there is no {self.old!r}"
+        if self.file.endswith(".py"):
+            try:
+                compile(text.replace(self.old, self.new), self.file, "exec")
+            except SyntaxError as error:
+                return f"{self.file}: {self.new!r}: {error}"
         is_there = f"def {test}(" in (top / "desk" / "tests" / f"{module}.py").read_text(encoding="utf-8")
         return "" if is_there else f"there is no test {self.test}"
 
@@ -74,4 +85,6 @@ class Desk(Case):
         ran = ran_words(*words, cwd=self.folder / "desk", env=env)
         is_tried = "Ran 1 test" in ran.err and "AttributeError: type object" not in ran.err
         check(is_tried, f"{edit.test}: it wasn't tried: {ran.err}")
+        broken = NO_BODY.search(ran.err)
+        check(not broken, f"{edit.file}: {edit.new!r} is no body: {broken and broken[0]}")
         check(ran.status, f"{edit.file}: {edit.old!r} as {edit.new!r} is let through by {edit.test}")

@@ -230,6 +230,30 @@ def status(server: Server) -> None:
     equal(said, MALFORMED + b"\n", "the same in a script")
 
 
+def buckets(server: Server) -> None:
+    """A caller with the right to administer is answered the names of all buckets, 1,000 a line, and nobody else is."""
+    names = sorted([f"b{number:04}" for number in range(1_500)] + ["docs"])
+    added = [line("registrar", "add-bucket", bucket=name, dept="records") for name in reversed(names) if name != "docs"]
+    equal(set(server.lines(b"".join(added[:999]))), {b'{"ok":{}}'}, "buckets to one less than a line has")
+    one = json.loads(server.lines(line("registrar", "buckets"))[0])["ok"]
+    equal(one, {"buckets": [*names[501:]], "more": False}, "a line that just has them all")
+    equal(set(server.lines(b"".join(added[999:]))), {b'{"ok":{}}'}, "the other buckets")
+    pages: list[list[str]] = []
+    after: str | None = ""
+    while after is not None:
+        page = json.loads(server.lines(line("registrar", "buckets", after=after))[0])["ok"]
+        pages.append(page["buckets"])
+        after = page["buckets"][-1] if page["more"] else None
+    equal([len(page) for page in pages], [1_000, 501], "how many names each line has")
+    equal(sum(pages, []), names, "the names")
+    refused = b'{"error":{"code":"AccessDenied","n":3,"reason":"right:admin"}}'
+    others = line("ann", "buckets") + line("registrar", "buckets", after=1) + line("registrar", "buckets", most=1)
+    equal(server.lines(others), [refused, MALFORMED, MALFORMED], "others")
+    script = b'{"at":"2024-01-15T10:30:00Z","as":"registrar","do":"buckets"}\n'
+    said = subprocess.run([PROGRAM, "replay"], input=script, capture_output=True, check=True).stdout
+    equal(said, MALFORMED + b"\n", "the same in a script")
+
+
 def at_a_port(server: Server) -> None:
     """Lines at a port."""
     equal(server.said, f"serving {server.file} at {HOST}:{server.port}, lines at {HOST}:{server.where}\n", "what it says")
@@ -274,6 +298,7 @@ TRIALS: dict[str, Trial] = {
     "flooding": (flooding, []),
     "closing": (closing, []),
     "status": (status, []),
+    "buckets": (buckets, []),
     "at-a-port": (at_a_port, []),
     "counted": (counted, ["--count", "3"]),
     "no-places": (no_places, []),

@@ -58,6 +58,17 @@ def pages(kind: type[Tool], folder: pathlib.Path) -> None:
         check(len(found) == len(wanted) and set(found) == wanted, f"{len(found)} of {len(wanted)} keys")
 
 
+def buckets(kind: type[Tool], folder: pathlib.Path) -> None:
+    """A bucket that is made while the gateway serves is in the next list."""
+    with made(folder) as gateway:
+        tool = kind(gateway)
+        check(tool.buckets() == ["docs", "scans"], f"other buckets: {tool.buckets()}")
+        gateway.office("buckets", "--add", "maps", "--department", "records", "--as", "registrar")
+        (folder / "in").write_text("content")
+        tool.put("in", "a", "maps")
+        check(tool.buckets() == ["docs", "maps", "scans"], f"a list without the new one, or with others: {tool.buckets()}")
+
+
 def at_once(kind: type[Tool], folder: pathlib.Path) -> None:
     """A hundred puts at once, each of which is one version with its content."""
     with made(folder) as gateway:
@@ -289,8 +300,8 @@ def rclone_locks(kind: type[Tool], folder: pathlib.Path) -> None:
 
 
 CASES: dict[str, Callable[[type[Tool], pathlib.Path], None]] = {
-    "calls": calls, "odd keys": odd_keys, "pages": pages, "at once": at_once, "refusals": refusals, "late": late, "replayed": replayed,
-    "cut": cut, "cut after": cut_after, "killed": killed,
+    "calls": calls, "odd keys": odd_keys, "pages": pages, "buckets": buckets, "at once": at_once, "refusals": refusals, "late": late,
+    "replayed": replayed, "cut": cut, "cut after": cut_after, "killed": killed,
 }
 LOCKS = {"aws": aws_locks, "aws2": aws_locks, "s3cmd": s3cmd_locks, "rclone": rclone_locks}
 

@@ -9,7 +9,7 @@ COPY, DELETE, ETAGS = "test_s3_objects.Copy.", "test_s3_objects.Delete.", "test_
 LOCKS, LIFECYCLE = "test_s3_locks.Locks.", "test_s3_locks.Lifecycle."
 BUCKETS, LISTS = "test_s3_lists.Buckets.", "test_s3_lists.Lists."
 AGAIN, HEADS, PROGRAMS = "test_s3_again.Again.", "test_s3_again.Heads.", "test_s3_again.Programs."
-UNSAID, KEYS = "test_s3_again.Unsaid.", "test_s3_words.Keys."
+UNSAID, KEYS, SETTINGS = "test_s3_again.Unsaid.", "test_s3_words.Keys.", "test_s3_words.Settings."
 
 EDITS = [
     # who asks
@@ -42,6 +42,12 @@ EDITS = [
     ("gateway", "        caller, signed, key = self.who(request)\n",
      "        begin().read(1) if request.method == \"PUT\" else None\n        caller, signed, key = self.who(request)\n",
      REFUSED + "test_the_engine_is_asked_nothing_and_no_body_is_read"),
+    ("signature", " or signed.date[:8] != signed.day", "", REFUSED + "test_the_day_of_the_credential_is_that_of_the_request"),
+    ("signature", "    if signed.expires is None and not payload_of(request, signed):\n", "    if False:\n",
+     REFUSED + "test_what_is_said_of_the_body_has_to_be_there"),
+    ("signature", "        if text is not None:\n", "        if False:\n", REFUSED + "test_one_signature_alone"),
+    ("signature", " or not 1 <= int(expires) <= LONGEST", "", KEPT + "test_a_presigned_url_is_good_for_seven_days_at_most"),
+    ("keys", " or not conf.CALLER.fullmatch(it.caller)]", "]", KEYS + "test_a_file_that_isnt_one"),
     # bodies
     ("bodies", "        if not hmac.compare_digest(self.last, signature):\n", "        if False:\n",
      BODIES + "test_chunks_that_are_signed_wrongly"),
@@ -76,10 +82,17 @@ EDITS = [
      PUT + "test_a_plus_in_a_path_is_a_plus"),
     ("request", "_text(bucket), _text(key))", "_text(bucket), __import__(\"posixpath\").normpath(_text(key)))",
      PUT + "test_odd_keys"),
-    ("door", "            raise of_refusal(refusal) from refusal\n", "            return Told({\"version_id\": 1, \"again\": True}, \"\")\n",
+    ("door", "            value = self.engine.ask(do, caller, **members)\n",
+     "            value = {\"version_id\": 1, \"again\": True}\n            with suppress(Refused):\n"
+     "                value = self.engine.ask(do, caller, **members)\n",
      REFUSED + "test_the_engine_decides_who_may_what"),
     ("objects", "        return \"Error\", [*named, (\"Code\", fault.code), (\"Message\", fault.message)]\n",
      "        return \"Deleted\", named\n", LOCKS + "test_governance_and_its_bypass"),
+    ("request", "    if len({name for name, _ in pairs}) < len(pairs):\n", "    if False:\n", PUT + "test_other_calls_are_refused"),
+    ("objects", "if it[0] == \"Error\"]", "if False]", DELETE + "test_many"),
+    ("faults", "    \"InternalError\": 500,\n", "", UNSAID + "test_an_engine_that_gives_no_answer"),
+    ("faults", "return Fault(\"InvalidRequest\", f\"{what}: the vault", "return Fault(\"NotImplemented\", f\"{what}: the vault",
+     PUT + "test_what_cant_be_kept_is_refused"),
     # uploads that can't be kept as they are asked for
     ("heads", "    if kept:\n", "    if False:\n", "test_s3_objects.NothingIsDropped.test_metadata_that_isnt_configured_is_refused"),
     ("heads", "    look_at_change(request)\n", "", PUT + "test_what_cant_be_kept_is_refused"),
@@ -99,6 +112,16 @@ EDITS = [
     ("objects", "and not source.version:", "and False:", COPY + "test_onto_itself"),
     ("objects", "    if _condition(conditions, etags.md5_of(content), found[\"admitted\"]):\n", "    if False:\n",
      COPY + "test_conditions_and_sources"),
+    ("gateway", "            heads.look_at_names(request, call.look(request, self.vault.settings))\n", "",
+     PUT + "test_what_cant_be_kept_is_refused"),
+    ("heads", "    if \"x-amz-security-token\" in request.headers:\n", "    if False:\n", REFUSED + "test_other_forms"),
+    ("heads", "    if request.headers.get(\"x-amz-expected-bucket-owner\", OWNER) != OWNER:\n", "    if False:\n",
+     PUT + "test_what_cant_be_kept_is_refused"),
+    ("heads", "headers.get(\"x-amz-object-lock-mode\")", "None", KEPT + "test_boto3_puts_a_deed_under_compliance"),
+    ("heads", "headers.get(\"x-amz-object-lock-retain-until-date\")", "None", KEPT + "test_boto3_puts_a_deed_under_compliance"),
+    ("objects", "\"hex\": content.hex(), **heads.locks_of(asked.request)}", "\"hex\": content.hex()}",
+     KEPT + "test_boto3_puts_a_deed_under_compliance"),
+    ("objects", "key=source.key, **source.version)", "key=source.key)", COPY + "test_onto_itself"),
     # what is sent again
     ("objects", "    if asked.invocation:\n", "    if False:\n", AGAIN + "test_a_put_that_is_sent_again_is_one_version"),
     ("objects", "again.name_of(\"id\", asked.caller, asked.invocation)", "again.name_of(\"id\", asked.invocation)",
@@ -150,6 +173,8 @@ EDITS = [
     ("objects", "            if not (value.isascii() and value.isprintable()):\n", "            if False:\n",
      GET + "test_headers_of_a_download"),
     ("faults", "    if refusal.is_below_marker:\n", "    if False:\n", GET + "test_versions_and_markers"),
+    ("objects", "    if status:\n        raise Fault(\"PreconditionFailed\"", "    if False:\n        raise Fault(\"PreconditionFailed\"",
+     GET + "test_conditions"),
     # what is removed
     ("objects", "asked.ask(\"delete-version\", **place, **bypass)", "asked.ask(\"delete-version\", **place, bypass=True)",
      LOCKS + "test_governance_and_its_bypass"),
@@ -171,6 +196,18 @@ EDITS = [
     ("locks", "    document.only(\"Mode\", \"RetainUntilDate\")\n", "", LOCKS + "test_no_retention_and_none_that_is_empty"),
     ("lifecycle", "    found.only(\"Days\", \"ExpiredObjectDeleteMarker\")\n", "", LIFECYCLE + "test_what_the_vault_hasnt_is_refused"),
     ("lifecycle", "        both.only(\"Prefix\", *SIZES)\n", "", LIFECYCLE + "test_what_the_vault_hasnt_is_refused"),
+    ("objects", "_deleted(asked, {**asked.place, **request.version}, request.bypass)", "_deleted(asked, asked.place, request.bypass)",
+     DELETE + "test_a_marker_and_a_version"),
+    ("objects", "one = {} if version is None else {\"id\": number(version, \"VersionId\")}", "one = dict[str, int]()", DELETE + "test_many"),
+    ("locks", "{**asked.place, **asked.request.version, **asked.request.bypass}", "{**asked.place, **asked.request.version, \"bypass\": True}",
+     LOCKS + "test_governance_and_its_bypass"),
+    ("locks", "    if rule:\n", "    if False:\n", LOCKS + "test_a_default"),
+    ("lifecycle", "    rule.only(\"ID\", \"Prefix\", \"Filter\", \"Status\", \"Expiration\", \"NoncurrentVersionExpiration\")\n", "",
+     LIFECYCLE + "test_what_the_vault_hasnt_is_refused"),
+    ("lifecycle", "    document.only(\"Rule\")\n", "", LIFECYCLE + "test_what_the_vault_hasnt_is_refused"),
+    ("lifecycle", "        later.only(*LATER)\n", "", LIFECYCLE + "test_what_the_vault_hasnt_is_refused"),
+    ("lifecycle", "**_filtered(rule), **_expiration(rule)}", "\"Prefix\": \"\", **_expiration(rule)}", LIFECYCLE + "test_rules_are_the_engines"),
+    ("lifecycle", "\"Status\": status,", "\"Status\": \"Enabled\",", LIFECYCLE + "test_rules_are_the_engines"),
     # lists
     ("listings", "            if common is not None and common == shown:\n", "            if False:\n", LISTS + "test_2500_keys_in_pages"),
     ("listings", "if wanted.current and (row[\"delete_marker\"] or not row[\"current\"]):", "if False:",
@@ -183,15 +220,20 @@ EDITS = [
     ("buckets", "        return fault.message.startswith(\"right:list\")\n", "        return True\n",
      BUCKETS + "test_each_department_has_its_own"),
     # the gateway as a program, and its secrets
+    ("gateway", "            fault.caller = caller\n", "            pass\n", HEADS + "test_the_log_says_who_asked_for_what"),
+    ("settings", "    presigned: bool = False\n", "    presigned: bool = True\n", SETTINGS + "test_what_is_left_out_is_the_careful_choice"),
+    ("settings", "    address: str = \"127.0.0.1\"\n", "    address: str = \"\"\n", SETTINGS + "test_what_is_left_out_is_the_careful_choice"),
     ("server", "        self.server.note(f\"{caller} {self.command}", "        self.server.note(f\"{self.headers} {caller} {self.command}",
      PROGRAMS + "test_it_says_what_isnt_locked_serves_and_ends_by_a_signal"),
     ("words", "\"caller\": it.caller} for", "\"caller\": str(it)} for",
      KEYS + "test_one_is_added_listed_and_removed"),
     ("signature", "\"the signature isn't that of this request by this access key\"", "signature_of(request, signed, key)",
      REFUSED + "test_an_unknown_key_and_another_secret"),
-    ("server", "re.sub(\"(?<=[?&]X-Amz-Signature=)[^&]*\", \"..\", target)", "target",
+    ("server", "self.server.note(f\"- {_noted(self.requestline)}", "self.server.note(f\"- {shown(self.requestline)}",
+     HEADS + "test_no_signature_is_in_the_log"),
+    ("server", "re.sub(\"(?<=[?&]X-Amz-Signature=)[^& ]*\", \"..\", text)", "text",
      PROGRAMS + "test_it_says_what_isnt_locked_serves_and_ends_by_a_signal"),
-    ("words", "        if not has_default:\n", "        if False:\n",
+    ("words", "        _say_unlocked(unlocked)\n", "",
      PROGRAMS + "test_it_says_what_isnt_locked_serves_and_ends_by_a_signal"),
-    ("words", "    door.open()\n", "", PROGRAMS + "test_a_damaged_vault_keeps_it_from_starting"),
+    ("words", "    buckets = door.open()\n", "    buckets = door.buckets()\n", PROGRAMS + "test_a_damaged_vault_keeps_it_from_starting"),
 ]

@@ -67,6 +67,12 @@ class Gateway:
         check(ran.returncode == 0, ran.stderr)
         return ran.stdout
 
+    def office(self, *words: str) -> str:
+        """What the desk prints of the vault."""
+        ran = subprocess.run([DESK, *words, "--vault", self.file], env=self.env, capture_output=True, text=True)
+        check(ran.returncode == 0, f"{words[0]}: {ran.stderr}")
+        return ran.stdout
+
     def lines(self, *lines: Line) -> list[Line]:
         """The replies of the engine to lines, by the registrar where none says who asks; the gateway stands still."""
         at = dt.datetime.now(dt.timezone.utc).strftime("%Y-%m-%dT%H:%M:%SZ")
@@ -87,9 +93,7 @@ class Gateway:
 
     def end_server(self) -> None:
         """Ends the server by its door, in good order."""
-        words = [str(it) for it in (DESK, "close", "--vault", self.file, "--as", "registrar")]
-        ran = subprocess.run(words, env=self.env, capture_output=True, text=True)
-        check(ran.returncode == 0, f"close: {ran.stderr}")
+        self.office("close", "--as", "registrar")
         assert self.server
         check(self.server.wait(TRIED) == 0, f"the server ended with {self.server.returncode}")
         self.server = None

@@ -50,6 +50,10 @@ class Tool:
         """All keys of a bucket, as it lists them."""
         raise NotImplementedError
 
+    def buckets(self) -> list[str]:
+        """The names of all buckets, as it lists them."""
+        raise NotImplementedError
+
     def put_all(self, tree: str, bucket: str, at_once: int) -> None:
         """Puts all files of a folder, that many at once, if it can."""
         raise NotImplementedError
@@ -92,6 +96,9 @@ class Boto3(Tool):
         pages = self.client.get_paginator("list_objects_v2").paginate(Bucket=bucket)
         return [it["Key"] for page in pages for it in page.get("Contents", [])]
 
+    def buckets(self) -> list[str]:
+        return [it["Name"] for it in self.client.list_buckets()["Buckets"]]
+
     def put_all(self, tree: str, bucket: str, at_once: int) -> None:
         self.put_each(tree, bucket, at_once)
 
@@ -119,6 +126,9 @@ class Aws(Tool):
     def keys(self, bucket: str) -> list[str]:
         said = self.aws("s3api", "list-objects-v2", "--bucket", bucket, "--query", "Contents[].[Key]", "--output", "text")
         return said.splitlines()
+
+    def buckets(self) -> list[str]:
+        return self.aws("s3api", "list-buckets", "--query", "Buckets[].[Name]", "--output", "text").splitlines()
 
     def put_all(self, tree: str, bucket: str, at_once: int) -> None:
         self.aws("s3", "sync", tree, f"s3://{bucket}")
@@ -156,6 +166,9 @@ class S3cmd(Tool):
         said = self.s3cmd("ls", "--recursive", f"s3://{bucket}")
         return [it.partition(f"s3://{bucket}/")[2] for it in said.splitlines()]
 
+    def buckets(self) -> list[str]:
+        return [it.partition("s3://")[2] for it in self.s3cmd("ls").splitlines()]
+
     def put_all(self, tree: str, bucket: str, at_once: int) -> None:
         self.put_each(tree, bucket, at_once)
 
@@ -187,6 +200,9 @@ class Rclone(Tool):
 
     def keys(self, bucket: str) -> list[str]:
         return self.rclone("lsf", "--files-only", "-R", f"v:{bucket}").splitlines()
+
+    def buckets(self) -> list[str]:
+        return [it.removesuffix("/") for it in self.rclone("lsf", "v:").splitlines()]
 
     def put_all(self, tree: str, bucket: str, at_once: int) -> None:
         self.rclone("copy", "--transfers", at_once, "--checkers", at_once, tree, f"v:{bucket}")

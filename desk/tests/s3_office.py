@@ -169,7 +169,7 @@ class GatewayTest(OfficeTest):
         )  # fmt: skip
         self.door = OwnEngine(Engine(Desk(PROGRAM, self.file), self.at))
         notes = Unanswered(given.unanswered)
-        self.vault = Vault(self.door, Etags(given.etags), given, ["cases", "docs"], notes)
+        self.vault = Vault(self.door, Etags(given.etags), given, notes)
         self.server = Server(given, Gateway(self.vault, Keys(self.keys), lambda: self.now), is_quiet=True)
         threading.Thread(target=self.server.serve_forever, args=(0.01,), daemon=True).start()
 

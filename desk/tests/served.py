@@ -3,14 +3,18 @@
 from __future__ import annotations
 
 import contextlib
+import json
 import socket
 import subprocess
 import threading
 import unittest
+from collections.abc import Callable
 from pathlib import Path
+from typing import Any
 
 from tests.machine import MachineTest
 from tests.office import PROGRAM
+from vaultdesk.ways import Line, text_of
 
 
 def free_port() -> int:
@@ -40,6 +44,35 @@ def _read_on(server: subprocess.Popen[str]) -> None:
     with contextlib.suppress(ValueError):  # the test is over
         while server.stderr.readline():
             pass
+
+
+class FalseServer:
+    """Takes lines at a socket as a server of a vault does, notes them, and answers each as `answer` says."""
+
+    def __init__(self, where: Path, answer: Callable[[dict[str, Any]], Line]) -> None:
+        self.answer = answer
+        self.lines: list[dict[str, Any]] = []
+        self.listener = socket.socket(socket.AF_UNIX)
+        self.listener.bind(str(where))
+        self.listener.listen()
+        self.thread = threading.Thread(target=self._serve, daemon=True)
+        self.thread.start()
+
+    def close(self) -> None:
+        """Takes no line any more."""
+        self.listener.shutdown(socket.SHUT_RDWR)
+        self.listener.close()
+        self.thread.join()
+
+    def _serve(self) -> None:
+        with contextlib.suppress(OSError):
+            while True:
+                connection, _ = self.listener.accept()
+                with connection, connection.makefile("rb") as file:
+                    line = file.readline()
+                    if line:  # else somebody looks whether a server is there
+                        self.lines.append(json.loads(line))
+                        connection.sendall(text_of(self.answer(self.lines[-1])).encode() + b"\n")
 
 
 class ServedTest(MachineTest):

@@ -4,11 +4,24 @@ from __future__ import annotations
 
 import base64
 import csv
+import hashlib
 import json
 import unittest
 from pathlib import Path
+from unittest import mock
 
 from tests.office import OfficeTest
+from vaultdesk import documents
+from vaultdesk.documents import checked_content
+from vaultdesk.errors import DeskError
+
+
+class Checked(unittest.TestCase):
+    def test_a_content_of_another_digest_is_no_document(self) -> None:
+        found = {"version_id": 7, "hex": b"hello".hex(), "sha256": hashlib.sha256(b"hello").hexdigest()}
+        self.assertEqual(checked_content(found), b"hello")
+        with self.assertRaisesRegex(DeskError, "version 7"):
+            checked_content({**found, "hex": b"other".hex()})
 
 
 class PutAndGet(OfficeTest):
@@ -36,6 +49,29 @@ class PutAndGet(OfficeTest):
         self.assertIn("a has version 1 already", done.err)
         self.done("rm", "docs", "a")
         self.assertEqual(self.done("put", "docs", "a", path, "--new"), "3\n")
+        self.done("delete", "docs", "a", "--version", "3", "--yes")
+        other = self.written("b.txt", b"other")
+        for content, number in ((path, 4), (other, 5), (other, 6)):
+            self.assertEqual(self.done("put", "docs", "a", content, "--new"), f"{number}\n")
+            self.done("delete", "docs", "a", "--version", str(number), "--yes")
+
+    def test_a_new_one_has_its_lock(self) -> None:
+        path = self.written("a.txt", b"hello")
+        self.done("put", "docs", "a", path, "--new", "--until", "2034-01-01", "--mode", "COMPLIANCE", "--hold")
+        found = json.loads(self.done("info", "docs", "a", "--json"))
+        wanted = {"mode": "COMPLIANCE", "until": "2034-01-01T00:00:00Z", "hold": "ON"}
+        self.assertEqual({name: found[name] for name in wanted}, wanted)
+
+    def test_of_those_who_find_nothing_one_puts(self) -> None:
+        first, other = self.written("a.txt", b"hello"), self.written("b.txt", b"other")
+        self.done("put", "docs", "a", first, "--new")
+        look = documents._look_new
+        for path in (first, other):
+            with mock.patch("vaultdesk.documents._look_new", side_effect=[None, mock.DEFAULT], wraps=look):
+                done = self.desk("put", "docs", "a", path, "--new")
+            self.assertEqual((done.status, done.out), (1, ""))
+            self.assertIn("a has version 1 already", done.err)
+        self.assertEqual(len(json.loads(self.done("ls", "docs", "--json"))), 1)
 
     def test_a_version_has_its_lock_and_its_digest(self) -> None:
         path = self.written("a.txt", b"hello")
@@ -46,6 +82,11 @@ class PutAndGet(OfficeTest):
         wanted = {"version": 1, "size": 5, "mode": "GOVERNANCE", "until": "2034-01-01T00:00:00Z", "hold": "ON"}
         self.assertEqual({name: found[name] for name in wanted}, wanted)
         self.assertRegex(self.done("info", "docs", "a"), r"(?s)version +2\n.*mode +none\n.*hold +OFF\n")
+
+    def test_an_older_version_is_read_by_its_number(self) -> None:
+        for content in (b"first", b"second"):
+            self.done("put", "docs", "a", self.written("a.txt", content))
+        self.assertEqual([self.done("get", "docs", "a", *it) for it in ((), ("--version", "1"))], ["second", "first"])
 
     def test_a_content_is_json_too(self) -> None:
         content = bytes(range(256))
@@ -189,7 +230,7 @@ class Engines(OfficeTest):
         self.assertIn("Damaged meta", done.err)
 
     def test_a_missing_program_is_said_in_words(self) -> None:
-        with unittest.mock.patch.dict("os.environ", {"VAULTCTL": "/nowhere/vaultctl"}):
+        with mock.patch.dict("os.environ", {"VAULTCTL": "/nowhere/vaultctl"}):
             done = self.desk("ls", "docs")
         self.assertEqual(done.status, 1)
         self.assertIn("/nowhere/vaultctl", done.err)

@@ -2,6 +2,8 @@
 
 from __future__ import annotations
 
+import argparse
+import contextlib
 import json
 import os
 import shutil
@@ -11,14 +13,16 @@ import tempfile
 import threading
 import time
 from collections.abc import Callable
+from concurrent.futures import ThreadPoolExecutor
 from pathlib import Path
 from unittest import mock
 
 from tests.office import PROGRAM, Done
 from tests.served import ServedTest
-from vaultdesk import door, snapshot
+from vaultdesk import documents, door, snapshot
 from vaultdesk.config import Desk
 from vaultdesk.engine import Engine
+from vaultdesk.errors import DeskError
 from vaultdesk.owner import Owner
 
 
@@ -49,6 +53,29 @@ class ByTheDoor(ServedTest):
         self.done("release", "--case", "Miller 17", at=None)
         self.done("delete", "docs", "Zürich/1", "--version", "1", "--yes", at=None)
         self.assertEqual(self.call("get", "docs", "Zürich/1").status, 1)
+
+    def test_of_many_who_put_a_new_one_at_once_one_does(self) -> None:
+        self.serve()
+        words = argparse.Namespace(bucket="docs", key="a")
+
+        def put(number: int) -> int | None:
+            members = {"bucket": "docs", "key": "a", "text": f"by number {number // 2}"}
+            with Engine(Desk(PROGRAM, self.file, "ann")) as engine, contextlib.suppress(DeskError):
+                return documents._put_new(engine, words, members)
+            return None
+
+        with ThreadPoolExecutor(10) as pool:
+            done = list(pool.map(put, range(10)))
+        self.assertEqual(sorted(it for it in done if it is not None), [1])
+        self.assertEqual(len(json.loads(self.done("ls", "docs", "--json", at=None))), 1)
+
+    def test_a_new_one_above_a_put_that_came_in_between_is_said(self) -> None:
+        self.serve()
+        self.done("put", "docs", "a", self.written("a", b"first"), at=None)
+        with mock.patch("vaultdesk.documents._look_new"):
+            done = self.desk("put", "docs", "a", self.written("b", b"second"), "--new", at=None)
+        self.assertEqual((done.status, done.out), (1, "2\n"))
+        self.assertIn("version 1 of the key came at the same moment", done.err)
 
     def test_many_pages_of_a_list(self) -> None:
         self.lines(*({"do": "put", "bucket": "docs", "key": f"{it:04}", "text": "x"} for it in range(25)))

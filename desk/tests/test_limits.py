@@ -58,6 +58,32 @@ class Limits(OfficeTest):
         self.assertEqual(done.status, 1)
         self.assertIn("the settings have at most 10 years", done.out)
 
+    def test_a_document_without_an_end_has_the_default_or_is_reported(self) -> None:
+        words = ("put", "docs", "a", self.path)
+        for number, why in ((2, "has no default retention"), (3, "the settings have at least 2 years")):
+            done = self.desk(*words)
+            self.assertEqual((done.status, done.out), (1, f"{number}\n"))
+            self.assertIn(f"version {number} was put, and", done.err)
+            self.assertIn(why, done.err)
+            # The engine knows no limits: by its own line a default may be anything.
+            self.lines({"do": "set-default", "bucket": "docs", "mode": "GOVERNANCE", "days": 729})
+        self.done("default", "docs", "--years", "2")
+        self.assertEqual(self.done(*words), "4\n")
+        done = self.desk("default", "docs", "--none")
+        self.assertEqual((done.status, done.out), (2, ""))
+        self.assertIn("at least 2 years", done.err)
+        self.assertEqual(self.done("default", "docs"), "GOVERNANCE for 2 years\n")
+
+    def test_a_row_without_an_end_has_the_default_or_is_wrong(self) -> None:
+        words = ("deliver", str(self.folder / "scans"), "--bucket", "docs", "--batch", "b")
+        for why in ("has no default retention", "the settings have at least 2 years"):
+            done = self.desk(*words)
+            self.assertEqual(done.status, 1)
+            self.assertIn(why, done.out)
+            self.lines({"do": "set-default", "bucket": "docs", "mode": "GOVERNANCE", "days": 729})
+        self.done("default", "docs", "--days", "731")
+        self.assertEqual(self.desk(*words).status, 0)
+
     def test_another_bucket_has_none(self) -> None:
         self.lines({"do": "add-bucket", "as": "registrar", "bucket": "other", "dept": "records"})
         self.done("put", "other", "a", self.path, "--until", "2024-01-16")

@@ -20,12 +20,25 @@ class Locks(OfficeTest):
         [reply] = self.lines({"do": "get-hold", "bucket": "docs", "key": key}, at=LATER)
         return str(reply["ok"]["hold"])
 
+    def end(self, version: int) -> str | None:
+        """The end of the retention of a version of `2024/a`."""
+        place = {"bucket": "docs", "key": "2024/a", "id": version}
+        [reply] = self.lines({"do": "get-retention", **place}, at=LATER)
+        return reply["ok"]["retention"] and str(reply["ok"]["retention"]["until"])
+
     def test_a_hold_by_prefix_is_set_on_those_keys_alone(self) -> None:
         rows = json.loads(self.done("hold", "docs", "--prefix", "2024/", "--json"))
         wanted = [("2024/a", 1, "no retention, hold OFF", "no retention, hold ON"),
                   ("2024/b", 2, "no retention, hold OFF", "no retention, hold ON")]
         self.assertEqual([(it["key"], it["version"], it["was"], it["is"]) for it in rows], wanted)
         self.assertEqual([self.held(it) for it in ("2024/a", "2024/b", "2025/c")], ["ON", "ON", "OFF"])
+
+    def test_older_versions_are_meant_only_where_that_is_asked(self) -> None:
+        self.lines({"do": "put", "bucket": "docs", "key": "2024/a", "text": "newer"},
+                   {"do": "delete", "bucket": "docs", "key": "2024/b"})
+        for more, wanted in (((), [4]), (("--all-versions",), [4, 1, 2])):
+            rows = json.loads(self.done("hold", "docs", "--prefix", "2024/", "--json", *more))
+            self.assertEqual([it["version"] for it in rows], wanted)
 
     def test_release_says_what_it_was(self) -> None:
         self.done("hold", "docs", "2024/a")
@@ -95,7 +108,7 @@ class Locks(OfficeTest):
         self.done("retain", "docs", "2024/a", "--until", "2034-01-01", "--mode", "COMPLIANCE", "--dry-run")
         self.done("hold", "docs", "--prefix", "2024/", "--case", "Miller 17", "--dry-run")
         self.assertFalse((self.folder / "records.cases").exists())
-        self.assertEqual(self.held("2024/a"), "OFF")
+        self.assertEqual((self.held("2024/a"), self.end(1)), ("OFF", None))
         found = json.loads(self.done("ls", "docs", "--json"))
         self.assertEqual([it["version"] for it in found], [1, 2, 3])
 
@@ -114,9 +127,24 @@ class Locks(OfficeTest):
         self.assertEqual(done.status, 1)
         self.assertIn("retention-compliance", done.out)
 
+    def test_governance_gives_way_only_where_that_is_asked(self) -> None:
+        self.lines({"do": "put", "bucket": "docs", "key": "2024/a", "text": "newer"})
+        one = ("docs", "2024/a", "--version", "1")
+        self.done("retain", *one, "--until", "2034-01-01")
+        self.assertEqual((self.end(1), self.end(4)), ("2034-01-01T00:00:00Z", None))
+        for words in (("retain", *one, "--until", "2030-01-01"), ("delete", *one, "--yes")):
+            done = self.desk(*words)
+            self.assertEqual(done.status, 1)
+            self.assertIn("retention-governance", done.out)
+            self.assertEqual(self.end(1), "2034-01-01T00:00:00Z")
+        self.done("retain", *one, "--until", "2030-01-01", "--bypass")
+        self.assertEqual(self.end(1), "2030-01-01T00:00:00Z")
+        self.done("delete", *one, "--yes", "--bypass")
+
     def test_rm_marks_and_delete_removes(self) -> None:
         self.done("rm", "docs", "2024/a")
-        self.assertEqual(self.desk("delete", "docs", "2024/b").status, 2)
+        for words in (["2024/b", "--yes"], ["2024/b", "--version", "2"]):
+            self.assertEqual(self.desk("delete", "docs", *words).status, 2)
         self.done("delete", "docs", "2024/b", "--version", "2", "--yes")
         found = json.loads(self.done("ls", "docs", "--json"))
         self.assertEqual([(it["version"], it["kind"]) for it in found], [(4, "marker"), (1, "older"), (3, "current")])

@@ -18,7 +18,7 @@ from pathlib import Path
 from unittest import mock
 
 from tests.office import PROGRAM
-from tests.s3_office import ANN, BEA, SECRET, GatewayTest, read_replies, request
+from tests.s3_office import ANN, BEA, DATE, SECRET, GatewayTest, read_replies, request
 from vaultdesk import reading, ways
 from vaultdesk.errors import DeskError, EngineError
 from vaultdesk.s3 import again, server
@@ -371,6 +371,26 @@ class Heads(GatewayTest):
         outer = request("PUT", "/docs/a", hidden, {"x-amz-meta-a": "b"})
         self.assertEqual([it.status for it in self.send(outer)], [400])
         self.assertEqual(self.entries(), [])
+
+    def test_no_signature_is_in_the_log(self) -> None:
+        self.server.is_quiet = False
+        signature = "0123456789abcdef" * 4
+        target = f"/docs/a?X-Amz-Date={DATE}&X-Amz-Signature={signature}"
+        # What a browser asks before it puts by a presigned URL, a version that there isn't, and a URL that isn't taken.
+        asked = [f"OPTIONS {target} HTTP/1.1", f"PUT {target} HTTP/9.1", f"GET {target}&x=1 HTTP/1.1"]
+        with contextlib.redirect_stderr(io.StringIO()) as log:
+            for it in asked:
+                self.assertGreaterEqual(self.send(f"{it}\r\nhost: a\r\n\r\n".encode())[0].status, 400)
+        self.assertNotIn(signature, log.getvalue())
+        for it in asked:
+            self.assertIn(it.removesuffix(" HTTP/1.1").replace(signature, ".."), log.getvalue())
+
+    def test_the_log_says_who_asked_for_what(self) -> None:
+        self.server.is_quiet = False
+        with contextlib.redirect_stderr(io.StringIO()) as log:
+            self.refused("InvalidRequest", 400, self.ask("PUT", "/docs/a", b"x", {"x-amz-meta-a": "b"}, BEA))
+        self.assertIn(" bea PUT /docs/a 400 InvalidRequest\n", log.getvalue())
+        self.assertNotIn(SECRET, log.getvalue())
 
     def test_a_client_from_which_nothing_comes_is_left(self) -> None:
         with mock.patch.object(server.Handler, "timeout", 0.3):

@@ -183,6 +183,8 @@ class Lifecycle(GatewayTest):
             (b"<Days>30</Days>", b"<Days>0</Days>", "InvalidArgument"),
             (b"<Days>30</Days>", b"<ExpiredObjectDeleteMarker>yes</ExpiredObjectDeleteMarker>", "MalformedXML"),
             (b"<ID>old</ID>", b"<ID>rule-1</ID>", "InvalidArgument"),
+            (b"<NewerNoncurrentVersions>", b"<More/><NewerNoncurrentVersions>", "NotImplemented"),
+            (b"<Rule><ID>", b"<More/><Rule><ID>", "NotImplemented"),
         ):  # fmt: skip
             self.assertEqual(self.ask("PUT", "/docs?lifecycle", RULES.replace(old, new)).code, code, new)
         self.refused("NoSuchLifecycleConfiguration", 404, self.ask("GET", "/docs?lifecycle"))

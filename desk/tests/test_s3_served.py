@@ -12,11 +12,13 @@ from pathlib import Path
 from typing import Any
 from unittest import mock
 
-from tests.s3_office import NOW, GatewayTest
-from tests.served import started
-from vaultdesk import moments
+from tests.office import PROGRAM
+from tests.s3_office import CID, NOW, GatewayTest
+from tests.served import FalseServer, started
+from vaultdesk import moments, reading
 from vaultdesk.config import Desk
 from vaultdesk.engine import Engine
+from vaultdesk.errors import EngineError
 from vaultdesk.s3 import settings, words
 from vaultdesk.s3.door import Told
 from vaultdesk.s3.faults import Fault
@@ -88,17 +90,119 @@ class Served(GatewayTest):
         self.assertEqual(again.headers["x-amz-version-id"], first.headers["x-amz-version-id"])
         self.assertEqual(len(self.entries()), 1)
 
-    def test_the_buckets_are_those_of_the_vault_or_of_the_settings(self) -> None:
-        engine = Engine(Desk("vaultctl", self.file))
-        given = settings.Settings(str(self.file), self.keys)
-        self.assertEqual(words._has_default(engine, given), {"cases": False, "docs": False})
-        engine.close()
-        named = settings.Settings(str(self.folder / "none.vault"), self.keys, buckets=("docs",))
-        self.assertEqual(words._has_default(engine, named), {"docs": True})
+    def test_a_bucket_that_is_made_meanwhile_is_in_the_next_list(self) -> None:
+        self.assertEqual(self.done("GET", "/").all("Name"), ["docs"])
+        self.desk("buckets", "--add", "maps", "--department", "records", "--as", "registrar", at=None)
+        self.done("PUT", "/maps/a", b"hello")
+        self.assertEqual(self.done("GET", "/").all("Name"), ["docs", "maps"])
+        self.assertEqual(self.done("GET", "/", who=CID).all("Name"), ["cases"])
+
+
+class OwnBuckets(GatewayTest):
+    """The buckets of a vault that the gateway has to itself."""
+
+    def test_they_are_read_once_and_again_after_an_engine_that_ended(self) -> None:
+        with mock.patch("vaultdesk.reading.rows", side_effect=reading.rows) as read:
+            for _ in range(2):
+                self.assertEqual(self.done("GET", "/").all("Name"), ["docs"])
+            self.assertEqual(read.call_count, 1)
+        way = self.door.engine._way
+        assert isinstance(way, Replay) and way._child
+        way._child.kill()
+        way._child.wait()
+        self.lines({"do": "add-bucket", "as": "registrar", "bucket": "maps", "dept": "records"})
+        with contextlib.redirect_stderr(io.StringIO()):
+            self.refused("InternalError", 500, self.ask("GET", "/docs"))
+        self.assertEqual(self.done("GET", "/").all("Name"), ["docs", "maps"])
+
+    def test_those_without_a_default_retention_are_said(self) -> None:
+        self.stop()
+        self.assertEqual(words._unlocked(self.door.engine), ["cases", "docs"])
+        self.lines({"do": "set-default", "bucket": "docs", "mode": "GOVERNANCE", "days": 3})
+        self.assertEqual(words._unlocked(Engine(Desk(PROGRAM, self.file))), ["cases"])
+        self.start()
+        none = self.folder / "none.vault"
+        self.assertRaises(EngineError, words._unlocked, Engine(Desk(PROGRAM, none)))
+
+
+NAMES = [f"b{it:04}" for it in range(2_001)]
+
+
+class OfAServer(GatewayTest):
+    """What a server says of its buckets, and what it doesn't say."""
+
+    def make(self) -> None:
+        """Makes no vault: a false server answers."""
+
+    def start(self) -> None:
+        self.at = None
+        self.refusal: dict[str, object] | None = None
+        self.where = self.folder / "records.lines"
+        self.false = FalseServer(self.where, self.answer)
+        super().start()
+        self.door.admin = "chief"
+
+    def stop(self) -> None:
+        super().stop()
+        self.false.close()
+        self.where.unlink()
+
+    def answer(self, line: dict[str, Any]) -> dict[str, Any]:
+        """The reply of a server, of whose buckets each third is one of the caller's department."""
+        if line["do"] != "buckets":
+            is_own = int(line["bucket"][1:]) % 3 == 0
+            denied = {"code": "AccessDenied", "n": 1, "reason": "department"}
+            return {"ok": {"entries": [], "more": False}} if is_own else {"error": denied}
+        if self.refusal:
+            return {"error": self.refusal}
+        later = [it for it in NAMES if it > line.get("after", "")]
+        return {"ok": {"buckets": later[:1_000], "more": len(later) > 1_000}}
+
+    def test_they_come_page_after_page(self) -> None:
+        self.assertEqual(self.done("GET", "/").all("Name"), NAMES[::3])
+        asked = [it for it in self.false.lines if it["do"] == "buckets"]
+        self.assertEqual([it.get("after") for it in asked], [None, NAMES[999], NAMES[1_999]])
+        self.assertEqual({it["as"] for it in asked}, {"chief"})
+        self.assertEqual({it["as"] for it in self.false.lines if it["do"] != "buckets"}, {"ann"})
+
+    def test_who_may_not_ask_is_said_in_the_log_alone(self) -> None:
+        for refusal, said in (
+            ({"code": "MalformedBody", "n": 12}, "of an earlier version"),
+            ({"code": "AccessDenied", "n": 1, "reason": "right:admin"}, "chief can't ask which buckets there are"),
+            ({"code": "AccessDenied", "n": 1, "reason": "unknown-caller"}, "see admin in the settings"),
+        ):
+            self.refusal = refusal
+            with contextlib.redirect_stderr(io.StringIO()) as log:
+                reply = self.ask("GET", "/")
+            self.refused("InternalError", 500, reply)
+            self.assertIn(said, log.getvalue())
+            self.assertNotIn(b"chief", reply.body)
+        self.refusal = {"code": "Memory", "n": 22}
+        self.refused("SlowDown", 503, self.ask("GET", "/"))
+
+    def test_a_gateway_begins_with_a_server_of_its_version_alone(self) -> None:
+        text = f'vault = "{self.file}"\nkeys = "{self.keys}"\nport = 0\ndoor = "{self.where}"\nadmin = "chief"\n'
+        given = self.written("s3.toml", text.encode())
+        for refusal, said in (
+            ({"code": "MalformedBody", "n": 12}, "by the program of this version"),
+            ({"code": "AccessDenied", "n": 1, "reason": "right:admin"}, "right admin"),
+        ):
+            self.refusal = refusal
+            done = self.desk("s3", "serve", "--settings", given, at=None)
+            self.assertEqual((done.status, done.out), (1, ""))
+            self.assertIn(said, done.err)
+
+    def test_a_file_that_cant_be_read_keeps_no_gateway_from_serving(self) -> None:
+        engine = Engine(Desk(PROGRAM, self.folder / "none.vault", None, str(self.where)))
+        with contextlib.redirect_stderr(io.StringIO()) as log:
+            self.assertEqual(words._unlocked(engine), [])
+        self.assertIn("it isn't known which buckets have no default retention", log.getvalue())
 
 
 class Settings(GatewayTest):
-    def test_a_door_and_buckets_are_read(self) -> None:
-        text = f'vault = "v"\nkeys = "{self.keys}"\ndoor = "/run/x"\nbuckets = ["docs"]\n'
+    def test_a_door_and_who_asks_there_are_read(self) -> None:
+        text = f'vault = "v"\nkeys = "{self.keys}"\n'
         given = settings.read(Path(self.written("s3.toml", text.encode())))
-        self.assertEqual((given.door, given.buckets), ("/run/x", ("docs",)))
+        self.assertEqual((given.door, given.admin), (None, "registrar"))
+        given = settings.read(Path(self.written("s3.toml", f'{text}door = "/run/x"\nadmin = "chief"\n'.encode())))
+        self.assertEqual((given.door, given.admin), ("/run/x", "chief"))

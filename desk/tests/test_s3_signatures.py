@@ -48,6 +48,30 @@ def signed_by(headers: str, signed: str) -> str:
     return f"AWS4-HMAC-SHA256 Credential={EXAMPLE_SCOPE},SignedHeaders={headers},Signature={signed}"
 
 
+def by_hand(names: str, day: str = DATE[:8]) -> bytes:
+    """A put whose signature is of these headers alone, by the key of that day."""
+    digest = "2cf24dba5fb0a30e26e83b2ac5b9e29e1b161e5c1fa7425e73043362938b9824"
+    values = {"host": "vault", "x-amz-content-sha256": digest, "x-amz-date": DATE}
+    canonical = ["PUT", "/docs/a", "", *[f"{it}:{values[it]}" for it in names.split(";")], "", names, digest]
+    scope = f"{day}/us-east-1/s3/aws4_request"
+    lines = ["AWS4-HMAC-SHA256", DATE, scope, hashlib.sha256("\n".join(canonical).encode()).hexdigest()]
+    who = f"Credential={ANN}/{scope}, SignedHeaders={names}, Signature={signature(lines, day=day)}"
+    head = [f"{name}: {value}" for name, value in values.items()]
+    head += ["content-length: 5", f"authorization: AWS4-HMAC-SHA256 {who}"]
+    return "\r\n".join(["PUT /docs/a HTTP/1.1", *head, "", "hello"]).encode()
+
+
+def presigned(target: str, seconds: int) -> bytes:
+    """A request by a presigned URL that is good for that number of seconds."""
+    scope = f"{DATE[:8]}/us-east-1/s3/aws4_request"
+    given = {"Algorithm": "AWS4-HMAC-SHA256", "Credential": f"{ANN}/{scope}".replace("/", "%2F"), "Date": DATE,
+             "Expires": str(seconds), "SignedHeaders": "host"}
+    query = "&".join(f"X-Amz-{name}={value}" for name, value in given.items())
+    canonical = ["GET", target, query, "host:vault", "", "host", "UNSIGNED-PAYLOAD"]
+    lines = ["AWS4-HMAC-SHA256", DATE, scope, hashlib.sha256("\n".join(canonical).encode()).hexdigest()]
+    return f"GET {target}?{query}&X-Amz-Signature={signature(lines)} HTTP/1.1\r\nhost: vault\r\n\r\n".encode()
+
+
 class Published(unittest.TestCase):
     """AWS's own examples come out."""
 
@@ -139,6 +163,12 @@ class Kept(GatewayTest):
         self.refused("AccessDenied", 403, self.send(self.kept("boto3-presigned-put"))[0])
         self.assertEqual([it["key"] for it in self.entries()], ["presigned"])
 
+    def test_a_presigned_url_is_good_for_seven_days_at_most(self) -> None:
+        for seconds, status in ((604_800, 200), (604_801, 400), (0, 400)):
+            reply = self.send(presigned("/docs", seconds))[0]
+            self.assertEqual(reply.status, status, seconds)
+            self.assertIn(reply.code, ("", "AuthorizationQueryParametersError"))
+
     def test_signatures_of_version_2_are_refused(self) -> None:
         for name in ("boto3-sigv2", "boto3-sigv2-url"):
             self.refused("InvalidRequest", 400, self.send(self.kept(name))[0])
@@ -221,19 +251,21 @@ class Refused(GatewayTest):
             self.refused("SignatureDoesNotMatch", 403, self.send(raw)[0])
 
     def test_the_host_has_to_be_signed(self) -> None:
-        digest = "2cf24dba5fb0a30e26e83b2ac5b9e29e1b161e5c1fa7425e73043362938b9824"
-        names = "x-amz-content-sha256;x-amz-date"
-        canonical = ["PUT", "/docs/a", "", f"x-amz-content-sha256:{digest}", f"x-amz-date:{DATE}", "", names, digest]
-        scope = f"{DATE[:8]}/us-east-1/s3/aws4_request"
-        lines = ["AWS4-HMAC-SHA256", DATE, scope, hashlib.sha256("\n".join(canonical).encode()).hexdigest()]
-        who = f"Credential={ANN}/{scope}, SignedHeaders={names}, Signature={signature(lines)}"
-        raw = (
-            f"PUT /docs/a HTTP/1.1\r\nhost: vault\r\nx-amz-date: {DATE}\r\nx-amz-content-sha256: {digest}\r\n"
-            f"content-length: 5\r\nauthorization: AWS4-HMAC-SHA256 {who}\r\n\r\nhello"
-        )
-        reply = self.send(raw.encode())[0]
+        reply = self.send(by_hand("x-amz-content-sha256;x-amz-date"))[0]
         self.refused("AccessDenied", 403, reply)
         self.assertIn(b"host", reply.body)
+
+    def test_the_day_of_the_credential_is_that_of_the_request(self) -> None:
+        reply = self.send(by_hand("host;x-amz-content-sha256;x-amz-date", "20261127"))[0]
+        self.refused("AccessDenied", 403, reply)
+        self.assertIn(b"the day of the credential", reply.body)
+
+    def test_what_is_said_of_the_body_has_to_be_there(self) -> None:
+        self.refused("InvalidRequest", 400, self.send(self.put(x_amz_content_sha256=""))[0])
+
+    def test_one_signature_alone(self) -> None:
+        twice = request("PUT", f"/docs/a?X-Amz-Signature={'0' * 64}", b"hello")
+        self.refused("InvalidArgument", 400, self.send(twice)[0])
 
     def test_presigned_urls_where_they_arent_taken(self) -> None:
         reply = self.send(self.kept("boto3-presigned-put"))[0]

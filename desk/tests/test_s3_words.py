@@ -7,7 +7,7 @@ import unittest.mock
 from pathlib import Path
 
 from tests.office import OfficeTest
-from vaultdesk.s3 import keys
+from vaultdesk.s3 import keys, settings
 
 
 class Keys(OfficeTest):
@@ -90,11 +90,15 @@ class Settings(OfficeTest):
                 self.refused(text, said)
         self.assertEqual(self.desk("s3", "serve", "--settings", str(Path("/nowhere/s3.toml")), at=None).status, 2)
 
+    def test_what_is_left_out_is_the_careful_choice(self) -> None:
+        given = settings.read(Path(self.written("s3.toml", b'vault = "v"\nkeys = "k"\n')))
+        self.assertEqual((given.address, given.presigned, given.dropped_metadata), ("127.0.0.1", False, frozenset()))
+
     def test_a_vault_that_isnt_there(self) -> None:
         path = self.folder / "keys.toml"
         path.write_text("")
         path.chmod(0o600)
-        settings = self.written("s3.toml", f'vault = "{self.folder}/none"\nkeys = "{path}"\n'.encode())
-        done = self.desk("s3", "serve", "--settings", settings, at=None)
+        given = self.written("s3.toml", f'vault = "{self.folder}/none"\nkeys = "{path}"\n'.encode())
+        done = self.desk("s3", "serve", "--settings", given, at=None)
         self.assertEqual(done.status, 1)
         self.assertIn("no such file", done.err)

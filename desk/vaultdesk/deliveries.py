@@ -9,15 +9,15 @@ from collections.abc import Iterator, Mapping, Sequence
 from pathlib import Path
 from typing import Any
 
-from vaultdesk import inventory, moments, reading
+from vaultdesk import inventory, limits, moments, reading
 from vaultdesk.asking import add_yes, confirm
 from vaultdesk.documents import read_content
 from vaultdesk.engine import Engine
 from vaultdesk.errors import DeskError, EngineError, Refused, UsageError
 from vaultdesk.intake import Intake, results, taken_in
 from vaultdesk.items import (
-    Item, files_of, item_of, look_at_doubles, look_at_file, look_at_keys, look_at_limits, look_at_words, names_of,
-    read_classes, skip_doubles,
+    Item, files_of, item_of, look_at_default, look_at_doubles, look_at_file, look_at_keys, look_at_limits,
+    look_at_words, names_of, read_classes, skip_doubles,
 )  # fmt: skip
 from vaultdesk.output import counted_off, print_json, print_table, say
 
@@ -46,9 +46,20 @@ def _look_at_vault(engine: Engine, words: argparse.Namespace, items: Sequence[It
     if known:
         say(f"batch {words.batch!r} is known: {known[0]} of its lines were taken in before")
     look_at_doubles(items, held)
+    look_at_default(items, _why_default(engine, file, words.bucket))
     if not known:
         look_at_keys(items, frozenset(it["key"] for it in there if it["bucket"] == words.bucket))
     return bool(known)
+
+
+def _why_default(engine: Engine, file: Path, bucket: str) -> str:
+    """Why the bucket's default retention isn't one by the settings; empty where it is, or they have no limits of it."""
+    if not limits.are_of(engine.desk.limits, bucket):
+        return ""
+    found = reading.rows(file, "SELECT days, years FROM buckets WHERE name = ? AND mode <> 0", (bucket,))
+    now = engine.at or moments.now()
+    ends = [limits.Period(*((years, "year") if days is None else (days, "day"))).after(now) for days, years in found]
+    return limits.why_not_kept(engine.desk.limits, bucket, ends[0] if ends else None, now)
 
 
 def _query_found(file: Path, bucket: str | None) -> list[Row]:

@@ -5,9 +5,10 @@ from __future__ import annotations
 import argparse
 import base64
 import hashlib
+import json
 import os
 import sys
-from collections.abc import Callable
+from collections.abc import Callable, Mapping
 from pathlib import Path
 from typing import Any
 
@@ -59,6 +60,30 @@ def _look_new(engine: Engine, words: argparse.Namespace) -> None:
     raise DeskError(f"{there}: nothing was put; without --new the content becomes one more version")
 
 
+def _turn(key: str, number: int) -> str:
+    """The name of the batch whose one line is put by the one who is first to put the key as new for that time."""
+    return f"new-{hashlib.sha256(json.dumps([number, key]).encode()).hexdigest()[:40]}"
+
+
+def _put_new(engine: Engine, words: argparse.Namespace, members: Mapping[str, Any]) -> int:
+    """Puts a version where nothing is held under the key, and returns its number. `DeskError` where something is.
+
+    A look and a put are two lines, and a server answers others in between. But it takes a line of a batch in once: so
+    of those who find nothing, and put the key as line 1 of the same batch, one is let in, and the others look again."""
+    number = 0
+    while True:
+        _look_new(engine, words)
+        try:
+            done = engine.ask("intake", batch=_turn(words.key, number), line=1, **members)
+        except Refused as error:
+            if error.code != "IntakeConflict":
+                raise
+        else:
+            if not done["again"]:
+                return int(done["version_id"])
+        number += 1
+
+
 def _below(engine: Engine, words: argparse.Namespace, version: int) -> int | None:
     """The version that was current as that one came, if one was."""
     there = [it for it in engine.entries(words.bucket, words.key) if it["key"] == words.key]
@@ -67,7 +92,7 @@ def _below(engine: Engine, words: argparse.Namespace, version: int) -> int | Non
 
 
 def _look_still_new(engine: Engine, words: argparse.Namespace, version: int) -> None:
-    """`DeskError` where another put came in between, which a server allows."""
+    """`DeskError` where somebody put the key in between, and not as new, which a server allows."""
     below = _below(engine, words, version) if engine.is_served else None
     if below is not None:
         why = f"version {below} of the key came at the same moment, by somebody else"
@@ -83,18 +108,15 @@ def put(engine: Engine, words: argparse.Namespace) -> None:
         limits.look(engine.desk.limits, words.bucket, until, now)
     if until and moments.is_far(until, now):
         confirm(words, f"the retention ends in more than {moments.FAR} years, at {until}")
-    if words.new:
-        _look_new(engine, words)
-    done = engine.ask(
-        "put",
-        bucket=words.bucket,
-        key=words.key,
-        hex=content.hex(),
-        mode=words.mode if until else None,
-        until=until,
-        hold="ON" if words.hold else None,
-    )
-    version = int(done["version_id"])
+    members = {
+        "bucket": words.bucket,
+        "key": words.key,
+        "hex": content.hex(),
+        "mode": words.mode if until else None,
+        "until": until,
+        "hold": "ON" if words.hold else None,
+    }
+    version = _put_new(engine, words, members) if words.new else int(engine.ask("put", **members)["version_id"])
     if words.json:
         place = {"version": version, "bucket": words.bucket, "key": words.key}
         print_json({**place, "size": len(content), "sha256": hashlib.sha256(content).hexdigest()})
@@ -102,6 +124,20 @@ def put(engine: Engine, words: argparse.Namespace) -> None:
         print(version)
     if words.new:
         _look_still_new(engine, words, version)
+    if not until:
+        _look_kept(engine, words, version, now)
+
+
+def _look_kept(engine: Engine, words: argparse.Namespace, version: int, now: str) -> None:
+    """`DeskError` where a version that was put without an end isn't kept as long as the settings have for the bucket.
+
+    It takes the bucket's default retention, which a caller may set and not see: so the version is looked at."""
+    if not limits.are_of(engine.desk.limits, words.bucket):
+        return
+    retention = engine.ask("head", bucket=words.bucket, key=words.key, id=version)["retention"]
+    why = limits.why_not_kept(engine.desk.limits, words.bucket, retention and retention["until"], now)
+    if why:
+        raise DeskError(f"version {version} was put, and {why}: set its retention by vaultdesk retain")
 
 
 def checked_content(found: dict[str, Any]) -> bytes:

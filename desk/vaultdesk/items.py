@@ -126,6 +126,13 @@ def look_at_limits(it: Item, given: Limits, bucket: str, now: str) -> None:
         it.wrong.append(why)
 
 
+def look_at_default(items: Sequence[Item], why: str) -> None:
+    """What is wrong with items that take the bucket's default retention, where that isn't one for the bucket."""
+    for it in items:
+        if why and not it.until:
+            it.wrong.append(why)
+
+
 def look_at_file(it: Item, folder: Path, names: Mapping[str, str]) -> None:
     """What is wrong with an item's file; its digest where nothing is."""
     if it.file.startswith("/") or not {"", ".", ".."}.isdisjoint(it.file.split("/")):

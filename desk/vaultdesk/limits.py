@@ -71,6 +71,22 @@ def why_outside(limits: Limits, bucket: str, until: str, now: str) -> str:
     return ""
 
 
+def are_of(limits: Limits, bucket: str) -> bool:
+    """Whether a bucket has limits."""
+    return bucket in limits.least or bucket in limits.greatest
+
+
+def why_not_kept(limits: Limits, bucket: str, until: str | None, now: str) -> str:
+    """Why the retention of a version that was put without an end isn't one for the bucket; empty where it is.
+
+    It ends at that moment, or is none where the bucket has no default."""
+    if until is not None:
+        return why_outside(limits, bucket, until, now)
+    if bucket in limits.least:
+        return f"the settings have at least {limits.least[bucket]} for {bucket}, which has no default retention"
+    return ""
+
+
 def look(limits: Limits, bucket: str, until: str, now: str) -> None:
     """`UsageError` where a retention up to that moment isn't one for the bucket."""
     why = why_outside(limits, bucket, until, now)

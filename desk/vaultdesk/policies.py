@@ -32,9 +32,17 @@ def _look_period(engine: Engine, words: argparse.Namespace) -> None:
     limits.look(engine.desk.limits, words.bucket, limits.Period(count, unit).after(now), now)
 
 
+def _look_none(engine: Engine, words: argparse.Namespace) -> None:
+    """`UsageError` where the settings have a shortest retention for the bucket."""
+    why = limits.why_not_kept(engine.desk.limits, words.bucket, None, engine.at or moments.now())
+    if why:
+        raise UsageError(f"without one, {why}: nothing was changed")
+
+
 def default(engine: Engine, words: argparse.Namespace) -> None:
     """Sets, clears or prints the retention that later versions of a bucket get."""
     if words.none:
+        _look_none(engine, words)
         engine.ask("set-default", bucket=words.bucket)
     elif words.years is not None or words.days is not None:
         _look_period(engine, words)

@@ -1,5 +1,5 @@
 -- A schema that begins with a vault's tables.
-use Rattle.std.proofs.Common.{◌≡◌, ◌+◌, List, ◌++◌, take, drop, sym, ap, subst, ◌∙◌, take-append-drop}
+use Rattle.std.proofs.Common.{◌+◌, List, ◌++◌, take, drop, sym, ap, subst, ◌∙◌, take-append-drop}
 use Rattle.sqlite.specs.Schema.{Schema}
 use Rattle.sqlite.specs.Table.{Table as Made}
 use Rattle.vault_base.specs.declared.refusal.Table.{Table}

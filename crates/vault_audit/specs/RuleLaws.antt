@@ -1,6 +1,6 @@
 -- What the query for all rows of rules shows, and what they have to be.
 use Rattle.std.specs.Prelude.{⊤}
-use Rattle.std.proofs.Common.{◌≡◌, List, [], map, false, refl, arith}
+use Rattle.std.proofs.Common.{[], map, false, refl, arith}
 use Rattle.sqlite_tied.specs.Compute.{everything}
 use Rattle.sqlite.specs.Effect.{Database}
 use Rattle.sqlite.specs.Listing.{understood}

@@ -1,1 +1,2 @@
+mod BucketsLemmas
 mod StatusLemmas

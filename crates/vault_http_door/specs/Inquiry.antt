@@ -1,41 +1,66 @@
 -- What a line asks about a vault that is no command; the clock's reading is put to it.
-use Rattle.std.specs.Prelude.{ℕ, ◌&&◌, nat_lt, List, [], ◌∷◌, length, codes, if◌then◌else◌, Option, Result, Ok, Err}
+use Rattle.std.specs.Prelude.{ℕ, ◌&&◌, nat_lt, List, [], ◌∷◌, length, codes, if◌then◌else◌, Option, unwrap_or, Result, Ok, Err}
 use Rattle.std.specs.Str.{bytes_eq}
 use Rattle.serde_json.specs.Data.{Data}
 use Rattle.vault_base.specs.declared.refusal.Refusal.{Refusal}
 use Rattle.vault_base.specs.declared.refusal.Refusal.TheVariants.{MalformedBody}
 use Rattle.vault_http_values.specs.Document.{document_of}
-use Rattle.vault_http_values.specs.Members.{text_of}
+use Rattle.vault_http_values.specs.Members.{optional_text_of, text_of}
 use Rattle.vault_http_values.specs.Shape.{has_members}
 use Rattle.vault_http_values.specs.Values.{asker_of}
 use Rattle.vault_http_values.specs.declared.shape.Kind.{Kind}
-use Rattle.vault_http_values.specs.declared.shape.Kind.TheVariants.{Text}
+use Rattle.vault_http_values.specs.declared.shape.Kind.TheVariants.{OptionalText, Text}
 use Rattle.vault_values.specs.Fault.{◌>>=◌}
 use Rattle.vault_http_lines.specs.ReadLine.{without_cr}
 use Rattle.vault_http_lines.specs.Stamped.{clock_of}
 use Rattle.vault_http_door.specs.declared.inquiry.About.{About}
 use Rattle.vault_http_door.specs.declared.inquiry.About.TheVariants as about
 use Rattle.vault_http_door.specs.declared.inquiry.Inquiry.{Inquiry}
+use Rattle.vault_http_door.specs.declared.inquiry.Shape.{Shape}
+use Rattle.vault_http_door.specs.declared.inquiry.Shape.TheVariants as shape
 
 -- the members of the line that asks how things are: the caller who asks, and `do`
 abbrev pub status_members : List (List ℕ × Kind)
 status_members = (codes "as", Text) ∷ (codes "do", Text) ∷ []
 
--- what the line of that `do` asks about, if the value is an object of just its members
-abbrev pub about_named : List ℕ → Data → Result About Refusal
-about_named name d = if bytes_eq name (codes "status") && has_members status_members d then Ok about.Status else Err MalformedBody
+-- the members of the line that asks for the names of buckets: these, and the text after which they come
+abbrev pub buckets_members : List (List ℕ × Kind)
+buckets_members = (codes "as", Text) ∷ (codes "do", Text) ∷ (codes "after", OptionalText) ∷ []
 
-unfoldable pub about_of : Data → Result About Refusal
-about_of d = do
+-- the shape of the line of that `do`, if the value is an object of just its members
+abbrev pub shape_named : List ℕ → Data → Result Shape Refusal
+shape_named name d =
+    if bytes_eq name (codes "status") && has_members status_members d then Ok shape.Status
+    else if bytes_eq name (codes "buckets") && has_members buckets_members d then Ok shape.Buckets
+    else Err MalformedBody
+
+unfoldable pub shape_of : Data → Result Shape Refusal
+shape_of d = do
   name ← text_of (codes "do") d
-  about_named name d
+  shape_named name d
 
--- the shape, then the clock, and the caller who asks
+-- the text after which names come; the empty one where none is given
+unfoldable pub text_after_of : Data → Result (List ℕ) Refusal
+text_after_of d = do
+  text ← optional_text_of (codes "after") d
+  Ok (unwrap_or text [])
+
+unfoldable pub buckets_of : Data → Result About Refusal
+buckets_of d = do
+  after ← text_after_of d
+  Ok (about.Buckets after)
+
+abbrev pub about_of : Shape → Data → Result About Refusal
+about_of shape.Status d = Ok about.Status
+about_of shape.Buckets d = buckets_of d
+
+-- the shape, then the clock, the caller who asks, and what else the line says
 unfoldable pub asked_of : Option ℕ → Data → Result Inquiry Refusal
 asked_of moment d = do
-  about ← about_of d
+  shape ← shape_of d
   at ← clock_of moment
   who ← asker_of d
+  about ← about_of shape d
   Ok (record { at = at; who = who; about = about })
 
 unfoldable pub document_asked_of : Option ℕ → List ℕ → Result Inquiry Refusal

@@ -1,2 +1,3 @@
+pub mod BucketsLine
 pub mod Inquiry
 pub mod StatusLine

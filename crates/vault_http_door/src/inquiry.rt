@@ -1,19 +1,20 @@
 //! Lines that ask about a vault, read.
 ghost use Rattle.serde_json.specs.View.{view};
-ghost use Rattle.std.specs.Prelude.{◌≡◌};
+ghost use Rattle.std.specs.Prelude.{◌≡◌, IfOk};
 ghost use Rattle.vault_values.specs.Fault.{Gives};
 ghost use Rattle.vault_http_lines.specs.ReadLine.{without_cr};
 ghost use Rattle.vault_http_lines.specs.Stamped.{clock_of};
 ghost use Rattle.vault_http_door.specs.Inquiry as spec;
 
 use serde_json::Value;
-use std::alloc::Global;
+use std::alloc::{AllocError, Global};
+use std::marker::Model;
 use vault_base::moment::Moment;
 use vault_base::name::CallerName;
 use vault_base::refusal::Refusal;
 use vault_http_lines::read_line::LONGEST_LINE;
 use vault_http_values::document::document;
-use vault_http_values::members::text_of;
+use vault_http_values::members::{optional_text_of, text_of};
 use vault_http_values::shape::{Kind, has_members};
 use vault_http_values::values::asker;
 use vault_values::fault::LineFault;
@@ -27,32 +28,112 @@ pub struct Inquiry {
 }
 
 /// What is asked about.
-#[derive(Clone, Copy, Debug, PartialEq, Eq)]
+#[derive(Drop)]
 pub enum About {
     /// How the vault and its server are.
     Status,
+    /// The names of buckets after that text.
+    Buckets(After),
+}
+
+/// A text after which names come.
+#[derive(Drop)]
+pub struct After {
+    text: String,
+}
+
+impl Model for After {
+    ghost use Rattle.std.specs.Prelude.{ℕ, List};
+    ghost use Rattle.std.specs.String.{string_bytes};
+
+    ghost Value = { List ℕ };
+
+    ghost view = { λ a. string_bytes a.text };
+}
+
+impl After {
+    /// The names after that text, of which each comes after the empty one. The error is want of memory.
+    pub fn new(alloc: Global, text: &str) -> Result<After, AllocError>
+        ensures { IfOk result (λ after. after ≡ text.now) }
+    {
+        Ok(After {
+            text: String::from_str(alloc, text)?,
+        })
+    }
+
+    /// The text.
+    pub fn as_str(&self) -> &str
+        ensures { result.now ≡ self.now }
+    {
+        self.text.as_str()
+    }
+}
+
+/// The shape of a line that asks about a vault.
+#[derive(Clone, Copy, Debug, PartialEq, Eq)]
+pub enum Shape {
+    Status,
+    Buckets,
 }
 
 /// The members of the line that asks how things are: the caller who asks, and `do`.
 const STATUS: [(&str, Kind); 2] = [("as", Kind::Text), ("do", Kind::Text)];
 
-/// What the line of that `do` asks about, where the value has the shape of that line.
-fn about_named(name: &str, value: &Value) -> Result<About, LineFault>
-    ensures { Gives (λ x. x) result (spec.about_named name.now (view value.now)) }
+/// The members of the line that asks for the names of buckets: these, and the text after which they come.
+const BUCKETS: [(&str, Kind); 3] = [
+    ("as", Kind::Text),
+    ("do", Kind::Text),
+    ("after", Kind::OptionalText),
+];
+
+/// The shape of the line of that `do`, where the value has it.
+fn shape_named(name: &str, value: &Value) -> Result<Shape, LineFault>
+    ensures { Gives (λ x. x) result (spec.shape_named name.now (view value.now)) }
 {
     if name == "status" && has_members(value, &STATUS) {
-        Ok(About::Status)
+        Ok(Shape::Status)
+    } else if name == "buckets" && has_members(value, &BUCKETS) {
+        Ok(Shape::Buckets)
     } else {
         Err(LineFault::Refused(Refusal::MalformedBody))
     }
 }
 
-#[tactic(auto, unfolding(crate::specs::Inquiry::about_of))]
-fn asked_about(value: &Value) -> Result<About, LineFault>
-    ensures { Gives (λ x. x) result (spec.about_of (view value.now)) }
+#[tactic(auto, unfolding(crate::specs::Inquiry::shape_of))]
+fn asked_shape(value: &Value) -> Result<Shape, LineFault>
+    ensures { Gives (λ x. x) result (spec.shape_of (view value.now)) }
 {
     let name = text_of("do", value)?;
-    about_named(name, value)
+    shape_named(name, value)
+}
+
+/// The text after which names come; the empty one where none is given.
+#[tactic(auto, unfolding(crate::specs::Inquiry::text_after_of))]
+fn text_after(alloc: Global, value: &Value) -> Result<After, LineFault>
+    ensures { Gives (λ x. x) result (spec.text_after_of (view value.now)) }
+{
+    let Some(text) = optional_text_of("after", value)? else {
+        return Ok(After::new(alloc, "")?);
+    };
+    Ok(After::new(alloc, text)?)
+}
+
+#[tactic(auto, unfolding(crate::specs::Inquiry::buckets_of))]
+fn buckets(alloc: Global, value: &Value) -> Result<About, LineFault>
+    ensures { Gives (λ x. x) result (spec.buckets_of (view value.now)) }
+{
+    let after = text_after(alloc, value)?;
+    Ok(About::Buckets(after))
+}
+
+/// What a line of that shape asks about.
+fn asked_about(alloc: Global, shape: Shape, value: &Value) -> Result<About, LineFault>
+    ensures { Gives (λ x. x) result (spec.about_of shape (view value.now)) }
+{
+    match shape {
+        Shape::Status => Ok(About::Status),
+        Shape::Buckets => buckets(alloc, value),
+    }
 }
 
 /// The moment that the clock shows.
@@ -69,9 +150,10 @@ fn shown(moment: Option<Moment>) -> Result<Moment, LineFault>
 fn asked(alloc: Global, value: &Value, moment: Option<Moment>) -> Result<Inquiry, LineFault>
     ensures { Gives (λ x. x) result (spec.asked_of moment (view value.now)) }
 {
-    let about = asked_about(value)?;
+    let shape = asked_shape(value)?;
     let at = shown(moment)?;
     let who = asker(alloc, value)?;
+    let about = asked_about(alloc, shape, value)?;
     Ok(Inquiry { at, who, about })
 }
 

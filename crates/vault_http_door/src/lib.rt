@@ -2,5 +2,6 @@
 //! answered.
 #![tactic(auto)]
 
+pub mod buckets_line;
 pub mod inquiry;
 pub mod status_line;

@@ -58,7 +58,7 @@ fn status_value(alloc: Global, version: &str, status: &Status) -> Result<Value, 
     status_members(alloc, version, status, last.as_str(), &since)
 }
 
-fn ok_value(alloc: Global, value: &Value) -> Result<Value, AllocError>
+pub(crate) fn ok_value(alloc: Global, value: &Value) -> Result<Value, AllocError>
     ensures { IfOk result (λ made. view made ≡ spec.ok_value (view value.now)) }
 {
     json!(in alloc; { "ok": value })

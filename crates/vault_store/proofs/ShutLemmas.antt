@@ -1,5 +1,5 @@
 -- What the text means by which a connection is asked whether it is open.
-use Rattle.std.proofs.Common.{◌≡◌, ℕ, List, [], ◌∷◌, codes, false, refl, arith}
+use Rattle.std.proofs.Common.{◌≡◌, ℕ, List, [], codes, false, refl, arith}
 use Rattle.sqlite_tied.specs.Compute.{everything}
 use Rattle.sqlite.specs.Given.{IsPlain}
 use Rattle.sqlite.specs.Listing.{understood, reads_listing}

@@ -49,8 +49,8 @@ use vault_store_reads::names::{has_department, read_bucket, read_caller, read_to
 use vault_store_reads::notes::read_note;
 use vault_store_reads::removed::walk_removed;
 use vault_store_reads::rows_in_order::reads::{
-    read_bucket_held, read_entries, read_keys, read_rules, read_setting, read_settings,
-    read_tenures,
+    read_bucket_held, read_buckets, read_entries, read_ids, read_keys, read_rules, read_setting,
+    read_settings, read_tenures,
 };
 use vault_tally::row::Row;
 
@@ -260,7 +260,7 @@ impl<S: Alter> Kept for SqlKeeper<S> {
 
 impl<S: Alter> Keeper for SqlKeeper<S> {
     ghost use Rattle.vault_core_model.specs.Handing.{Hands};
-    ghost use Rattle.vault_core_model.specs.Reads.{content_of, entries_of, entry_of, head_of, keys_after, removed_entries, setting_of, settings_of, tenures_of};
+    ghost use Rattle.vault_core_model.specs.Reads.{buckets_after, content_of, entries_of, entry_of, head_of, ids_before, keys_after, removed_entries, setting_of, settings_of, tenures_of};
     ghost use Rattle.vault_core_model.specs.Totals.{IsRowFor, bucket_bytes, bucket_weight};
     ghost use Rattle.vault_core_model.specs.Vault.{caller_of, config_of, has_department, next_id, note_of, rules_of};
     ghost use Rattle.vault_store.specs.ReadsAs.{ReadsAs};
@@ -413,6 +413,34 @@ impl<S: Alter> Keeper for SqlKeeper<S> {
     {
         self.check_open()?;
         match read_keys(&mut self.conn, self.alloc, bucket, after, most) {
+            Ok(found) => Ok(found),
+            Err(error) => Err(self.blamed.blame(error)),
+        }
+    }
+
+    fn ids(
+        &mut self,
+        bucket: &BucketName,
+        key: &ObjectKey,
+        than: Option<VersionId>,
+        most: u32,
+    ) -> Result<Vec<VersionId>, Fault>
+        ensures value { HasCleanDisk (state S.Store self.new.conn) → IfOk result (λ ids. ids.items ≡ ids_before (vault_of S.Store self.old) bucket.now key.now than most) }
+        ensures read { ReadsAs S.Store self.old self.new result }
+    {
+        self.check_open()?;
+        match read_ids(&mut self.conn, self.alloc, bucket, key, than, most) {
+            Ok(found) => Ok(found),
+            Err(error) => Err(self.blamed.blame(error)),
+        }
+    }
+
+    fn buckets(&mut self, after: &str, most: u32) -> Result<Vec<BucketName>, Fault>
+        ensures value { HasCleanDisk (state S.Store self.new.conn) → IfOk result (λ names. names.items ≡ buckets_after (vault_of S.Store self.old) after.now most) }
+        ensures read { ReadsAs S.Store self.old self.new result }
+    {
+        self.check_open()?;
+        match read_buckets(&mut self.conn, self.alloc, after, most) {
             Ok(found) => Ok(found),
             Err(error) => Err(self.blamed.blame(error)),
         }

@@ -1,13 +1,13 @@
 -- A store that works refuses the statements that put the first rows for want of memory alone.
-use Rattle.std.proofs.Common.{◌≡◌, ◌≢◌, ◌==◌, ◌&&◌, ◌||◌, inl, inr, ℕ, ◌≤◌, pos, zero, suc, List, [], ◌∷◌, ◌++◌, length, map, drop, codes, not, Bool, true, false, None, Some, Option, Ok, Err, Result, IfErr, IsSome, if◌then◌else◌, lit≤, length-append, refl, sym, ap, subst, ◌∙◌, arith, rules}
-use Rattle.std.specs.List.{AllByRecursion, list_any, list_all}
+use Rattle.std.proofs.Common.{◌≡◌, ◌≢◌, ◌==◌, ◌&&◌, ◌||◌, inl, inr, ℕ, pos, zero, suc, List, [], ◌∷◌, length, map, drop, codes, not, Bool, true, false, None, Some, Option, Ok, Err, Result, IfErr, IsSome, if◌then◌else◌, lit≤, length-append, refl, sym, ap, subst, ◌∙◌, arith}
+use Rattle.std.specs.List.{AllByRecursion, list_all}
 use Rattle.std.specs.Int.{bit_at}
 use Rattle.std.specs.Float.{NotNan}
 use Rattle.std.proofs.lemmas.List.Elements.{All-from_recursion}
 use Rattle.std.proofs.lemmas.Nat.Bits.{bit_at-zero}
 use Rattle.sqlite_value.specs.declared.value.Value.TheVariants.{Null, Int, Text}
-use Rattle.sqlite_value.specs.Order.{Row, column, number, value_cmp}
-use Rattle.sqlite_value.specs.Keys.{plain, first_key}
+use Rattle.sqlite_value.specs.Order.{Row, number}
+use Rattle.sqlite_value.specs.Keys.{plain}
 use Rattle.sqlite_value.proofs.OrderLemmas.{value_cmp-Int}
 use Rattle.sqlite_trees.specs.Tree.{Trees, rowid, with_tree}
 use Rattle.sqlite_trees.specs.View.{is_int, IsStorable, IsStorableRow}
@@ -28,13 +28,13 @@ use Rattle.sqlite_rules.specs.Lists.{Has}
 use Rattle.sqlite_rules.specs.declared.error.Refusal.{Refusal}
 use Rattle.sqlite_rules.specs.declared.error.Refusal.TheVariants.{Violates, Mismatch, NoRowid, BadReference, TooDeep}
 use Rattle.sqlite_rules.specs.declared.error.Rowids.TheVariants.{Chosen}
-use Rattle.sqlite_rules.specs.Action.{Settles, Leads, Work, Writes}
+use Rattle.sqlite_rules.specs.Action.{Leads, Work, Writes}
 use Rattle.sqlite_rules.specs.Cast.{cast_row}
 use Rattle.sqlite_rules.specs.Edit.{Edit, edit_of, edited, id_in, numbered, put_all, are_fresh, is_referred, Applies, IsRefused, IsOversized}
 use Rattle.sqlite_rules.proofs.ActionLemmas.{no_works}
 use Rattle.sqlite_tied.specs.Compute.{everything}
 use Rattle.sqlite.specs.declared.error.Error.{Error}
-use Rattle.sqlite.specs.Effect.{Database, value_rows}
+use Rattle.sqlite.specs.Effect.{value_rows}
 use Rattle.sqlite.specs.Does.{Does, OnRows}
 use Rattle.sqlite.specs.Rows.{Inserts, Sourced, Written, stamped}
 use Rattle.sqlite.specs.Listing.{understood}
@@ -45,7 +45,6 @@ use Rattle.vault_audit_model.specs.Order.{place_of}
 use Rattle.vault_audit_model.specs.Tables.{vault_schema, meta, departments, callers, meta_tree, callers_tree}
 use Rattle.vault_audit_model.proofs.OutcomeLemmas.{same_value}
 use Rattle.vault_audit_model.proofs.ValueLemmas.{cast_null, cast_int}
-use Rattle.vault_audit_schema.specs.Statements.{IsAlone}
 use Rattle.vault_audit_walk.specs.Health.{IsHealthy, IsMemory}
 use Rattle.vault_store_create.specs.Create.{HasAll, HasMetaRow}
 use Rattle.vault_store_create.proofs.InsertLemmas.{task_on, others_empty}

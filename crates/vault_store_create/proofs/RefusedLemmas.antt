@@ -1,26 +1,20 @@
 -- A store that works refuses a statement of a making for want of memory alone.
-use Rattle.std.proofs.Common.{◌≡◌, ◌≢◌, ◌⊎◌, inl, inr, ℕ, ◌+◌, zero, suc, List, [], ◌∷◌, ◌++◌, length, Bool, true, false, None, Some, Option, Ok, Err, Result, IfErr, IsTrue, IsSome, append-nil, length-append, refl, sym, ap, subst, ◌∙◌, arith, rules}
-use Rattle.std.specs.List.{AllByRecursion, list_all}
-use Rattle.std.proofs.lemmas.Bool.{cases_Bool}
-use Rattle.sqlite_value.specs.Order.{Row}
+use Rattle.std.proofs.Common.{◌≡◌, ◌≢◌, inl, inr, ℕ, ◌+◌, List, [], length, Bool, true, false, None, Some, Option, Ok, Err, Result, IfErr, IsTrue, refl, sym, ap, subst, ◌∙◌, arith}
+use Rattle.std.specs.List.{AllByRecursion}
 use Rattle.sqlite_trees.specs.Tree.{Trees}
 use Rattle.sqlite_trees.specs.declared.error.StoreError.TheVariants.{OutOfMemory, Io, Corrupt, Full, Broken, Unstorable}
 use Rattle.sqlite_schema.specs.declared.command.Command.{Command}
 use Rattle.sqlite_schema.specs.declared.command.Command.TheVariants.{Begin, Commit, Rollback, Release, RollbackTo, CreateTable, CreateIndex}
 use Rattle.sqlite_schema.specs.declared.schema.Schema.{Schema}
 use Rattle.sqlite_resolve.specs.declared.compiled.Compiled.{Compiled}
-use Rattle.sqlite_resolve.specs.declared.error.CompileError.{CompileError}
 use Rattle.sqlite_catalog.specs.Calls.{RefusesTable}
 use Rattle.sqlite_catalog.specs.Change.{created}
 use Rattle.sqlite.specs.declared.error.Error.{Error}
-use Rattle.sqlite.specs.Clock.{timed}
-use Rattle.sqlite.specs.Effect.{Database}
-use Rattle.sqlite.specs.Does.{Tally, Does, lacks_sequence}
+use Rattle.sqlite.specs.Does.{Does, lacks_sequence}
 use Rattle.sqlite.specs.Listing.{understood}
 use Rattle.sqlite.specs.Steps.{FailsToCommit}
-use Rattle.sqlite.specs.State.{State, HasCause, IsMisplaced, IsUnchanged, IsRolledBack, Fails, IsNoStatement, IsNotRun, IsStatement, RunsCommand, ExecutesIn, ExecutesInside, EndsScope, Escapes, shows_rows, text_of, mode_of}
+use Rattle.sqlite.specs.State.{State, HasCause, IsMisplaced, Fails, IsNoStatement, IsNotRun, IsStatement, RunsCommand, ExecutesIn, ExecutesInside, EndsScope, Escapes, shows_rows, text_of, mode_of}
 use Rattle.sqlite.proofs.Callers.{IsPlain, command_of, statement_of}
-use Rattle.vault_base.specs.declared.refusal.Refusal.{Refusal}
 use Rattle.vault_base.specs.declared.refusal.Refusal.TheVariants.{Memory, Device}
 use Rattle.vault_base.specs.declared.refusal.Table.{Table}
 use Rattle.vault_base.specs.declared.refusal.Table.TheVariants as table

@@ -6,7 +6,7 @@ use Rattle.sqlite.specs.Listing.{understood}
 use Rattle.vault_audit_model.specs.Values.{number}
 use Rattle.vault_store_reads.specs.Wants.{IsAskedWith}
 use Rattle.vault_store_reads.proofs.TextLemmas.{meta_text, department_text, caller_text, bucket_text, entry_text, content_text, note_text, head_text}
-use Rattle.vault_store_reads.proofs.OrderedTextLemmas.{setting_text, settings_text, rules_text, tenures_text, last_tenure_text, entries_text, sized_text, newest_text, keys_text, removed_text}
+use Rattle.vault_store_reads.proofs.OrderedTextLemmas.{setting_text, settings_text, rules_text, tenures_text, last_tenure_text, entries_text, sized_text, newest_text, ids_text, older_text, buckets_text, keys_text, removed_text}
 
 pub meta_asked : IsAskedWith meta_text []
 unfolding understood everything
@@ -71,6 +71,18 @@ sized_asked bucket = (omega (arith), refl, (refl, refl, refl, refl))
 pub newest_asked : (bucket key : List ℕ) (id : ℕ) → IsAskedWith newest_text (Text bucket ∷ Text key ∷ number id ∷ [])
 unfolding understood everything
 newest_asked bucket key id = (omega (arith), refl, (refl, refl, refl, refl))
+
+pub ids_asked : (bucket key : List ℕ) (most : ℕ) → IsAskedWith ids_text (Text bucket ∷ Text key ∷ number most ∷ [])
+unfolding understood everything
+ids_asked bucket key most = (omega (arith), refl, (refl, refl, refl, refl))
+
+pub older_asked : (bucket key : List ℕ) (than most : ℕ) → IsAskedWith older_text (Text bucket ∷ Text key ∷ number than ∷ number most ∷ [])
+unfolding understood everything
+older_asked bucket key than most = (omega (arith), refl, (refl, refl, refl, refl))
+
+pub buckets_asked : (after : List ℕ) (most : ℕ) → IsAskedWith buckets_text (Text after ∷ number most ∷ [])
+unfolding understood everything
+buckets_asked after most = (omega (arith), refl, (refl, refl, refl, refl))
 
 pub keys_asked : (bucket after : List ℕ) (most : ℕ) → IsAskedWith keys_text (Text bucket ∷ Text after ∷ number most ∷ [])
 unfolding understood everything

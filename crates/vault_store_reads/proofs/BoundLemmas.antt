@@ -69,7 +69,7 @@ module _ (v : Vault) (kept : IsKept v) (bucket : List ℕ) (versions : List Size
 
 -- ---- counts
 
-fewer : {A : Type 0} (test : A → Bool) (xs : List A) → length (filter test xs) ≤ length xs
+pub fewer : {A : Type 0} (test : A → Bool) (xs : List A) → length (filter test xs) ≤ length xs
 fewer test [] = omega arith
 fewer test (x ∷ xs) = elim (cases_Bool (test x)) [
   | inl passed ↦ rw passed (let less = fewer test xs in omega (arith, less))

@@ -39,14 +39,14 @@ use Rattle.vault_store_reads.proofs.ValueLemmas.{later_text, text_less}
 
 -- ---- a key has a byte, so it comes behind the empty text
 
-some_bytes : (b : ℕ) (bs : List ℕ) → (length (b ∷ bs) == 0) ≡ false
+pub some_bytes : (b : ℕ) (bs : List ℕ) → (length (b ∷ bs) == 0) ≡ false
 some_bytes b bs = grind arith
 
 named : (key : List ℕ) → IsTrue (is_object_key key) → (length key == 0) ≡ false
 named [] is = absurd (cc is)
 named (b ∷ bs) is = some_bytes b bs
 
-behind_is : (key after : List ℕ) → (length key == 0) ≡ false → is_gt (slice_cmp nat_cmp key after) ≡ is_behind key after
+pub behind_is : (key after : List ℕ) → (length key == 0) ≡ false → is_gt (slice_cmp nat_cmp key after) ≡ is_behind key after
 behind_is [] [] is = absurd (cc is)
 behind_is (b ∷ bs) [] is = refl
 behind_is key (a ∷ as_) is = ap (λ b. b || is_gt (slice_cmp nat_cmp key (a ∷ as_))) (sym (some_bytes a as_))
@@ -101,7 +101,7 @@ heads_keys v bucket after (h ∷ hs) = elim (cases_Bool (is_current v h)) [
   ]
 ]
 
-take-map : {X Y : Type 0} (f : X → Y) (n : ℕ) (xs : List X) → take n (map f xs) ≡ map f (take n xs)
+pub take-map : {X Y : Type 0} (f : X → Y) (n : ℕ) (xs : List X) → take n (map f xs) ≡ map f (take n xs)
 take-map f zero xs = refl
 take-map f (suc n) [] = refl
 take-map f (suc n) (x ∷ xs) = ap (λ l. f x ∷ l) (take-map f n xs)

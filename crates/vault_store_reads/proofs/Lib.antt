@@ -26,3 +26,5 @@ pub mod AskedLemmas
 pub mod LimitLemmas
 pub mod ReadableLemmas
 pub mod BoundLemmas
+pub mod IdLemmas
+pub mod BucketLemmas

@@ -43,12 +43,12 @@ IsOlder g h = g.entry.id < h.entry.id
 
 -- ---- held entries
 
-abbrev held_test : List ℕ → List ℕ → Row → Bool
+abbrev pub held_test : List ℕ → List ℕ → Row → Bool
 held_test bucket key c =
     is_true (binary (Compare Eq Binary) (column c 1) (Text bucket))
     && (is_true (binary (Compare Eq Binary) (column c 2) (Text key)) && (is_true (binary (Is Binary) (column c 9) Null) && true))
 
-held_tests : (bucket key : List ℕ) (h : History) → held_test bucket key (row_of h) ≡ is_held_at bucket key h.entry
+pub held_tests : (bucket key : List ℕ) (h : History) → held_test bucket key (row_of h) ≡ is_held_at bucket key h.entry
 held_tests bucket key h = three _ _ _ _ _ _ (same_text h.entry.bucket bucket) (same_text h.entry.key key) (none_removed h.entry.removal)
 
 abbrev held_out : Row → Output
@@ -58,7 +58,7 @@ held_out c = (column c 9 ∷ column c 0 ∷ [], column c 0 ∷ column c 3 ∷ co
 abbrev held_as : History → Output
 held_as h = (Null ∷ number h.entry.id ∷ [], entry_shown (held_of h))
 
-held_there : (bucket key : List ℕ) (h : History) → is_held_at bucket key h.entry ≡ true → removal_at h.entry.removal ≡ Null
+pub held_there : (bucket key : List ℕ) (h : History) → is_held_at bucket key h.entry ≡ true → removal_at h.entry.removal ≡ Null
 held_there bucket key h here =
     let rest = (and_parts (bytes_eq h.entry.bucket bucket) (bytes_eq h.entry.key key && is_held h.entry) here).1 in
     null_if_held h.entry.removal (and_parts (bytes_eq h.entry.key key) (is_held h.entry) rest).1
@@ -99,7 +99,7 @@ but_test bucket key id c =
     is_true (binary (Compare Eq Binary) (column c 1) (Text bucket))
     && (is_true (binary (Compare Eq Binary) (column c 2) (Text key)) && (is_true (binary (Compare Ne Binary) (column c 0) (number id)) && (is_true (binary (Is Binary) (column c 9) Null) && true)))
 
-four : (a b c d e f g h : Bool) → a ≡ e → b ≡ f → c ≡ h → d ≡ g → (a && (b && (c && (d && true)))) ≡ ((e && (f && g)) && h)
+pub four : (a b c d e f g h : Bool) → a ≡ e → b ≡ f → c ≡ h → d ≡ g → (a && (b && (c && (d && true)))) ≡ ((e && (f && g)) && h)
 four a b c d e f g h p q r s = rw (p, q, r, s) (ends e f g h)
   where
     ends : (e f g h : Bool) → (e && (f && (h && (g && true)))) ≡ ((e && (f && g)) && h)
@@ -113,10 +113,10 @@ four a b c d e f g h p q r s = rw (p, q, r, s) (ends e f g h)
 but_tests : (bucket key : List ℕ) (id : ℕ) (h : History) → but_test bucket key id (row_of h) ≡ (is_held_at bucket key h.entry && not (h.entry.id == id))
 but_tests bucket key id h = four _ _ _ _ _ _ _ _ (same_text h.entry.bucket bucket) (same_text h.entry.key key) (other_number h.entry.id id) (none_removed h.entry.removal)
 
-abbrev but_out : Row → Output
+abbrev pub but_out : Row → Output
 but_out c = (column c 9 ∷ column c 0 ∷ [], column c 0 ∷ [])
 
-abbrev but_as : History → Output
+abbrev pub but_as : History → Output
 but_as h = (Null ∷ number h.entry.id ∷ [], id_row h.entry.id)
 
 but_alike : (bucket key : List ℕ) (id : ℕ) (h : History) → (is_held_at bucket key h.entry && not (h.entry.id == id)) ≡ true → but_out (row_of h) ≡ but_as h

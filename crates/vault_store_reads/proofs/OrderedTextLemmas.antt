@@ -7,12 +7,12 @@ use Rattle.sqlite_value.specs.declared.keys.Key.{Key}
 use Rattle.sqlite_value.specs.Keys.{ascending}
 use Rattle.sqlite_sql.specs.declared.ops.BinaryOp.TheVariants.{Compare, Is}
 use Rattle.sqlite_sql.specs.declared.ops.UnaryOp.TheVariants.{Not}
-use Rattle.sqlite_sql.specs.declared.ops.CompareOp.TheVariants.{Eq, Ne, Gt}
+use Rattle.sqlite_sql.specs.declared.ops.CompareOp.TheVariants.{Eq, Ne, Gt, Lt}
 use Rattle.sqlite_sql.specs.Term.{Term, lit, col, op1, op2}
 use Rattle.sqlite_schema.specs.declared.command.Command.TheVariants.{Select}
 use Rattle.sqlite.specs.Listing.{understood}
 use Rattle.sqlite.proofs.Callers.{IsPlain, command_of}
-use Rattle.vault_audit_model.specs.Tables.{vault_schema, entries, rules, settings, tenures, entries_tree, heads_tree, rules_tree, settings_tree, tenures_tree}
+use Rattle.vault_audit_model.specs.Tables.{vault_schema, entries, rules, settings, tenures, buckets_tree, entries_tree, heads_tree, rules_tree, settings_tree, tenures_tree}
 use Rattle.vault_audit_schema.specs.Texts.{names_of, select_text, terms_of}
 use Rattle.vault_store_reads.specs.Queries.{Selects}
 use Rattle.vault_store_reads.proofs.SelectLemmas.{select_of}
@@ -152,6 +152,44 @@ newest_tests =
 pub newest_is : Selects newest_text (select_of entries_tree newest_tests (col 1 0 ∷ []) held_order (lit (Int (pos 1))))
 unfolding understood everything
 newest_is = record { names = codes "id" ∷ []; is = refl; plain = (refl, refl); unlisted = refl }
+
+-- ---- the ids of a key's held entries, and of those that are older than one
+
+abbrev pub ids_text : List ℕ
+ids_text = codes "SELECT id FROM entries WHERE bucket = ?1 AND key = ?2 AND removed IS NULL ORDER BY removed, id DESC LIMIT ?3"
+
+pub ids_is : Selects ids_text (select_of entries_tree entries_tests (col 1 0 ∷ []) held_order (col 0 2))
+unfolding understood everything
+ids_is = record { names = codes "id" ∷ []; is = refl; plain = (refl, refl); unlisted = refl }
+
+abbrev pub older_text : List ℕ
+older_text = codes "SELECT id FROM entries WHERE bucket = ?1 AND key = ?2 AND id < ?3 AND removed IS NULL ORDER BY id DESC LIMIT ?4"
+
+abbrev pub older_tests : List Term
+older_tests =
+    op2 (Compare Eq Binary) (col 1 2) (col 0 0) ∷ op2 (Compare Eq Binary) (col 1 3) (col 0 1) ∷ op2 (Compare Lt Binary) (col 1 0) (col 0 2) ∷ op2 (Is Binary) (col 1 10) (lit Null) ∷ []
+
+abbrev pub older_order : List (Term × Key)
+older_order = (col 1 0, descending) ∷ []
+
+pub older_is : Selects older_text (select_of entries_tree older_tests (col 1 0 ∷ []) older_order (col 0 3))
+unfolding understood everything
+older_is = record { names = codes "id" ∷ []; is = refl; plain = (refl, refl); unlisted = refl }
+
+-- ---- the names of buckets
+
+abbrev pub buckets_text : List ℕ
+buckets_text = codes "SELECT name FROM buckets WHERE name > ?1 ORDER BY name LIMIT ?2"
+
+abbrev pub buckets_tests : List Term
+buckets_tests = op2 (Compare Gt Binary) (col 1 1) (col 0 0) ∷ []
+
+abbrev pub buckets_order : List (Term × Key)
+buckets_order = (col 1 1, ascending Binary) ∷ []
+
+pub buckets_is : Selects buckets_text (select_of buckets_tree buckets_tests (col 1 1 ∷ []) buckets_order (col 0 1))
+unfolding understood everything
+buckets_is = record { names = codes "name" ∷ []; is = refl; plain = (refl, refl); unlisted = refl }
 
 -- ---- the keys of a bucket
 

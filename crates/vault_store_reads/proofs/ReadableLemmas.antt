@@ -9,7 +9,7 @@ use Rattle.sqlite_value.specs.Order.{Row}
 use Rattle.vault_base.specs.Name.{is_version_id}
 use Rattle.vault_core_model.specs.Checks.{most_content, most_settings}
 use Rattle.vault_core_model.specs.Places.{is_held, is_held_at, is_held_in, is_held_version_in, is_behind, held_at, keys_of, key_set, with_key, with_key_by}
-use Rattle.vault_core_model.specs.Reads.{entries_of, head_over, held_of, keys_after, last_setting, removed_entries, setting_of}
+use Rattle.vault_core_model.specs.Reads.{buckets_after, entries_of, head_over, held_of, ids_before, is_older, keys_after, last_setting, removed_entries, setting_of}
 use Rattle.vault_core_model.specs.Sound.{IsWhole}
 use Rattle.vault_core_model.specs.Totals.{held_versions_in}
 use Rattle.vault_core_model.specs.Vault.{Vault, history_of, bucket_in, last_lock}
@@ -17,13 +17,13 @@ use Rattle.vault_core_model.specs.declared.records.Bucket.{Bucket}
 use Rattle.vault_core_model.specs.declared.records.Head.{Head}
 use Rattle.vault_core_model.specs.declared.records.History.{History}
 use Rattle.vault_core_model.specs.declared.records.Setting.{Setting}
-use Rattle.vault_audit_model.specs.Limits.{IsEntry, IsSizedAs, IsHistory, IsObjectKey, IsRetention, IsRuleRow, IsSetting, IsSettingRow, IsTenureRow}
+use Rattle.vault_audit_model.specs.Limits.{IsBucket, IsBucketName, IsEntry, IsSizedAs, IsHistory, IsObjectKey, IsRetention, IsRuleRow, IsSetting, IsSettingRow, IsTenureRow}
 use Rattle.vault_audit_model.specs.Rows.{entry_row, rule_row, setting_row, tenure_row}
 use Rattle.vault_audit_model.specs.Spells.{IsKept, rules_in, settings_in, tenures_in}
 use Rattle.vault_audit_model.proofs.ListLemmas.{all_as}
 use Rattle.vault_audit_walk.specs.Records.{ReportsOne}
 use Rattle.vault_store_reads.specs.Readable.{AreReadable, IsHeldRow, IsLastSetting, IsSizedRow}
-use Rattle.vault_store_reads.specs.Shown.{entry_shown, held_row, id_row, key_row, last_row, newest_but, sized_of, sized_row, without_lock}
+use Rattle.vault_store_reads.specs.Shown.{entry_shown, held_row, id_row, ids_at, key_row, last_row, name_row, newest_but, sized_of, sized_row, without_lock}
 use Rattle.vault_store_reads.proofs.LimitLemmas.{all_filtered, all_given, all_last, all_mapped, all_part, all_reversed, all_taken, at_seam, most_of, rules_limited, settings_limited, tenures_limited, wholes}
 use Rattle.vault_store_reads.proofs.OrderedListLemmas.{last, part_of}
 
@@ -137,6 +137,25 @@ module _ (v : Vault) (kept : IsKept v) where
       let others = all_filtered IsHistory (λ h. not (h.entry.id == id)) (held_at v bucket key) here in
       reported id_row (λ n. IsTrue (is_version_id n)) _
       (newest_ids (head_over (filter (λ h. not (h.entry.id == id)) (held_at v bucket key))) (head_ids _ (all_as (λ (h : History) (is : IsHistory h). is.entry.id) _ others)))
+
+  ids_all : (bucket key : List ℕ) → AllByRecursion (λ n. IsTrue (is_version_id n)) (ids_at v bucket key)
+  ids_all bucket key =
+      let here = all_filtered IsHistory (λ h. is_held_at bucket key h.entry) v.histories kept.limits.histories in
+      let each = all_mapped (λ n. IsTrue (is_version_id n)) (λ (h : History). h.entry.id) (held_at v bucket key) (all_as (λ (h : History) (is : IsHistory h). is.entry.id) (held_at v bucket key) here) in
+      all_reversed (λ n. IsTrue (is_version_id n)) _ each
+
+  pub ids_readable : (bucket key : List ℕ) (most : ℕ) → AreReadable id_row (λ n. IsTrue (is_version_id n)) (map id_row (take most (ids_at v bucket key)))
+  ids_readable bucket key most = reported id_row (λ n. IsTrue (is_version_id n)) _ (all_taken (λ n. IsTrue (is_version_id n)) most _ (ids_all bucket key))
+
+  pub older_readable : (bucket key : List ℕ) (than : Option ℕ) (most : ℕ) → AreReadable id_row (λ n. IsTrue (is_version_id n)) (map id_row (ids_before v bucket key than most))
+  older_readable bucket key than most =
+      reported id_row (λ n. IsTrue (is_version_id n)) _
+      (all_taken (λ n. IsTrue (is_version_id n)) most _ (all_filtered (λ n. IsTrue (is_version_id n)) (is_older than) (ids_at v bucket key) (ids_all bucket key)))
+
+  pub buckets_readable : (after : List ℕ) (most : ℕ) → AreReadable name_row IsBucketName (map name_row (buckets_after v after most))
+  buckets_readable after most =
+      let names = all_mapped IsBucketName (λ (b : Bucket). b.name) v.buckets (all_as (λ (b : Bucket) (is : IsBucket b). is.name) v.buckets kept.limits.buckets) in
+      reported name_row IsBucketName _ (all_taken IsBucketName most _ (all_filtered IsBucketName (λ name. is_behind name after) (map (λ (b : Bucket). b.name) v.buckets) names))
 
   -- a row that one of the removed entries has
   pub removed_readable : (given : List Row) (row : Row) (tail : List Row) → (given ++ row ∷ []) ++ tail ≡ map entry_row (removed_entries v) → ReportsOne entry_row IsEntry row

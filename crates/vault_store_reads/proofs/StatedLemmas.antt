@@ -12,7 +12,7 @@ use Rattle.vault_core_model.specs.Reads.{entries_of, held_of, last_setting, lock
 use Rattle.vault_core_model.specs.Sound.{Sound, AreIdsFrom}
 use Rattle.vault_core_model.specs.Vault.{Vault, last_lock}
 use Rattle.vault_audit_model.proofs.SameRows.{number_same, text_same, flag_same}
-use Rattle.vault_store_reads.specs.Shown.{key_row, held_row, entry_shown, without_lock, with_lock_in}
+use Rattle.vault_store_reads.specs.Shown.{key_row, name_row, id_row, held_row, entry_shown, without_lock, with_lock_in}
 use Rattle.vault_store_reads.specs.declared.rows_in_order.shown.HeldRow.{HeldRow}
 use Rattle.sqlite_keyed.proofs.ListLemmas.{all_weaker}
 use Rattle.vault_core_laws.proofs.Lists.{All-filter}
@@ -41,6 +41,12 @@ module _ {X : Type 0} (row_of : X → Row) (o : Option X) (rows : List Row) (are
 
 pub same_key : (j k : List ℕ) → key_row j ≡ key_row k → j ≡ k
 same_key j k e = text_same j k (ap (λ r. column r 0) e)
+
+pub same_name : (j k : List ℕ) → name_row j ≡ name_row k → j ≡ k
+same_name j k e = text_same j k (ap (λ r. column r 0) e)
+
+pub same_id : (a b : ℕ) → id_row a ≡ id_row b → a ≡ b
+same_id a b e = number_same a b (ap (λ r. column r 0) e)
 
 abbrev pub held_with : ℕ → Bool → ℕ → ℕ → Lock → Held
 held_with id marker size admitted lock = record { id = id; marker = marker; size = size; admitted = admitted; lock = lock }

@@ -1,15 +1,16 @@
 -- How values compare in WHERE and ORDER BY.
 use Rattle.std.proofs.Common.{◌≡◌, ◌<◌, ◌==◌, ℕ, pos, List, Bool, true, false, not, Option, None, Some, Less, Equal, refl, ap, ◌∙◌, arith}
-use Rattle.std.specs.Prelude.{is_none}
-use Rattle.std.specs.Ordering.{int_cmp, nat_cmp, is_ne, is_gt, ordering_then}
+use Rattle.std.specs.Prelude.{is_none, nat_lt}
+use Rattle.std.specs.Ordering.{int_cmp, nat_cmp, is_ne, is_lt, is_gt, ordering_then}
 use Rattle.std.specs.Cmp.Lexicographic.{slice_cmp}
+use Rattle.std.proofs.lemmas.Bool.Decides.{nat_tests}
 use Rattle.sqlite_value.specs.declared.value.Value.TheVariants.{Null, Text}
 use Rattle.sqlite_value.specs.declared.keys.Collation.TheVariants.{Binary}
 use Rattle.sqlite_value.specs.Order.{value_cmp}
 use Rattle.sqlite_value.proofs.OrderLemmas.{value_cmp-Int, value_cmp-Text, value_cmp-Null}
 use Rattle.sqlite_sql.specs.declared.ops.BinaryOp.TheVariants.{Compare, Is}
 use Rattle.sqlite_sql.specs.declared.ops.UnaryOp.TheVariants.{Not}
-use Rattle.sqlite_sql.specs.declared.ops.CompareOp.TheVariants.{Ne, Gt}
+use Rattle.sqlite_sql.specs.declared.ops.CompareOp.TheVariants.{Ne, Lt, Gt}
 use Rattle.sqlite_sql.specs.Ops.{unary, binary, is_true, from_truth, not3, truth}
 use Rattle.vault_core_model.specs.declared.records.Removal.{Removal}
 use Rattle.vault_audit_model.specs.Rows.{removal_at}
@@ -26,6 +27,13 @@ other_int a b = grind arith
 pub other_number : (a b : ℕ) → is_true (binary (Compare Ne Binary) (number a) (number b)) ≡ not (a == b)
 unfolding binary
 other_number a b = truth_back _ ∙ ap is_ne (value_cmp-Int (pos a) (pos b)) ∙ other_int a b
+
+lower_int : (a b : ℕ) → is_lt (int_cmp (pos a) (pos b)) ≡ nat_lt a b
+lower_int a b = grind (arith, nat_tests)
+
+pub lower_number : (a b : ℕ) → is_true (binary (Compare Lt Binary) (number a) (number b)) ≡ nat_lt a b
+unfolding binary
+lower_number a b = truth_back _ ∙ ap is_lt (value_cmp-Int (pos a) (pos b)) ∙ lower_int a b
 
 turned : (b : Bool) → is_true (from_truth (not3 (truth (from_truth (Some b))))) ≡ not b
 turned true = refl

@@ -1,5 +1,5 @@
 -- What a row of an ordered read says.
-use Rattle.std.specs.Prelude.{ℕ, ◌*◌, ◌==◌, not, List, [], ◌∷◌, map, filter, Option, None, Some, option_map}
+use Rattle.std.specs.Prelude.{ℕ, ◌*◌, ◌==◌, not, List, [], ◌∷◌, map, filter, reverse, Option, None, Some, option_map}
 use Rattle.sqlite_value.specs.declared.value.Value.TheVariants.{Text}
 use Rattle.sqlite_value.specs.Order.{Row}
 use Rattle.vault_rules.specs.declared.plan.Held.{Held}
@@ -33,8 +33,15 @@ entry_shown h = held_row (without_lock h)
 abbrev pub key_row : List ℕ → Row
 key_row key = Text key ∷ []
 
+abbrev pub name_row : List ℕ → Row
+name_row name = Text name ∷ []
+
 abbrev pub id_row : ℕ → Row
 id_row id = number id ∷ []
+
+-- the ids of a key's held entries, the newest first
+abbrev pub ids_at : Vault → List ℕ → List ℕ → List ℕ
+ids_at v bucket key = reverse (map (λ h. h.entry.id) (held_at v bucket key))
 
 -- a version and its size
 abbrev pub sized_row : SizedRow → Row

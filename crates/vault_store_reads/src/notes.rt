@@ -28,7 +28,10 @@ pub fn read_note<S: Alter>(
 {
     let rows = query_rows(
         conn,
-        intake_columns!(select_text, " WHERE bucket = ?1 AND batch = ?2 AND line = ?3"),
+        intake_columns!(
+            select_text,
+            " WHERE bucket = ?1 AND batch = ?2 AND line = ?3"
+        ),
         params![bucket.as_str(), batch.as_str(), line],
     )?;
     match rows.first() {

@@ -1,9 +1,11 @@
 //! Reads of a vault that show several rows in order.
 
+mod buckets;
 mod count;
 mod decode;
 mod find;
 mod holding;
+mod ids;
 pub mod reads;
 mod rows;
 mod shown;

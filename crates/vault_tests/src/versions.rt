@@ -96,10 +96,14 @@ const LISTINGS: [Listing; 6] = [
     },
 ];
 
-#[test]
-fn a_listing_reads_of_a_key_what_it_shows(rt: HostRuntime) -> Result<(), Fail> {
-    for listing in &LISTINGS {
-        try_on_new(rt.alloc(), listing)?;
+fn try_each(alloc: Global, listings: &[Listing]) -> Result<(), Fail> {
+    for listing in listings {
+        try_on_new(alloc, listing)?;
     }
     Ok(())
+}
+
+#[test]
+fn a_listing_reads_of_a_key_what_it_shows(rt: HostRuntime) -> Result<(), Fail> {
+    try_each(rt.alloc(), &LISTINGS)
 }

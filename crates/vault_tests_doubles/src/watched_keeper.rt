@@ -64,7 +64,7 @@ fn push_ids(
     alloc: Global,
     calls: &mut String,
     key: &str,
-    than: Option<VersionId>,
+    than: &Option<VersionId>,
     most: u32,
 ) -> Result<(), AllocError> {
     let asked = match than {
@@ -188,7 +188,7 @@ impl<K: Keeper> Keeper for WatchedKeeper<'_, K> {
         than: Option<VersionId>,
         most: u32,
     ) -> Result<Vec<VersionId>, Fault> {
-        let _ = push_ids(self.alloc, &mut self.calls, key.as_str(), than, most);
+        let _ = push_ids(self.alloc, &mut self.calls, key.as_str(), &than, most);
         self.keeper.ids(bucket, key, than, most)
     }
 

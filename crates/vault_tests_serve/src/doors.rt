@@ -41,6 +41,8 @@ const STORED: &str = "{\"ok\":{\"version_id\":1}}\n";
 
 const STATUS: &str = r#"{"as":"registrar","do":"status"}"#;
 
+const BUCKETS: &str = r#"{"as":"registrar","do":"buckets"}"#;
+
 /// What comes in a turn.
 #[derive(Clone, Copy)]
 enum Coming {
@@ -252,6 +254,51 @@ fn how_things_are(rt: HostRuntime) -> Result<(), Fail> {
     assert_eq!(rt; served.taken.as_str(), all.as_str());
     assert!(rt; served.next == Next::On);
     assert_eq!(rt; served.kept, 7);
+    Ok(())
+}
+
+/// The names of buckets come in the order of their bytes, all of them or those after a text, to a caller with the right to
+/// administer. Such a line has no other member, and changes nothing.
+#[test]
+fn names_of_buckets(rt: HostRuntime) -> Result<(), Fail> {
+    let alloc = rt.alloc();
+    let mut keeper = opened(alloc)?;
+    let turns = [
+        Coming::Line(BUCKETS),
+        Coming::Line(r#"{"as":"registrar","do":"add-bucket","bucket":"maps","dept":"records"}"#),
+        Coming::Line(r#"{"as":"registrar","do":"add-bucket","bucket":"deeds","dept":"records"}"#),
+        Coming::Line(BUCKETS),
+        Coming::Line(r#"{"as":"registrar","do":"buckets","after":""}"#),
+        Coming::Line(r#"{"after":"deeds","as":"registrar","do":"buckets"}"#),
+        Coming::Line(r#"{"as":"registrar","do":"buckets","after":"docs!"}"#),
+        Coming::Line(r#"{"as":"registrar","do":"buckets","after":"maps"}"#),
+        Coming::Line(r#"{"as":"ann","do":"buckets"}"#),
+        Coming::Line(r#"{"as":"registrar","do":"buckets","after":null}"#),
+        Coming::Line(r#"{"as":"registrar","do":"buckets","dept":"records"}"#),
+    ];
+    let served = serve(alloc, &mut keeper, &turns, 0, 11)?;
+    let all_names = "{\"ok\":{\"buckets\":[\"deeds\",\"docs\",\"maps\"],\"more\":false}}\n";
+    let malformed = "{\"error\":{\"code\":\"MalformedBody\",\"n\":12}}\n";
+    let wanted = [
+        "{\"ok\":{\"buckets\":[\"docs\"],\"more\":false}}\n",
+        "{\"ok\":{}}\n",
+        "{\"ok\":{}}\n",
+        all_names,
+        all_names,
+        "{\"ok\":{\"buckets\":[\"docs\",\"maps\"],\"more\":false}}\n",
+        "{\"ok\":{\"buckets\":[\"maps\"],\"more\":false}}\n",
+        "{\"ok\":{\"buckets\":[],\"more\":false}}\n",
+        "{\"error\":{\"code\":\"AccessDenied\",\"n\":3,\"reason\":\"right:admin\"}}\n",
+        malformed,
+        malformed,
+    ];
+    let mut all = String::new(alloc);
+    for text in &wanted {
+        all.push_str(text)?;
+    }
+    assert_eq!(rt; served.taken.as_str(), all.as_str());
+    assert!(rt; served.next == Next::On);
+    assert_eq!(rt; served.kept, 11);
     Ok(())
 }
 

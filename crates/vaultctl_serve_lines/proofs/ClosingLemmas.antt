@@ -80,11 +80,13 @@ closes false line moment bytes asked e what = absurd cc
 ended-by : (v : Vault) (failures : ℕ) (since : Option ℕ) (who : Result Caller Refusal) (what : Wanted) → who >>= (λ c. Ok (found_of v failures since what)) ≡ Ok found.End → (what ≡ wanted.End) × IsOk who
 ended-by v failures since (Ok c) wanted.End e = (refl, refl)
 ended-by v failures since (Ok c) (wanted.About about.Status) e = absurd cc
+ended-by v failures since (Ok c) (wanted.About (about.Buckets after)) e = absurd cc
 ended-by v failures since (Err r) what e = absurd cc
 
 pub ended : (v : Vault) (failures : ℕ) (since : Option ℕ) (asked : Asked) (stated : Result Found Refusal) → is_end stated ≡ true → StatedAs stated (judged v failures since asked) → (asked.what ≡ wanted.End) × IsOk (administrator v asked.at asked.who)
 ended v failures since asked (Ok found.End) e is = ended-by v failures since (administrator v asked.at asked.who) asked.what is
 ended v failures since asked (Ok (found.Status status)) e is = absurd cc
+ended v failures since asked (Ok (found.Buckets page)) e is = absurd cc
 ended v failures since asked (Err r) e is = absurd cc
 
 -- what was asked for

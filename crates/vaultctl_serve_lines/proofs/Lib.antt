@@ -1,4 +1,5 @@
 pub mod ClosingLemmas
 pub mod HeardLemmas
 pub mod HearingLemmas
+mod NamesLemmas
 pub mod TurnLemmas

@@ -1,16 +1,19 @@
--- What is answered to what only the second door has: the end, or how things are.
-use Rattle.std.specs.Prelude.{ℕ, ◌≡◌, ◌⊎◌, ◌-◌, Bool, true, false, IsTrue, List, Option, Result, Ok, Err}
+-- What is answered to what only the second door has: the end, how things are, or which buckets there are.
+use Rattle.std.specs.Prelude.{ℕ, ◌≡◌, ◌⊎◌, ◌-◌, nat_lt, length, take, Bool, true, false, IsTrue, List, Option, Result, Ok, Err}
 use Rattle.std.specs.Io.KnownBytes.{Appends}
 use Rattle.vault_base.specs.declared.refusal.Refusal.{Refusal}
 use Rattle.vault_core_model.specs.Checks.{◌>>=◌, administrator}
 use Rattle.vault_core_model.specs.Halts.{is_device_refusal}
 use Rattle.vault_core_model.specs.Leaves.{Standing, count_after}
+use Rattle.vault_core_model.specs.Reads.{buckets_after}
 use Rattle.vault_core_model.specs.Step.{is_fault}
 use Rattle.vault_core_model.specs.Vault.{Vault, next_id}
 use Rattle.vault_core_model.specs.declared.reply.Answer.TheVariants.{Nothing as NothingMore}
 use Rattle.vault_core_model.specs.declared.reply.Reply.TheVariants as reply
 use Rattle.vault_http.specs.ReplyLine.{reply_text}
+use Rattle.vault_http_door.specs.BucketsLine.{buckets_text}
 use Rattle.vault_http_door.specs.StatusLine.{status_text}
+use Rattle.vault_http_door.specs.declared.buckets_line.BucketsPage.{BucketsPage}
 use Rattle.vault_http_door.specs.declared.inquiry.About.TheVariants as about
 use Rattle.vault_http_door.specs.declared.status_line.Status.{Status}
 use Rattle.vault_io.specs.Begins.{Begins}
@@ -27,9 +30,18 @@ use Rattle.vaultctl_serve_lines.specs.declared.service.Service.{Service}
 abbrev pub status_of : Vault → ℕ → Option ℕ → Status
 status_of v failures since = record { entries = next_id v - 1; failures = failures; last = v.last; since = since }
 
+-- the first 1,000 of some names, and whether there are more
+abbrev pub first_names : List (List ℕ) → BucketsPage
+first_names names = record { names = take 1000 names; more = nat_lt 1000 (length names) }
+
+-- the names of the first 1,000 buckets after that text, and whether there is one more
+abbrev pub buckets_page : Vault → List ℕ → BucketsPage
+buckets_page v after = record { names = buckets_after v after 1000; more = nat_lt 1000 (length (buckets_after v after 1001)) }
+
 abbrev pub found_of : Vault → ℕ → Option ℕ → Wanted → Found
 found_of v failures since wanted.End = found.End
 found_of v failures since (wanted.About about.Status) = found.Status (status_of v failures since)
+found_of v failures since (wanted.About (about.Buckets after)) = found.Buckets (buckets_page v after)
 
 -- the clock, and a caller with the right to administer; then what is asked for
 abbrev pub judged : Vault → ℕ → Option ℕ → Asked → Result Found Refusal
@@ -51,12 +63,14 @@ is_device_stated (Err r) = is_device_refusal r
 abbrev pub is_end : Result Found Refusal → Bool
 is_end (Ok found.End) = true
 is_end (Ok (found.Status status)) = false
+is_end (Ok (found.Buckets page)) = false
 is_end (Err r) = false
 
 -- the line of what is answered
 abbrev pub stated_text : List ℕ → Result Found Refusal → List ℕ
 stated_text version (Ok found.End) = reply_text (reply.Done NothingMore)
 stated_text version (Ok (found.Status status)) = status_text version status
+stated_text version (Ok (found.Buckets page)) = buckets_text page
 stated_text version (Err r) = reply_text (reply.Refused r)
 
 -- what of an answer is written where a server goes on, and where it ends

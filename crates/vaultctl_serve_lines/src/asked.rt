@@ -30,7 +30,7 @@ pub struct Asked {
 }
 
 /// What only this door has.
-#[derive(Clone, Copy, Debug, PartialEq, Eq)]
+#[derive(Drop)]
 pub enum Wanted {
     /// The end of the server.
     End,

@@ -10,7 +10,7 @@ ghost use Rattle.vault_http.specs.Left.{LeavesNoLess};
 ghost use Rattle.vault_http.specs.ReplyLine.{reply_text};
 ghost use Rattle.vault_io.specs.Begins.{Begins};
 ghost use Rattle.vaultctl_serve_lines.specs.Asking as spec;
-ghost use Rattle.vaultctl_serve_lines.specs.Asking.{Given, stated_text, status_of, Written};
+ghost use Rattle.vaultctl_serve_lines.specs.Asking.{buckets_page, Given, stated_text, status_of, Written};
 ghost use Rattle.vaultctl_serve_lines.specs.declared.asking.Found.{Found as AnyFound};
 
 use crate::asked::{Asked, Wanted};
@@ -19,25 +19,35 @@ use crate::service::Service;
 use std::alloc::{AllocError, Global};
 use std::io::Write;
 use vault_base::moment::Moment;
+use vault_base::name::BucketName;
 use vault_base::refusal::Refusal;
 use vault_core_checks::caller::find_administrator;
 use vault_core_model::halt::{Fault, Halt};
 use vault_core_model::keeper::Keeper;
 use vault_core_model::reply::{Answer, Reply};
 use vault_http::reply_line::reply_line;
-use vault_http_door::inquiry::About;
+use vault_http_door::buckets_line::{BucketNames, BucketsPage, buckets_line};
+use vault_http_door::inquiry::{About, After};
 use vault_http_door::status_line::{Status, status_line};
 use vault_io::writing::write_bytes;
 use vaultctl_replay::ReplayFault;
 
 /// What is answered to what only this door has.
-#[derive(Clone, Copy, PartialEq, Eq)]
+#[derive(Drop)]
 pub enum Found {
     /// The server ends.
     End,
     /// How the vault and its server are.
     Status(Status),
+    /// The names of some buckets.
+    Buckets(BucketsPage),
 }
+
+/// How many names of buckets one line has at most.
+const MOST_NAMES: usize = 1_000;
+
+/// How many names are read for one line: one more than it has shows that there are more.
+const NAMES_READ: u32 = 1_001;
 
 /// How the vault is, whose device failed that often, and its server, which began at that moment.
 fn find_status<K: Keeper>(
@@ -58,6 +68,29 @@ fn find_status<K: Keeper>(
     }))
 }
 
+/// The first names, and whether names after them were left out.
+fn cut_names(names: Vec<BucketName>) -> BucketsPage
+    ensures { result ≡ spec.first_names names.items }
+{
+    let mut names = names;
+    let more = names.len() > MOST_NAMES;
+    names.truncate(MOST_NAMES);
+    BucketsPage {
+        names: BucketNames::new(names),
+        more,
+    }
+}
+
+/// The names of the first buckets after that text.
+#[tactic(auto, using(crate::proofs::NamesLemmas::names_of))]
+fn find_buckets<K: Keeper>(keeper: &mut K, after: &After) -> Result<Found, Halt>
+    ensures found { K.is_honest keeper.new → ChecksAs result (Ok (Found.Buckets (buckets_page (K.vault keeper.old) after.now))) }
+    ensures leaves { LeavesSame K.Kept keeper.old keeper.new (is_device result) }
+{
+    let names = keeper.buckets(after.as_str(), NAMES_READ)?;
+    Ok(Found::Buckets(cut_names(names)))
+}
+
 /// What a caller asks for who may administer, of a server that began at that moment.
 ///
 /// ClockBack; AccessDenied `unknown-caller`; AccessDenied `admin`.
@@ -67,9 +100,10 @@ fn find<K: Keeper>(keeper: &mut K, since: Option<Moment>, asked: &Asked) -> Resu
 {
     let failures = keeper.faults();
     drop(find_administrator(keeper, asked.at, &asked.who)?);
-    match asked.what {
+    match &asked.what {
         Wanted::End => Ok(Found::End),
         Wanted::About(About::Status) => find_status(keeper, failures, since),
+        Wanted::About(About::Buckets(after)) => find_buckets(keeper, after),
     }
 }
 
@@ -106,6 +140,7 @@ fn stated_line(
     match stated {
         Ok(Found::End) => line_of(alloc, Reply::Done(Answer::Nothing)),
         Ok(Found::Status(status)) => status_line(alloc, version, status),
+        Ok(Found::Buckets(page)) => buckets_line(alloc, page),
         Err(refusal) => line_of(alloc, Reply::Refused(*refusal)),
     }
 }
@@ -136,6 +171,7 @@ fn is_end(stated: &Result<Found, Refusal>) -> bool
     match stated {
         Ok(Found::End) => true,
         Ok(Found::Status(_)) => false,
+        Ok(Found::Buckets(_)) => false,
         Err(_) => false,
     }
 }
@@ -156,7 +192,9 @@ pub fn give<W: Write, K: Keeper>(
     let found = find(keeper, service.since, asked);
     let answer = stated(found);
     let written = write_stated(service.alloc, writer, service.version, &answer);
-    if is_end(&answer) {
+    let ends = is_end(&answer);
+    drop(answer);
+    if ends {
         return Ok(Next::End);
     }
     match written {

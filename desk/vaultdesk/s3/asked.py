@@ -2,7 +2,6 @@
 
 from __future__ import annotations
 
-from collections.abc import Sequence
 from dataclasses import dataclass
 from typing import Any
 
@@ -17,13 +16,11 @@ from vaultdesk.s3.settings import Settings
 
 @dataclass(frozen=True)
 class Vault:
-    """What the gateway stands before: the way to the engine, noted ETags, settings, the names of all buckets, and puts
-    without an answer."""
+    """What the gateway stands before: the way to the engine, noted ETags, settings, and puts without an answer."""
 
     door: Door
     etags: Etags
     settings: Settings
-    buckets: Sequence[str]
     unanswered: Unanswered
 
 

@@ -2,8 +2,6 @@
 
 from __future__ import annotations
 
-from collections.abc import Sequence
-
 from vaultdesk.s3 import heads, xml
 from vaultdesk.s3.asked import Asked, xml_answer
 from vaultdesk.s3.faults import Fault
@@ -33,17 +31,10 @@ def _is_own(asked: Asked, bucket: str) -> bool:
     return True
 
 
-def _names(asked: Asked) -> Sequence[str]:
-    """The names of all buckets. No line of the engine lists them: they are those that were there as it began, or of the
-    settings."""
-    return asked.vault.buckets
-
-
 def list_all(asked: Asked) -> Answer:
     """The buckets that the caller may list, or whose department is the caller's."""
-    found: list[xml.Node] = [
-        ("Bucket", [("Name", it), ("CreationDate", UNKNOWN)]) for it in _names(asked) if _is_own(asked, it)
-    ]
+    own = (it for it in asked.vault.door.buckets() if _is_own(asked, it))
+    found: list[xml.Node] = [("Bucket", [("Name", it), ("CreationDate", UNKNOWN)]) for it in own]
     owner: xml.Node = ("Owner", [("ID", heads.OWNER), ("DisplayName", heads.OWNER)])
     return xml_answer("ListAllMyBucketsResult", [owner, ("Buckets", found)])
 

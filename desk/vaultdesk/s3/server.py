@@ -37,9 +37,9 @@ PAST = 33_554_432  # bytes of it, at most
 BUSY = b"HTTP/1.1 503 Service Unavailable\r\nConnection: close\r\nContent-Length: 0\r\n\r\n"
 
 
-def _noted(target: str) -> str:
-    """A target for the log: without a signature, with which whoever reads the log could ask the same."""
-    return shown(re.sub("(?<=[?&]X-Amz-Signature=)[^&]*", "..", target))
+def _noted(text: str) -> str:
+    """A target, or a request's first line, for the log: without a signature, by which its reader could ask the same."""
+    return shown(re.sub("(?<=[?&]X-Amz-Signature=)[^& ]*", "..", text))
 
 
 class _Arriving:
@@ -198,7 +198,7 @@ class Handler(http.server.BaseHTTPRequestHandler):
         self.headers = self.headers if hasattr(self, "headers") else self.MessageClass()
         self.command = self.command or "-"
         self._send(answer)
-        self.server.note(f"- {shown(self.requestline)} {answer.status} {fault.code}")
+        self.server.note(f"- {_noted(self.requestline)} {answer.status} {fault.code}")
 
     def log_message(self, format: str, *args: Any) -> None:
         """What `http.server` would say; each request has its line already."""

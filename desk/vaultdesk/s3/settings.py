@@ -3,7 +3,7 @@
     vault = "/var/lib/vaultctl/records.vault"   # or its name in the desk's settings
     keys = "/etc/vaultctl/keys.toml"            # the access keys, which vaultdesk s3 key makes
     door = "/run/vaultctl/records/lines"        # where its server takes lines; left out, it is found
-    buckets = ["letters"]                       # which there are, where the gateway may not read the vault's file
+    admin = "registrar"                         # a caller with the right admin, who asks which buckets there are
     etags = "/var/lib/vaultctl/records.etags"   # MD5s of contents; may be lost
     unanswered = "/var/lib/vaultctl/records.unanswered"  # a folder where puts are noted until they are answered
     port = 9000
@@ -29,7 +29,7 @@ from vaultdesk.errors import UsageError
 
 PLACE = "/etc/vaultctl/s3.toml"
 KINDS: Mapping[str, type] = {
-    "vault": str, "keys": str, "door": str, "buckets": list, "etags": str, "unanswered": str, "port": int,
+    "vault": str, "keys": str, "door": str, "admin": str, "etags": str, "unanswered": str, "port": int,
     "address": str, "region": str, "presigned": bool, "dropped_metadata": list, "certificate": str,
     "certificate_key": str,
 }  # fmt: skip
@@ -50,7 +50,7 @@ class Settings:
     certificate: Path | None = None
     certificate_key: Path | None = None
     door: str | None = None
-    buckets: tuple[str, ...] | None = None
+    admin: str = "registrar"
     unanswered: Path | None = None
 
 
@@ -66,9 +66,8 @@ def _look_at(path: Path, found: Mapping[str, Any]) -> None:
         raise UsageError(f"{path}: {missing[0]} is missing")
     if not 0 <= found.get("port", 0) <= 65_535:
         raise UsageError(f"{path}: port is a number from 1 to 65,535")
-    for name in ("dropped_metadata", "buckets"):
-        if not all(isinstance(it, str) for it in found.get(name, [])):
-            raise UsageError(f"{path}: {name} is a list of names")
+    if not all(isinstance(it, str) for it in found.get("dropped_metadata", [])):
+        raise UsageError(f"{path}: dropped_metadata is a list of names")
     if ("certificate" in found) != ("certificate_key" in found):
         raise UsageError(f"{path}: certificate and certificate_key go together")
 
@@ -85,5 +84,4 @@ def read(path: Path) -> Settings:
         values[name] = Path(found[name]) if found.get(name) else None
     dropped = (it.lower().removeprefix("x-amz-meta-") for it in found.get("dropped_metadata", []))
     values["dropped_metadata"] = frozenset(dropped)
-    values["buckets"] = tuple(found["buckets"]) if "buckets" in found else None
     return Settings(**values)

@@ -6,12 +6,13 @@ import argparse
 import signal
 import sys
 import threading
+from collections.abc import Sequence
 from pathlib import Path
 
 from vaultdesk import config, reading
 from vaultdesk.asking import add_yes, confirm
 from vaultdesk.engine import Engine
-from vaultdesk.errors import DeskError, UsageError
+from vaultdesk.errors import DeskError, EngineError, UsageError
 from vaultdesk.output import print_done, print_json, print_table, say
 from vaultdesk.s3 import keys, settings
 from vaultdesk.s3.again import Unanswered
@@ -34,20 +35,25 @@ the caller whose key it is. The secret is printed as the key is added, and never
 change over with the next request."""
 
 
-def _has_default(engine: Engine, given: Settings) -> dict[str, bool]:
-    """The buckets of a vault, and whether each has a default retention; of those of the settings it isn't known."""
-    if given.buckets is not None:
-        return dict.fromkeys(given.buckets, True)
-    rows = reading.rows(engine.tables, "SELECT name, mode FROM buckets ORDER BY name")
-    return {str(name): bool(mode) for name, mode in rows}
+def _unlocked(engine: Engine) -> list[str]:
+    """The buckets without a default retention; none where a server has the vault and its file can't be read here.
+
+    `EngineError` where the file can't be read, and no server has the vault."""
+    try:
+        rows = reading.rows(engine.tables, "SELECT name FROM buckets WHERE mode = 0 ORDER BY name")
+    except EngineError as error:
+        if not engine.is_served:
+            raise
+        say(f"vaultdesk s3: it isn't known which buckets have no default retention: {error}")
+        return []
+    return [str(name) for (name,) in rows]
 
 
-def _say_unlocked(buckets: dict[str, bool]) -> None:
+def _say_unlocked(buckets: Sequence[str]) -> None:
     """Says which buckets take in what nothing guards."""
-    for bucket, has_default in buckets.items():
-        if not has_default:
-            why = "what a client puts there without lock headers, as rclone, s3cmd and aws s3 do, isn't locked"
-            say(f"vaultdesk s3: bucket {bucket} has no default retention: {why}")
+    for bucket in buckets:
+        why = "what a client puts there without lock headers, as rclone, s3cmd and aws s3 do, isn't locked"
+        say(f"vaultdesk s3: bucket {bucket} has no default retention: {why}")
 
 
 def serve(words: argparse.Namespace) -> int:
@@ -56,19 +62,18 @@ def serve(words: argparse.Namespace) -> int:
     there = Keys(given.keys)
     desk = config.Desk(config.program(), config.settings().file_of(given.vault), None, given.door)
     engine = Engine(desk)
-    buckets = _has_default(engine, given)
-    engine.close()
+    unlocked = _unlocked(engine)
+    door = OwnEngine(engine, given.admin)
+    buckets = door.open()
     etags = Etags(given.etags)
-    door = OwnEngine(engine)
-    door.open()
-    vault = Vault(door, etags, given, list(buckets), Unanswered(given.unanswered))
+    vault = Vault(door, etags, given, Unanswered(given.unanswered))
     with _listening(given, Gateway(vault, there), words.quiet) as server:
         _stop_at_signals(server)  # before it is said that it serves
-        _say_unlocked(buckets)
+        _say_unlocked(unlocked)
         scheme = "https" if given.certificate else "http"
         where = f"{scheme}://{given.address}:{server.server_address[1]}"
         say(f"serving {desk.file} to clients of S3 at {where}")
-        print_done(words.json, vault=str(desk.file), serves=where, buckets=list(buckets))
+        print_done(words.json, vault=str(desk.file), serves=where, buckets=buckets)
         sys.stdout.flush()
         server.serve_forever()
         server.wait_idle(LAST_ANSWERS)

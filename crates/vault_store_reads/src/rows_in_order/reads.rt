@@ -2,7 +2,7 @@
 ghost use Rattle.std.specs.Prelude.{◌≡◌, IfOk};
 ghost use Rattle.sqlite.specs.Held.{state};
 ghost use Rattle.sqlite.specs.State.{HasCleanDisk};
-ghost use Rattle.vault_core_model.specs.Reads.{entries_of, keys_after, setting_of, settings_of, tenures_of};
+ghost use Rattle.vault_core_model.specs.Reads.{buckets_after, entries_of, ids_before, keys_after, setting_of, settings_of, tenures_of};
 ghost use Rattle.vault_core_model.specs.Totals.{bucket_bytes, bucket_weight};
 ghost use Rattle.vault_core_model.specs.Vault.{Vault, rules_of};
 ghost use Rattle.vault_store_model.specs.Keeping.{Keeps};
@@ -11,9 +11,11 @@ ghost use Rattle.vault_store_reads.specs.Shown.{newest_but};
 ghost use Rattle.vault_store_reads.specs.Quiet.{OnlyReads, IsOpenIfOk};
 ghost use Rattle.vault_store_reads.specs.Wants.{WantsMemoryIfErr};
 
+use crate::rows_in_order::buckets::find_buckets;
 use crate::rows_in_order::decode::{decode_keys, decode_rules, decode_settings, decode_tenures};
 use crate::rows_in_order::find::{find_entries, find_last_tenure, find_setting};
 use crate::rows_in_order::holding::find_bucket_held;
+use crate::rows_in_order::ids::find_ids;
 use crate::rows_in_order::rows::{key_rows, newest_rows, rule_rows, settings_rows, tenure_rows};
 use crate::rows_in_order::shown::{UNREADABLE, read_id};
 use sqlite::{Alter, Connection, Error};
@@ -116,6 +118,40 @@ pub fn read_keys<S: Alter>(
 {
     let rows = key_rows(conn, bucket, after, most)?;
     decode_keys(alloc, &rows)
+}
+
+/// The ids of a key's held entries that are older than `than`, newest first: at most `most`. Each is older where
+/// none is given.
+pub fn read_ids<S: Alter>(
+    conn: &mut Connection<S>,
+    alloc: Global,
+    bucket: &BucketName,
+    key: &ObjectKey,
+    than: Option<VersionId>,
+    most: u32,
+) -> Result<Vec<VersionId>, Error>
+    ensures value { HasCleanDisk (state S.Store conn.new) → IfOk result (λ ids. (v : Vault) → Keeps (state S.Store conn.old) v → ids.items ≡ ids_before v bucket.now key.now than most) }
+    ensures read { OnlyReads S.Store conn.old conn.new }
+    ensures open { IsOpenIfOk S.Store conn.new result }
+    ensures memory { WantsMemoryIfErr S.Store conn.old conn.new result }
+{
+    find_ids(conn, alloc, bucket, key, than, most)
+}
+
+/// The names of the first buckets after `after`, by their bytes: at most `most`. Each name comes after the empty
+/// text.
+pub fn read_buckets<S: Alter>(
+    conn: &mut Connection<S>,
+    alloc: Global,
+    after: &str,
+    most: u32,
+) -> Result<Vec<BucketName>, Error>
+    ensures value { HasCleanDisk (state S.Store conn.new) → IfOk result (λ names. (v : Vault) → Keeps (state S.Store conn.old) v → names.items ≡ buckets_after v after.now most) }
+    ensures read { OnlyReads S.Store conn.old conn.new }
+    ensures open { IsOpenIfOk S.Store conn.new result }
+    ensures memory { WantsMemoryIfErr S.Store conn.old conn.new result }
+{
+    find_buckets(conn, alloc, after, most)
 }
 
 /// The held entries of a key, oldest first.

@@ -2,19 +2,19 @@
 ghost use Rattle.std.specs.Prelude.{◌≡◌, ◌≢◌, ℕ, List, IsTrue, MatchOption, IfOk, IfErr};
 ghost use Rattle.vault_base.specs.Name.{is_version_id};
 ghost use Rattle.vault_core_model.specs.declared.records.LastSetting.{LastSetting as Last};
-ghost use Rattle.vault_audit_model.specs.Limits.{IsObjectKey};
+ghost use Rattle.vault_audit_model.specs.Limits.{IsBucketName, IsObjectKey};
 ghost use Rattle.vault_store_reads.specs.Readable.{IsHeldRow, IsLastSetting, IsSizedRow};
-ghost use Rattle.vault_store_reads.specs.Shown.{last_row, held_row, sized_row, key_row, id_row};
+ghost use Rattle.vault_store_reads.specs.Shown.{last_row, held_row, sized_row, key_row, id_row, name_row};
 ghost use Rattle.vault_store_reads.specs.declared.rows_in_order.shown.HeldRow.{HeldRow as Held};
 ghost use Rattle.vault_store_reads.specs.declared.rows_in_order.shown.SizedRow.{SizedRow as Sized};
 
 use sqlite::{Error, ErrorCode, Row};
 use vault_audit_rows::cell::{flag, moment, number_within, version_id};
 use vault_audit_rows::misread::Misread;
-use vault_audit_rows::name::object_key;
+use vault_audit_rows::name::{bucket_name, object_key};
 use vault_audit_rows::several_columns::retention;
 use vault_base::moment::Moment;
-use vault_base::name::{ObjectKey, VersionId};
+use vault_base::name::{BucketName, ObjectKey, VersionId};
 use vault_core_model::records::LastSetting;
 use vault_lock::lock::Lock;
 
@@ -98,6 +98,17 @@ pub fn read_key(row: &Row) -> Result<ObjectKey, Misread>
         return Err(Misread::Wrong);
     }
     object_key(row, 0)
+}
+
+/// The name of a bucket.
+pub fn read_name(row: &Row) -> Result<BucketName, Misread>
+    ensures ok { IfOk result (λ name. row.now ≡ name_row name) }
+    ensures wrong { IfErr result (λ e. e ≡ Misread.Wrong → (name : List ℕ) → IsBucketName name → row.now ≢ name_row name) }
+{
+    if row.column_count() != 1 {
+        return Err(Misread::Wrong);
+    }
+    bucket_name(row, 0)
 }
 
 /// The id of an entry.

@@ -1,5 +1,6 @@
-use Rattle.std.proofs.Common.{[]}
+use Rattle.std.proofs.Common.{[], rules}
 use Rattle.sqlite.specs.Held.{state}
+use Rattle.vault_audit.specs.Health.{IsMemory}
 use Rattle.vault_store_apply.proofs.ReadLemmas.{unchanged_keeps, refused_keeps}
 use Rattle.vault_store_reads.proofs.WantLemmas.{not_prepared}
 use Rattle.vault_store.proofs.ShutLemmas.{shut_text, shut_plain, shut_unlisted, shut_asked}
@@ -15,4 +16,6 @@ returns-in_err-_statement-clause-same g c clean v was =
 
 pub returns-in_err-_statement-clause-memory : goal.returns-in_err-_statement-clause-memory
 returns-in_err-_statement-clause-memory g c well v was =
-    not_prepared shut_text [] (state g.S.Store c.args.conn.now) (state g.S.Store c.prepare.new.self) v was well c.prepare.ensures.survives.limit shut_plain shut_unlisted shut_asked _ (c.in_err-_statement.ensures.err well.clean [])
+    let one : IsMemory c.in_err-_statement.field-0.0 =
+    not_prepared shut_text [] (state g.S.Store c.args.conn.now) (state g.S.Store c.prepare.new.self) v was well c.prepare.ensures.survives.limit shut_plain shut_unlisted shut_asked _ (c.in_err-_statement.ensures.err well.clean []) in
+    search rules

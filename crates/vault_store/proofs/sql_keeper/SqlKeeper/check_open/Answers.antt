@@ -17,4 +17,4 @@ invariant_of-self-in-Err g c = record {
 }
 
 pub returns-in-Err-clause-healthy : goal.returns-in-Err-clause-healthy
-returns-in-Err-clause-healthy g c well = no_failure g.S.Store _ _ _ _ _ c.args.self.now.kept (c.refuse_shut.ensures.honest well.clean) (λ w keeps. c.in-Err.ensures.memory well w keeps) c.blame.ensures.reported
+returns-in-Err-clause-healthy g c well = no_failure g.S.Store c.args.self.now.conn _ _ _ _ c.args.self.now.kept (c.refuse_shut.ensures.honest well.clean) (λ w keeps. c.in-Err.ensures.memory well w keeps) c.blame.ensures.reported

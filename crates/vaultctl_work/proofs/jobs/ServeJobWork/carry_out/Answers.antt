@@ -8,6 +8,3 @@ returns-in_default-clause-done g c = λ h. (h, Stepped-none _ _ _ refl)
 
 pub returns-in-Some-clause-done : goal.returns-in-Some-clause-done
 returns-in-Some-clause-done g c = λ h. let both = c.serve_both.ensures.done h in (both.0, rw c.in-Some.is both.1)
-
-pub returns-in-None-clause-done : goal.returns-in-None-clause-done
-returns-in-None-clause-done g c = λ h. (c.serve.ensures.leaves.0 h, rw c.in-None.is (c.serve.ensures.stepped h))

@@ -1,0 +1,10 @@
+use Rattle.std.proofs.Common.{rules}
+use Rattle.vault_audit_model.specs.Limits.{IsBucketName}
+use Rattle.vault_audit_walk.specs.Records.{ReportsOne}
+use Rattle.vault_audit_walk.specs.Health.{IsMemory}
+use Rattle.vault_store_reads.specs.Shown.{name_row}
+use Rattle.vault_store_reads.proofs.LimitLemmas.{at_place}
+use Rattle.vault_store_reads.proofs.rows_in_order.buckets.decode_names.Goals as goal
+
+pub returns-in_err-one-clause-memory : goal.returns-in_err-one-clause-memory
+returns-in_err-one-clause-memory c readable = let one : IsMemory c.in_err-one.field-0.0 = c.in_err-one.ensures.memory (at_place (ReportsOne name_row IsBucketName) c.args.rows.now c.loop-row.row-index c.row-item.result readable c.loop-row-test.true c.row-item.is) in search rules
