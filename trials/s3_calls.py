@@ -28,6 +28,7 @@ class Call(NamedTuple):
 CALLS = [
     Call("list_buckets", {}), Call("head_bucket", DOCS), Call("head_bucket", NEW, "404"),
     Call("get_bucket_location", DOCS), Call("get_bucket_versioning", DOCS),
+    Call("get_bucket_location", NEW, "NoSuchBucket"), Call("get_bucket_versioning", NEW, "NoSuchBucket"),
     Call("create_bucket", DOCS, "BucketAlreadyOwnedByYou"), Call("create_bucket", NEW, "InvalidRequest"),
     Call("list_objects_v2", {**DOCS, "Prefix": "d", "Delimiter": "/"}), Call("list_objects", DOCS),
     Call("list_object_versions", DOCS), Call("list_objects_v2", NEW, "NoSuchBucket"),

@@ -217,8 +217,11 @@ EDITS = [
     ("listings", "len(found) > wanted.most", "len(found) >= wanted.most", LISTS + "test_2500_keys_in_pages"),
     ("listings", "{\"after_key\": row[\"key\"], \"after_id\": row[\"version_id\"]}", "{\"after_key\": row[\"key\"]}",
      LISTS + "test_versions_of_one_key_over_pages"),
-    ("buckets", "        return fault.message.startswith(\"right:list\")\n", "        return True\n",
+    ("buckets", " or fault.message.startswith(\"department:\"):\n            return fault", " or False:\n            return fault",
      BUCKETS + "test_each_department_has_its_own"),
+    ("buckets", "            return fault\n        raise\n", "            return fault\n        return fault\n",
+     BUCKETS + "test_a_caller_who_is_closed_has_no_list"),
+    ("buckets", "    if fault:\n        raise fault\n", "    if fault:\n        pass\n", BUCKETS + "test_what_is_asked_of_a_bucket"),
     # the gateway as a program, and its secrets
     ("gateway", "            fault.caller = caller\n", "            pass\n", HEADS + "test_the_log_says_who_asked_for_what"),
     ("settings", "    presigned: bool = False\n", "    presigned: bool = True\n", SETTINGS + "test_what_is_left_out_is_the_careful_choice"),

@@ -142,7 +142,6 @@ tell "lines, for who is of the group"
 GATEWAY = """\
 cp /usr/share/doc/vaultctl/examples/s3.toml /etc/vaultctl/records.s3.toml
 ! systemctl start vault-s3@records.service || fail "a gateway without keys is started"
-systemctl reset-failed vault-s3@records.service
 install -o vaultctl -g vaultctl -m 600 /dev/null /etc/vaultctl/records.keys.toml
 vaultdesk s3 key add ann --settings /etc/vaultctl/records.s3.toml > /trial/key
 is "$(stat -c '%U %a' /etc/vaultctl/records.keys.toml)" "vaultctl 600" "the owner of the keys"

@@ -4,9 +4,12 @@ from __future__ import annotations
 
 import contextlib
 import io
+from pathlib import Path
+from unittest import mock
 
 from tests.machine import MachineTest
 from vaultdesk import conf
+from vaultdesk.config import Settings
 from vaultdesk.errors import DeskError
 
 
@@ -22,6 +25,16 @@ class Conf(MachineTest):
         for text in ("drafts cases", '"$HOME"', "$HOME", '"`id`"', "a\\ b", "'open", '"it\'s $HOME and \'s"'):
             with self.assertRaises(ValueError, msg=text):
                 conf.value_of(text)
+
+    def test_a_name_has_its_file_where_the_folder_may_not_be_searched(self) -> None:
+        (self.machine / "records.conf").write_text("PORT=8080\n")
+        configured = conf.is_configured("records")
+        self.assertTrue(configured)
+        with (
+            mock.patch.object(conf, "is_configured", return_value=configured),
+            mock.patch.object(Path, "exists", side_effect=PermissionError),
+        ):
+            self.assertEqual(Settings().file_of("records"), conf.vaults_folder() / "records.vault")
 
     def test_a_line_that_is_wrong_is_named(self) -> None:
         path = self.machine / "records.conf"

@@ -29,6 +29,17 @@ class Buckets(GatewayTest):
         for name, code in (("policy", "NoSuchBucketPolicy"), ("tagging", "NoSuchTagSet"),
                            ("encryption", "ServerSideEncryptionConfigurationNotFoundError")):
             self.refused(code, 404, self.ask("GET", f"/docs?{name}"))
+        for name in ("location", "versioning", "policy", "tagging"):
+            self.refused("NoSuchBucket", 404, self.ask("GET", f"/nothing?{name}"))
+            self.refused("AccessDenied", 403, self.ask("GET", f"/cases?{name}"))
+
+    def test_a_caller_who_is_closed_has_no_list(self) -> None:
+        self.stop()
+        self.lines({"do": "close-caller", "as": "registrar", "caller": "cid"})
+        self.start()
+        for target in ("/", "/cases", "/cases?location"):
+            self.refused("AccessDenied", 403, self.ask("GET", target, who=CID))
+        self.refused("AccessDenied", 403, self.ask("PUT", "/cases", who=CID))
 
     def test_none_is_made(self) -> None:
         self.refused("BucketAlreadyOwnedByYou", 409, self.ask("PUT", "/docs"))

@@ -49,8 +49,11 @@ class Settings:
     limits: Limits = limits.NONE
 
     def file_of(self, vault: str) -> Path:
-        """The file of the vault that is named so, or else that path itself."""
-        if vault not in (self.vaults or {}) and conf.is_configured(vault) and not Path(vault).exists():
+        """The file of the vault that is named so, or else that path itself.
+
+        A folder that may not be searched has no file of that name for whoever asks.
+        """
+        if vault not in (self.vaults or {}) and conf.is_configured(vault) and not os.path.exists(vault):
             return conf.vaults_folder() / f"{vault}.vault"
         return Path((self.vaults or {}).get(vault, vault)).expanduser()
 
