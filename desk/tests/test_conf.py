@@ -67,7 +67,7 @@ class Conf(MachineTest):
 
     def test_a_name_is_no_path(self) -> None:
         for name in ("../records", "", "a/b", "-x", ".."):
-            with self.assertRaises(DeskError, msg=name):
+            with self.assertRaisesRegex(DeskError, "is no vault's name", msg=name):
                 conf.read(name)
         with self.assertRaisesRegex(DeskError, "no vault has the name recrods"):
             conf.read("recrods")

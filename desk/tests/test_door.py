@@ -57,6 +57,13 @@ class ByTheDoor(ServedTest):
     def test_of_many_who_put_a_new_one_at_once_one_does(self) -> None:
         self.serve()
         words = argparse.Namespace(bucket="docs", key="a")
+        look, everybody, looked = documents._look_new, threading.Barrier(10), set[int]()
+
+        def look_first(engine: Engine, asked: argparse.Namespace) -> None:
+            look(engine, asked)
+            if threading.get_ident() not in looked:
+                looked.add(threading.get_ident())
+                everybody.wait(300)  # all of them have found nothing
 
         def put(number: int) -> int | None:
             members = {"bucket": "docs", "key": "a", "text": f"by number {number // 2}"}
@@ -64,7 +71,7 @@ class ByTheDoor(ServedTest):
                 return documents._put_new(engine, words, members)
             return None
 
-        with ThreadPoolExecutor(10) as pool:
+        with mock.patch("vaultdesk.documents._look_new", look_first), ThreadPoolExecutor(10) as pool:
             done = list(pool.map(put, range(10)))
         self.assertEqual(sorted(it for it in done if it is not None), [1])
         self.assertEqual(len(json.loads(self.done("ls", "docs", "--json", at=None))), 1)

@@ -13,6 +13,7 @@ import subprocess
 import sys
 import threading
 import time
+from collections.abc import Callable
 from concurrent.futures import ThreadPoolExecutor
 from pathlib import Path
 from unittest import mock
@@ -26,6 +27,13 @@ from vaultdesk.s3.door import Told
 
 LOCK = {"x-amz-object-lock-mode": "COMPLIANCE", "x-amz-object-lock-retain-until-date": "2034-01-01T00:00:00Z"}
 ONCE = {"amz-sdk-invocation-id": "d969f1fc-afca-45f4-93cf-bb107518bc68"}
+
+
+def wait_until(holds: Callable[[], bool]) -> None:
+    """Waits for that, half a minute at most: what the log has of a request is written after the answer was sent."""
+    deadline = time.monotonic() + 30
+    while not holds() and time.monotonic() < deadline:
+        time.sleep(0.01)
 
 
 class Again(GatewayTest):
@@ -381,6 +389,7 @@ class Heads(GatewayTest):
         with contextlib.redirect_stderr(io.StringIO()) as log:
             for it in asked:
                 self.assertGreaterEqual(self.send(f"{it}\r\nhost: a\r\n\r\n".encode())[0].status, 400)
+            wait_until(lambda: log.getvalue().count("\n") >= len(asked))
         self.assertNotIn(signature, log.getvalue())
         for it in asked:
             self.assertIn(it.removesuffix(" HTTP/1.1").replace(signature, ".."), log.getvalue())
@@ -389,6 +398,7 @@ class Heads(GatewayTest):
         self.server.is_quiet = False
         with contextlib.redirect_stderr(io.StringIO()) as log:
             self.refused("InvalidRequest", 400, self.ask("PUT", "/docs/a", b"x", {"x-amz-meta-a": "b"}, BEA))
+            wait_until(lambda: log.getvalue().endswith("\n"))
         self.assertIn(" bea PUT /docs/a 400 InvalidRequest\n", log.getvalue())
         self.assertNotIn(SECRET, log.getvalue())
 

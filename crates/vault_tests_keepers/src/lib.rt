@@ -1,9 +1,11 @@
 //! Tests over both kinds of keeper, the list and tables in memory: rows, runs that a device stops, and what is said of
-//! buckets that were moved, of removed entries and of what happened to each.
+//! buckets that were moved, of removed entries and of what happened to each, of ids and of buckets in order.
 #![tactic(auto)]
 
 #[cfg(test)]
 mod evidence;
+#[cfg(test)]
+mod in_order;
 #[cfg(test)]
 mod moves;
 #[cfg(test)]

@@ -1,16 +1,16 @@
 //! What a report reads, and what is read of one key, takes as many steps in a large vault as in a small one, and of a key with
-//! many removed versions as of a fresh one.
+//! many removed versions as of a fresh one. So do a few ids of a key with many held ones.
 use sqlite::{Alter, Connection, Error, params};
 use std::alloc::Global;
 use std::process::Abort;
 use std::test::Fail;
-use vault_base::name::{BucketName, DeptName, KeyPrefix, ObjectKey};
+use vault_base::name::{BucketName, DeptName, KeyPrefix, ObjectKey, VersionId};
 use vault_base::refusal::Refusal;
 use vault_store::create::fill;
 use vault_store_reads::heads::read_head;
 use vault_store_reads::meta::read_last;
 use vault_store_reads::names::{has_department, read_totals};
-use vault_store_reads::rows_in_order::reads::{read_entries, read_keys};
+use vault_store_reads::rows_in_order::reads::{read_entries, read_ids, read_keys};
 use vault_tests_tables_stores::disks::{let_go, opened_empty};
 
 /// A department, its bucket, a key of it, and where the bucket's keys begin.
@@ -29,6 +29,11 @@ enum Reading {
     Head,
     Entries,
     Keys,
+    /// All ids of the key, and those older than one that is newer than all.
+    Ids,
+    OlderIds,
+    /// Three of the key's ids that are older than one.
+    OfMany(u32),
 }
 
 // These have no clause, so that the proof of a test does not carry the state of each call, nor work out a name.
@@ -90,6 +95,26 @@ fn reads_keys<S: Alter>(conn: &mut Connection<S>, alloc: Global, names: &Names) 
     read_keys(conn, alloc, &names.bucket, &names.start, 5).is_ok_and(|found| found.len() == 5)
 }
 
+/// Whether `found` ids of the key are read that are older than one: each is, where that has the number 0.
+fn reads_ids<S: Alter>(
+    conn: &mut Connection<S>,
+    alloc: Global,
+    names: &Names,
+    than: u32,
+    most: u32,
+    found: usize,
+) -> bool {
+    read_ids(
+        conn,
+        alloc,
+        &names.bucket,
+        &names.key,
+        VersionId::new(than),
+        most,
+    )
+    .is_ok_and(|ids| ids.len() == found)
+}
+
 fn can<S: Alter>(conn: &mut Connection<S>, alloc: Global, names: &Names, reading: Reading) -> bool {
     match reading {
         Reading::Report => reads_last(conn)
@@ -98,6 +123,9 @@ fn can<S: Alter>(conn: &mut Connection<S>, alloc: Global, names: &Names, reading
         Reading::Head => reads_head(conn, names),
         Reading::Entries => reads_entries(conn, alloc, names),
         Reading::Keys => reads_keys(conn, alloc, names),
+        Reading::Ids => reads_ids(conn, alloc, names, 0, 2, 1),
+        Reading::OlderIds => reads_ids(conn, alloc, names, GREATEST, 2, 1),
+        Reading::OfMany(than) => reads_ids(conn, alloc, names, than, 3, 3),
     }
 }
 
@@ -140,6 +168,9 @@ const MORE_ENTRIES: &str =
 
 const MORE_HEADS: &str = "INSERT INTO heads SELECT bucket, key, id, 1 FROM entries WHERE id > ?1";
 
+/// The greatest number that an id has.
+const GREATEST: u32 = 1_000_000_000;
+
 /// As many versions of one key as there are entries, all removed.
 const REMOVED_VERSIONS: &str =
     "INSERT INTO entries SELECT id + 10240, bucket, 'k7', marker, size, digest, admitted, by_rule, admitted_by, 1700000000, 0, 'ada' FROM entries";
@@ -154,12 +185,14 @@ fn read_names(alloc: Global) -> Result<Names, Fail> {
 }
 
 /// The steps that are enough for each reading.
-fn enough_for_each<S: Alter>(conn: &mut Connection<S>, alloc: Global, names: &Names) -> [u64; 4] {
+fn enough_for_each<S: Alter>(conn: &mut Connection<S>, alloc: Global, names: &Names) -> [u64; 6] {
     [
         enough_steps(conn, alloc, names, Reading::Report),
         enough_steps(conn, alloc, names, Reading::Head),
         enough_steps(conn, alloc, names, Reading::Entries),
         enough_steps(conn, alloc, names, Reading::Keys),
+        enough_steps(conn, alloc, names, Reading::Ids),
+        enough_steps(conn, alloc, names, Reading::OlderIds),
     ]
 }
 
@@ -199,7 +232,9 @@ fn judge_steps<S: Alter>(
     names: &Names,
 ) -> Result<(), Fail> {
     let among_ten = enough_for_each(conn, alloc, names);
-    assert!(rt; among_ten[0] < 64 && among_ten[1] < 64 && among_ten[2] < 64 && among_ten[3] < 64);
+    for steps in among_ten {
+        assert!(rt; steps < 64);
+    }
     grow(conn)?;
     assert_eq!(rt; entries(conn)?, 10_240);
     assert_eq!(rt; enough_for_each(conn, alloc, names), among_ten);
@@ -207,5 +242,80 @@ fn judge_steps<S: Alter>(
     limit(conn, None);
     batch(conn, REMOVED_VERSIONS)?;
     assert_eq!(rt; enough_for_each(conn, alloc, names), among_ten);
+    Ok(())
+}
+
+const TEN_OF_ONE_KEY: &str =
+    "INSERT INTO departments VALUES ('records', 10, 10, 0, 185180, 0, 0, 0); INSERT INTO buckets VALUES ('docs', 'records', 0, NULL, NULL); INSERT INTO entries SELECT id + n, 'docs', 'k7', 0, 1, x'00', 1600000000, 0, 'ada', NULL, NULL, NULL FROM (SELECT 1 AS id UNION ALL SELECT 2 UNION ALL SELECT 3 UNION ALL SELECT 4 UNION ALL SELECT 5), (SELECT 0 AS n UNION ALL SELECT 5); INSERT INTO heads VALUES ('docs', 'k7', 10, 10)";
+
+const MORE_OF_ONE_KEY: &str =
+    "INSERT INTO entries SELECT id + ?1, bucket, key, marker, size, digest, admitted, by_rule, admitted_by, removed, cause, cause_by FROM entries";
+
+const NEWER_HEAD: &str = "UPDATE heads SET newest = newest + ?1, count = count + ?1";
+
+/// Puts as many versions more of the key as there are.
+fn double_versions<S: Alter>(conn: &mut Connection<S>, present: i64) -> Result<(), Error> {
+    conn.execute(MORE_OF_ONE_KEY, params![present])?;
+    conn.execute(NEWER_HEAD, params![present])?;
+    Ok(())
+}
+
+fn grow_key<S: Alter>(conn: &mut Connection<S>) -> Result<(), Error> {
+    limit(conn, None);
+    for present in [10, 20, 40, 80, 160, 320, 640, 1280, 2560, 5120] {
+        double_versions(conn, present)?;
+    }
+    Ok(())
+}
+
+/// The steps that are enough for three ids: for the newest, for three that are older than the ninth, and for three that are
+/// older than what comes after all.
+fn enough_of_many<S: Alter>(conn: &mut Connection<S>, alloc: Global, names: &Names) -> [u64; 3] {
+    [
+        enough_steps(conn, alloc, names, Reading::OfMany(0)),
+        enough_steps(conn, alloc, names, Reading::OfMany(9)),
+        enough_steps(conn, alloc, names, Reading::OfMany(10_241)),
+    ]
+}
+
+#[test]
+fn a_few_ids_of_a_key_take_as_much_of_many_versions_as_of_ten(rt: HostRuntime) -> Result<(), Fail> {
+    let mut conn = opened_empty(rt.alloc())?;
+    let judged = read_of_few_and_many(&rt, rt.alloc(), &mut conn);
+    let_go(conn);
+    judged
+}
+
+fn read_of_few_and_many<S: Alter>(
+    rt: &impl Abort,
+    alloc: Global,
+    conn: &mut Connection<S>,
+) -> Result<(), Fail> {
+    assert_eq!(rt; made(conn), Ok(()));
+    batch(conn, TEN_OF_ONE_KEY)?;
+    let names = read_names(alloc)?;
+    let judged = judge_ids(rt, alloc, conn, &names);
+    drop(names);
+    judged
+}
+
+/// The steps that are enough of a key with ten versions are few, and are enough of one with 10,240, and where as many came
+/// after these and were removed.
+fn judge_ids<S: Alter>(
+    rt: &impl Abort,
+    alloc: Global,
+    conn: &mut Connection<S>,
+    names: &Names,
+) -> Result<(), Fail> {
+    let of_ten = enough_of_many(conn, alloc, names);
+    for steps in of_ten {
+        assert!(rt; steps < 64);
+    }
+    grow_key(conn)?;
+    assert_eq!(rt; entries(conn)?, 10_240);
+    assert_eq!(rt; enough_of_many(conn, alloc, names), of_ten);
+    limit(conn, None);
+    batch(conn, REMOVED_VERSIONS)?;
+    assert_eq!(rt; enough_of_many(conn, alloc, names), of_ten);
     Ok(())
 }
