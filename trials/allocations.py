@@ -1,9 +1,7 @@
 """Allocations: each of a script's is refused in turn, and want of memory loses nothing.
 
-The script is examples/every-command.jsonl, given to `replay`. The program is what `rt try` builds of the
-sources, unproved, with checks of each access to memory; it is kept in the file that TRIALS_KEPT names, if it names
-one, and taken from there. In each run one allocation is refused, from the program's first one on. The run is right
-where one of these holds:
+The script is examples/every-command.jsonl, given to `replay`. In each run one allocation of the program is refused,
+from its first one on, by a library that is loaded into it. The run is right where one of these holds:
 
   - A command, but no lifecycle run, answered Memory. Then each later reply is that of an untroubled
     run of the script without that line.
@@ -27,16 +25,15 @@ import os
 import re
 from concurrent.futures import ThreadPoolExecutor
 
-from trials.program import EXAMPLES, TOP, Case, check, ran_words
-from unproved import NEVER, Refusing
+from trials.program import EXAMPLES, PROGRAM, Case, check, needs, ran_words
+from proved import Loaded
 
-TAKES_LONG = True
 SCRIPT = EXAMPLES / "every-command.jsonl"
 JOBS = len(os.sched_getaffinity(0))
 # How many runs in a row that nothing troubles end the search.
 ENOUGH = 100
-# Empty lines, which are no commands: they keep the program running for seconds while it is taken.
-HELD = "\n" * 400_000
+# The number of an allocation that no run comes to.
+NEVER = 0
 # How long one run may take, in seconds.
 LIMIT = 60
 
@@ -149,15 +146,10 @@ class Program:
 
     def __init__(self, folder):
         self.folder = folder
-        cases = self.folder / "cases"
-        cases.mkdir()
-        (cases / "held").write_text(HELD)
-        # One step: the interpreter can't run a program that reads its words, so it needn't begin.
-        options = ["--steps", "1", "--cases", str(cases), "--", "replay"]
-        self.program = Refusing(options, TOP / "crates" / "vaultctl", folder, os.environ.get("TRIALS_KEPT"))
+        self.program = Loaded(PROGRAM, folder)
 
     def run(self, lines, number=NEVER):
-        """What it answers to a script where that allocation is refused, in an empty environment, as `rt try` has."""
+        """What it answers to a script where that allocation is refused, with nothing else in its environment."""
         script = "".join(it + "\n" for it in lines)
         with self.program.refusing(number) as words:
             done = ran_words(*words, "replay", given=script, env={}, timeout=LIMIT, cwd=self.folder)
@@ -232,6 +224,7 @@ def sweep(program, lines, reference):
                     untroubled += 1
                     continue
                 check(line >= last, f"allocation {number} troubles line {line + 1}, after line {last + 1}")
+                ways["none"] += untroubled
                 last, untroubled = line, 0
                 troubled.add(line)
                 ways[how] += 1
@@ -243,6 +236,7 @@ def sweep(program, lines, reference):
     return ways
 
 
+@needs(os.environ.get("CC", "cc"))
 class Allocations(Case):
     def test_script(self):
         lines = [it for it in SCRIPT.read_text().splitlines() if it]

@@ -97,11 +97,14 @@ fn serve_case<K: Filled>(
     Ok(())
 }
 
-/// Serves each case in turn.
-fn serve_cases<K: Filled>(alloc: Global, cases: &mut [Case<K>]) -> Result<(), Fail> {
-    let mut written = Vec::with_capacity(alloc, 4096)?;
+/// Serves each case in turn. The room for what is written is there.
+fn serve_cases<K: Filled>(
+    alloc: Global,
+    cases: &mut [Case<K>],
+    written: &mut Vec<u8>,
+) -> Result<(), Fail> {
     for case in cases.iter_mut() {
-        serve_case(alloc, case, &mut written)?;
+        serve_case(alloc, case, written)?;
     }
     Ok(())
 }
@@ -178,8 +181,9 @@ fn judge_each<K: Filled>(rt: &HostRuntime, cases: &mut [Case<K>]) -> Result<(), 
 
 fn judge_rows<K: Filled>(rt: &HostRuntime) -> Result<(), Fail> {
     let mut cases: Vec<Case<K>> = cases(rt.alloc())?;
+    let mut written = Vec::with_capacity(rt.alloc(), 4096)?;
     println!(rt; "begun")?;
-    serve_cases(rt.alloc(), cases.as_mut_slice())?;
+    serve_cases(rt.alloc(), cases.as_mut_slice(), &mut written)?;
     println!(rt; "served")?;
     judge_each(rt, cases.as_mut_slice())
 }
