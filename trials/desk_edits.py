@@ -138,6 +138,10 @@ EDITS = [
      CASES + "test_a_case_is_released_by_its_name_and_nothing_else_is"),
     ("cases", "        if rows and rows[0] != HEAD:\n", "        if False:\n",
      CASES + "test_a_file_of_cases_that_isnt_one_stops_before_any_change"),
+    ("cases", "            if written != len(content):\n", "            if False:\n",
+     CASES + "test_a_disk_that_is_full_is_said_and_leaves_whole_records"),
+    ("cases", "                    self._file.truncate(end)\n", "                    pass\n",
+     CASES + "test_a_disk_that_is_full_is_said_and_leaves_whole_records"),
     ("locks", "it.bucket, it.key, version, was))", "it.bucket, it.key, version, \"\"))",
      CASES + "test_a_case_is_noted_with_who_and_what_the_lock_was"),
     # deliveries

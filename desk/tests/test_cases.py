@@ -3,14 +3,23 @@
 from __future__ import annotations
 
 import csv
+import io
 import json
 from typing import Any
+from unittest import mock
 
 from tests.office import OfficeTest
 
 KEYS = ("2024/a", "2024/b", "2025/c")
 LATER = "2024-01-15T11:00:00Z"
 CASE = 'Miller 17, "the ring"; Müller'
+
+
+class Full(io.FileIO):
+    """A file on a disk that has room for five bytes more."""
+
+    def write(self, content: Any, /) -> int:
+        return super().write(bytes(content)[:5])
 
 
 class OfCases(OfficeTest):
@@ -128,6 +137,15 @@ class OfCases(OfficeTest):
         for name in ("", "  ", "a\nb", "a\u202eb"):
             self.assertEqual(self.desk("hold", "docs", "2024/a", "--case", name).status, 2, name)
         self.assertEqual(self.holds(), ["OFF", "OFF", "OFF"])
+
+    def test_a_disk_that_is_full_is_said_and_leaves_whole_records(self) -> None:
+        self.done("hold", "docs", "2024/a", "--case", "one")
+        before = self.file_of_cases.read_bytes()
+        with mock.patch("vaultdesk.cases.open", lambda file, *_, **__: Full(file, "ab"), create=True):
+            done = self.desk("hold", "docs", "--prefix", "2024/b", "--case", "one")
+        self.assertEqual((done.status, done.out), (1, ""))
+        self.assertIn("version 2 has its hold changed (hold), which isn't noted for 'one'", done.err)
+        self.assertEqual((self.file_of_cases.read_bytes(), self.holds()), (before, ["ON", "ON", "OFF"]))
 
     def test_a_file_that_cant_be_written_stops_before_any_change(self) -> None:
         self.file_of_cases.mkdir()

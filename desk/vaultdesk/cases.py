@@ -9,12 +9,13 @@ from __future__ import annotations
 import argparse
 import contextlib
 import csv
+import errno
 import io
 import os
 from collections.abc import Iterator
 from dataclasses import dataclass, fields
 from pathlib import Path
-from typing import IO, Any
+from typing import Any
 
 from vaultdesk import moments, reading
 from vaultdesk.engine import Engine
@@ -66,7 +67,7 @@ class Cases:
         self.path = path
         self.notes: list[Note] = []
         self._on: dict[Place, dict[str, Note]] = {}
-        self._file: IO[str] | None = None
+        self._file: io.FileIO | None = None
         for it in self._read():
             self._keep(it)
 
@@ -111,21 +112,30 @@ class Cases:
             opened = os.open(self.path, os.O_WRONLY | os.O_CREAT | os.O_APPEND, 0o600)
         except OSError as error:
             raise DeskError(f"{self.path}: {error.strerror}: nothing was changed") from error
-        with open(opened, "a", encoding="utf-8", newline="") as self._file:
+        with open(opened, "ab", buffering=0) as self._file:
             if self._file.tell() == 0:
-                self._write(HEAD)
+                self._write(HEAD, "nothing was changed")
             yield
 
-    def _write(self, row: list[str]) -> None:
+    def _write(self, row: list[str], otherwise: str) -> None:
+        """Appends a record as a whole, or nothing of it: then `DeskError`, which says what is the case otherwise."""
         assert self._file
         text = io.StringIO()
         csv.writer(text, lineterminator="\n").writerow(row)
-        self._file.write(text.getvalue())
-        self._file.flush()
+        content, end = text.getvalue().encode(), self._file.seek(0, os.SEEK_END)
+        try:
+            written = self._file.write(content)
+            if written != len(content):
+                if self._file.seek(0, os.SEEK_END) == end + written:  # else somebody has a record after it by now
+                    self._file.truncate(end)
+                raise OSError(errno.ENOSPC, os.strerror(errno.ENOSPC))
+        except OSError as error:
+            raise DeskError(f"{self.path}: {error.strerror}: {otherwise}") from error
 
     def add(self, note: Note) -> None:
         """Appends a record at once: a change that was made has it, even if the next one fails."""
-        self._write([str(getattr(note, name)) for name in HEAD])
+        otherwise = f"version {note.version} has its hold changed ({note.done}), which isn't noted for {note.case!r}"
+        self._write([str(getattr(note, name)) for name in HEAD], otherwise)
         self._keep(note)
 
 
