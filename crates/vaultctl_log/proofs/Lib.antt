@@ -1,1 +1,1 @@
--- Proofs that the check does not find by itself.
+pub mod Shown

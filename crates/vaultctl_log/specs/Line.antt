@@ -57,7 +57,7 @@ counted f = number_member (codes "in") f.came ++ number_member (codes "out") f.w
 abbrev pub IsLine : Facts → List ℕ → List ℕ → List ℕ → Type 0
 IsLine f asked answered text =
     (shown : List ℕ) × ShowsAsked f.door asked answered shown
-    × (text ≡ begun f ++ shown ++ result_members f.trouble f.door answered ++ counted f)
+    × (text ≡ ((begun f ++ shown) ++ result_members f.trouble f.door answered) ++ counted f)
 
 -- where there is no room for the line, it is said that memory was refused
 abbrev pub no_room : List ℕ

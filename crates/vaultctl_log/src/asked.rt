@@ -141,6 +141,7 @@ pub(crate) fn push_request(
         Ok(Status::Complete(spans)) => {
             push_head(alloc, out, bytes, &headers, spans, is_understood)
         }
-        _ => Ok(()),
+        Ok(Status::Partial) => Ok(()),
+        Err(_) => Ok(()),
     }
 }
