@@ -1,5 +1,5 @@
 -- What is shown of a request is of its head.
-use Rattle.std.proofs.Common.{ℕ, ◌≡◌, ◌≤◌, ◌++◌, List, [], length, drop, map, take, Bool, Result, Ok, Err, OnOk, inl, inr, refl, ap, sym, ◌∙◌, absurd}
+use Rattle.std.proofs.Common.{ℕ, ◌≡◌, ◌≤◌, ◌++◌, List, [], length, drop, map, take, Bool, Result, Ok, Err, OnErr, OnOk, inl, inr, refl, ap, sym, ◌∙◌, absurd}
 use Rattle.httparse.proofs.GrammarLemmas.{request_unique}
 use Rattle.httparse.specs.Grammar.{HasNoRequest, ReadsRequest, RequestHead}
 use Rattle.httparse.specs.Spans.{IsRequestAt, header_bytes, span_bytes}
@@ -11,6 +11,11 @@ use Rattle.vaultctl_log.specs.Asked.{IsShown, head_members, request_members}
 pub on-ok : {X E A B : Type 0} → (r : Result X E) → (A → B) → OnOk r A → OnOk r B
 on-ok (Ok x) f a = f a
 on-ok (Err e) f a = tt
+
+-- what follows from what a call leaves where it fails
+pub on-err : {X E A B : Type 0} → (r : Result X E) → (A → B) → OnErr r A → OnErr r B
+on-err (Ok x) f a = tt
+on-err (Err e) f a = f a
 
 -- the parts of a head are shown as the head is
 parts-shown : (understood : Bool) (buf : List ℕ) (headers : List HeaderSpan) (spans : RequestSpans) (h : RequestHead) → IsRequestAt buf headers spans h

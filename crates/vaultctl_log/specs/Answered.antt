@@ -1,7 +1,8 @@
 -- What was answered: of a request the front of its answer says so, of a line that of its reply.
-use Rattle.std.specs.Prelude.{ℕ, ◌==◌, ◌&&◌, nat_eq, nat_lt, List, [], ◌∷◌, ◌++◌, length, take, drop, slice_index, codes, Bool, true, false, Option, Some, None, option_and_then, Result, Ok, Err, if◌then◌else◌}
+use Rattle.std.specs.Prelude.{ℕ, ◌==◌, nat_eq, nat_lt, List, [], ◌∷◌, ◌++◌, length, take, drop, slice_index, slice_range, codes, Bool, true, false, Option, Some, None, option_and_then, Result, Ok, Err, if◌then◌else◌}
 use Rattle.std.specs.Char.{is_ascii_digit}
-use Rattle.std.specs.List.{list_all, starts_with}
+use Rattle.std.specs.List.{list_all, position, starts_with}
+use Rattle.std.specs.Str.{bytes_eq}
 use Rattle.std.specs.Str.Lossy.{utf8_lossy}
 use Rattle.serde_json.specs.Data.{Data}
 use Rattle.serde_json.specs.Find.{as_str, get}
@@ -39,25 +40,35 @@ stated_members (Err r) = code_member None
 abbrev pub go_on : List ℕ
 go_on = codes "HTTP/1.1 100 Continue\r\n\r\n"
 
+abbrev pub is_go_on : List ℕ → Bool
+is_go_on front = bytes_eq front go_on
+
 -- an answer without it
 abbrev pub own : List ℕ → List ℕ
-own answer = if starts_with nat_eq answer go_on then drop 25 answer else answer
+own answer = if nat_lt (length answer) 25 then answer else (if is_go_on (take 25 answer) then drop 25 answer else answer)
 
 abbrev pub digits_in : List ℕ → Option (List ℕ)
-digits_in digits = if length digits == 3 && list_all is_ascii_digit digits then Some digits else None
+digits_in digits = if list_all is_ascii_digit digits then Some digits else None
+
+-- after the version and a blank
+abbrev pub status_in : List ℕ → Option (List ℕ)
+status_in answer = if nat_lt (length answer) 12 then None else digits_in (slice_range answer 9 12)
 
 -- the three digits of its status, if its first line came so far
 unfoldable pub status_of : List ℕ → Option (List ℕ)
-status_of answer = digits_in (take 3 (drop 9 (own answer)))
+status_of answer = status_in (own answer)
 
 -- a status of 400 and more
 abbrev pub is_refusal : List ℕ → Bool
 is_refusal digits = nat_lt 51 (slice_index digits 0)
 
+abbrev pub from_place : Option ℕ → List ℕ → List ℕ
+from_place None bytes = []
+from_place (Some n) bytes = drop n bytes
+
 -- from its first brace on
 abbrev pub body_of : List ℕ → List ℕ
-body_of [] = []
-body_of (b ∷ bytes) = if b == 123 then b ∷ bytes else body_of bytes
+body_of answer = from_place (position (λ b. b == 123) answer) answer
 
 -- what is answered beside a status of these digits
 abbrev pub outcome_members : List ℕ → List ℕ → List ℕ

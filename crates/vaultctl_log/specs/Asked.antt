@@ -1,5 +1,6 @@
 -- Who asked for what: of a line its members say so, of a request its head.
-use Rattle.std.specs.Prelude.{ℕ, ◌≡◌, ◌⊎◌, ◌≤◌, ◌==◌, nat_le, List, [], ◌∷◌, ◌++◌, length, map, codes, Bool, true, false, Option, Some, None, option_and_then, Result, Ok, Err, if◌then◌else◌}
+use Rattle.std.specs.Prelude.{ℕ, ◌≡◌, ◌⊎◌, ◌≤◌, ◌==◌, nat_le, List, [], ◌∷◌, ◌++◌, length, map, take, codes, Bool, true, false, Option, Some, None, option_and_then, Result, Ok, Err, if◌then◌else◌}
+use Rattle.std.specs.List.{position}
 use Rattle.std.specs.Str.Lossy.{utf8_lossy}
 use Rattle.httparse.specs.Grammar.{RequestHead, ReadsRequest}
 use Rattle.httparse.specs.Spans.{name_and_value}
@@ -30,11 +31,17 @@ found_member name (Some d) = whole_member name (as_str d) (option_and_then as_u6
 abbrev pub member_in : Data → List ℕ → List ℕ
 member_in d name = found_member name (get name d)
 
+-- the members that say who asks for what, and of which department or caller
+unfoldable pub asker_members : Data → List ℕ
+asker_members d = member_in d (codes "as") ++ member_in d (codes "do") ++ member_in d (codes "dept") ++ member_in d (codes "caller")
+
+-- those that say of which entries
+unfoldable pub place_members : Data → List ℕ
+place_members d = member_in d (codes "bucket") ++ member_in d (codes "key") ++ member_in d (codes "id") ++ member_in d (codes "batch")
+
 -- the members that name what is asked for, and by whom
-unfoldable pub object_members : Data → List ℕ
-object_members d =
-    member_in d (codes "as") ++ member_in d (codes "do") ++ member_in d (codes "dept") ++ member_in d (codes "caller")
-    ++ member_in d (codes "bucket") ++ member_in d (codes "key") ++ member_in d (codes "id") ++ member_in d (codes "batch")
+abbrev pub object_members : Data → List ℕ
+object_members d = asker_members d ++ place_members d
 
 -- where the line is JSON
 abbrev pub document_members : Result Data Refusal → List ℕ
@@ -46,10 +53,13 @@ line_members line = document_members (document_of line)
 
 -- ---- a request
 
+abbrev pub before_place : Option ℕ → List ℕ → List ℕ
+before_place None bytes = bytes
+before_place (Some n) bytes = take n bytes
+
 -- a target up to its query
 abbrev pub path_of : List ℕ → List ℕ
-path_of [] = []
-path_of (b ∷ bytes) = if b == 63 then [] else b ∷ path_of bytes
+path_of target = before_place (position (λ b. b == 63) target) target
 
 -- the target, with its query or without
 abbrev pub shown_target : Bool → List ℕ → List ℕ

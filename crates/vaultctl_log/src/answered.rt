@@ -1,8 +1,8 @@
 //! What was answered: of a request the front of its answer says so, of a line that of its reply.
-ghost use Rattle.std.specs.Prelude.{◌≡◌, ◌++◌, None, OnOk, codes, drop, option_map, string_bytes, take};
+ghost use Rattle.std.specs.Prelude.{◌≡◌, ◌==◌, ◌++◌, None, OnOk, codes, option_map, string_bytes};
 ghost use Rattle.std.specs.Str.Lossy.{utf8_lossy};
 ghost use Rattle.std.specs.Char.{is_ascii_digit};
-ghost use Rattle.std.specs.List.{list_all};
+ghost use Rattle.std.specs.List.{list_all, position};
 ghost use Rattle.std.specs.Option.{option_copied};
 ghost use Rattle.serde_json.specs.View.{view};
 ghost use Rattle.vault_http_values.specs.Document.{document_of};
@@ -64,15 +64,21 @@ fn push_stated(alloc: Global, out: &mut String, text: &[u8]) -> Result<(), Alloc
     }
 }
 
+fn is_go_on(front: &[u8]) -> bool
+    ensures { result ≡ spec.is_go_on front.now }
+{
+    front == GO_ON
+}
+
 /// An answer without what comes before it.
 fn own(answer: &[u8]) -> &[u8]
     ensures { result.now ≡ spec.own answer.now }
 {
-    if answer.starts_with(GO_ON) {
-        &answer[GO_ON.len()..]
-    } else {
-        answer
+    if answer.len() < 25 {
+        return answer;
     }
+    let (front, rest) = answer.split_at(25);
+    if is_go_on(front) { rest } else { answer }
 }
 
 fn are_digits(bytes: &[u8]) -> bool
@@ -84,20 +90,16 @@ fn are_digits(bytes: &[u8]) -> bool
 fn digits_in(bytes: &[u8]) -> Option<&[u8]>
     ensures { option_copied result ≡ spec.digits_in bytes.now }
 {
-    if bytes.len() == 3 && are_digits(bytes) {
-        Some(bytes)
-    } else {
-        None
-    }
+    if are_digits(bytes) { Some(bytes) } else { None }
 }
 
-/// The bytes of an answer where its status is, as far as they came.
-fn status_bytes(answer: &[u8]) -> &[u8]
-    ensures { result.now ≡ take 3 (drop 9 (spec.own answer.now)) }
+fn status_in(own: &[u8]) -> Option<&[u8]>
+    ensures { option_copied result ≡ spec.status_in own.now }
 {
-    let own = own(answer);
-    let after = &own[own.len().min(9)..];
-    &after[..after.len().min(3)]
+    if own.len() < 12 {
+        return None;
+    }
+    digits_in(&own[9..12])
 }
 
 /// The three digits of the status of an answer, if its first line came so far.
@@ -105,15 +107,22 @@ fn status_bytes(answer: &[u8]) -> &[u8]
 pub(crate) fn status_of(answer: &[u8]) -> Option<&[u8]>
     ensures { option_copied result ≡ spec.status_of answer.now }
 {
-    digits_in(status_bytes(answer))
+    status_in(own(answer))
+}
+
+/// The place of the first brace.
+fn first_brace(bytes: &[u8]) -> Option<usize>
+    ensures { result ≡ position (λ b. b == 123) bytes.now }
+{
+    bytes.iter().position(|byte| *byte == b'{')
 }
 
 /// From the first brace on.
 fn body_of(answer: &[u8]) -> &[u8]
     ensures { result.now ≡ spec.body_of answer.now }
 {
-    match answer.iter().position(|byte| *byte == b'{') {
-        Some(place) => &answer[place..],
+    match first_brace(answer) {
+        Some(place) => answer.split_at(place).1,
         None => &[],
     }
 }

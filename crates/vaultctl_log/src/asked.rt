@@ -1,5 +1,6 @@
 //! Who asked for what: of a line its members say so, of a request its head.
-ghost use Rattle.std.specs.Prelude.{◌≡◌, ◌++◌, ℕ, List, OnOk, Some, map, string_bytes, take};
+ghost use Rattle.std.specs.Prelude.{◌≡◌, ◌==◌, ◌++◌, ℕ, List, OnOk, Some, map, string_bytes, take};
+ghost use Rattle.std.specs.List.{position};
 ghost use Rattle.std.specs.Option.{option_copied};
 ghost use Rattle.httparse.specs.Spans.{IsRequestWithin, header_bytes, span_bytes};
 ghost use Rattle.serde_json.specs.View.{view};
@@ -45,19 +46,35 @@ fn push_member(
     }
 }
 
-/// Appends the members of a line that name what is asked for, and by whom. The error is want of memory.
-#[tactic(auto, unfolding(crate::specs::Asked::object_members))]
-fn push_object(alloc: Global, out: &mut String, object: &Value) -> Result<(), AllocError>
-    ensures { OnOk result (string_bytes out.new ≡ string_bytes out.old ++ spec.object_members (view object.now)) }
+/// Appends the members of a line that say who asks for what, and of which department or caller. The error is want of
+/// memory.
+#[tactic(auto, unfolding(crate::specs::Asked::asker_members))]
+fn push_asker(alloc: Global, out: &mut String, object: &Value) -> Result<(), AllocError>
+    ensures { OnOk result (string_bytes out.new ≡ string_bytes out.old ++ spec.asker_members (view object.now)) }
 {
     push_member(alloc, out, object, "as")?;
     push_member(alloc, out, object, "do")?;
     push_member(alloc, out, object, "dept")?;
-    push_member(alloc, out, object, "caller")?;
+    push_member(alloc, out, object, "caller")
+}
+
+/// Appends those that say of which entries. The error is want of memory.
+#[tactic(auto, unfolding(crate::specs::Asked::place_members))]
+fn push_place(alloc: Global, out: &mut String, object: &Value) -> Result<(), AllocError>
+    ensures { OnOk result (string_bytes out.new ≡ string_bytes out.old ++ spec.place_members (view object.now)) }
+{
     push_member(alloc, out, object, "bucket")?;
     push_member(alloc, out, object, "key")?;
     push_member(alloc, out, object, "id")?;
     push_member(alloc, out, object, "batch")
+}
+
+/// Appends the members of a line that name what is asked for, and by whom. The error is want of memory.
+fn push_object(alloc: Global, out: &mut String, object: &Value) -> Result<(), AllocError>
+    ensures { OnOk result (string_bytes out.new ≡ string_bytes out.old ++ spec.object_members (view object.now)) }
+{
+    push_asker(alloc, out, object)?;
+    push_place(alloc, out, object)
 }
 
 /// Appends the members of a line that name what is asked for, and by whom; nothing where the line isn't JSON. The error
@@ -72,12 +89,19 @@ pub(crate) fn push_line(alloc: Global, out: &mut String, line: &[u8]) -> Result<
     }
 }
 
+/// The place of the first question mark.
+fn first_mark(bytes: &[u8]) -> Option<usize>
+    ensures { result ≡ position (λ b. b == 63) bytes.now }
+{
+    bytes.iter().position(|byte| *byte == b'?')
+}
+
 /// A target up to its query.
 fn path_of(target: &[u8]) -> &[u8]
     ensures { result.now ≡ spec.path_of target.now }
 {
-    match target.iter().position(|byte| *byte == b'?') {
-        Some(place) => &target[..place],
+    match first_mark(target) {
+        Some(place) => target.split_at(place).0,
         None => target,
     }
 }

@@ -1,4 +1,4 @@
-use Rattle.std.proofs.Common.{[], rules, sym, append-nil}
+use Rattle.std.proofs.Common.{[], rules, sym, append-nil, string_bytes}
 use Rattle.httparse.specs.Spans.{IsRequestOf}
 use Rattle.vaultctl_log.proofs.Shown.{head-shown, nothing-shown, on-ok}
 use Rattle.vaultctl_log.proofs.asked.push_request.Goals as goal
@@ -12,9 +12,9 @@ returns-in-Ok-Complete c =
 -- no head has come to its end
 pub returns-in-Ok-Partial : goal.returns-in-Ok-Partial
 returns-in-Ok-Partial c =
-    ([], nothing-shown c.args.is_understood c.args.bytes.now (λ h rest reads few. c.in-Ok-Partial.ensures.partial h rest reads), sym append-nil)
+    ([], nothing-shown c.args.is_understood c.args.bytes.now (λ h rest reads few. c.in-Ok-Partial.ensures.found h rest reads few), sym (append-nil (string_bytes c.args.out.now)))
 
 -- there is none that has its room
 pub returns-in-Err : goal.returns-in-Err
 returns-in-Err c =
-    ([], nothing-shown c.args.is_understood c.args.bytes.now (λ h rest reads few. c.in-Err.ensures.found h rest reads few), sym append-nil)
+    ([], nothing-shown c.args.is_understood c.args.bytes.now (λ h rest reads few. c.in-Err.ensures.found h rest reads few), sym (append-nil (string_bytes c.args.out.now)))
