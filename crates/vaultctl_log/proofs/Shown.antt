@@ -1,5 +1,5 @@
 -- What is shown of a request is of its head.
-use Rattle.std.proofs.Common.{ℕ, ◌≡◌, ◌≤◌, ◌++◌, List, [], length, drop, map, take, Bool, Result, Ok, Err, OnErr, OnOk, inl, inr, refl, ap, sym, ◌∙◌, absurd}
+use Rattle.std.proofs.Common.{ℕ, ◌≡◌, ◌≤◌, ◌++◌, List, [], length, drop, map, take, Bool, Result, Ok, Err, OnErr, OnOk, inl, inr, refl, ap, sym, ◌∙◌}
 use Rattle.httparse.proofs.GrammarLemmas.{request_unique}
 use Rattle.httparse.specs.Grammar.{HasNoRequest, ReadsRequest, RequestHead}
 use Rattle.httparse.specs.Spans.{IsRequestAt, header_bytes, span_bytes}

@@ -12,7 +12,7 @@ returns-in-Ok-Complete c =
 -- no head has come to its end
 pub returns-in-Ok-Partial : goal.returns-in-Ok-Partial
 returns-in-Ok-Partial c =
-    ([], nothing-shown c.args.is_understood c.args.bytes.now (λ h rest reads few. c.in-Ok-Partial.ensures.found h rest reads few), sym (append-nil (string_bytes c.args.out.now)))
+    ([], nothing-shown c.args.is_understood c.args.bytes.now (λ h rest reads few. rw (c.in-Ok-Partial.is, c.in-Ok-Partial.field-0-is) at (c.parse_request.ensures.found h rest reads few)), sym (append-nil (string_bytes c.args.out.now)))
 
 -- there is none that has its room
 pub returns-in-Err : goal.returns-in-Err
