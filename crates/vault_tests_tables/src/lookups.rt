@@ -1,5 +1,6 @@
 //! What a report reads, and what is read of one key, takes as many steps in a large vault as in a small one, and of a key with
-//! many removed versions as of a fresh one. So do a few ids of a key with many held ones.
+//! many removed versions as of a fresh one. So do a few ids of a key with many held ones, and the
+//! name of a bucket among many.
 use sqlite::{Alter, Connection, Error, params};
 use std::alloc::Global;
 use std::process::Abort;
@@ -10,7 +11,7 @@ use vault_store::create::fill;
 use vault_store_reads::heads::read_head;
 use vault_store_reads::meta::read_last;
 use vault_store_reads::names::{has_department, read_totals};
-use vault_store_reads::rows_in_order::reads::{read_entries, read_ids, read_keys};
+use vault_store_reads::rows_in_order::reads::{read_buckets, read_entries, read_ids, read_keys};
 use vault_tests_tables_stores::disks::{let_go, opened_empty};
 
 /// A department, its bucket, a key of it, and where the bucket's keys begin.
@@ -32,6 +33,8 @@ enum Reading {
     /// All ids of the key, and those older than one that is newer than all.
     Ids,
     OlderIds,
+    /// The first bucket after a text.
+    Bucket,
     /// Three of the key's ids that are older than one.
     OfMany(u32),
 }
@@ -115,6 +118,10 @@ fn reads_ids<S: Alter>(
     .is_ok_and(|ids| ids.len() == found)
 }
 
+fn reads_bucket<S: Alter>(conn: &mut Connection<S>, alloc: Global) -> bool {
+    read_buckets(conn, alloc, "c", 1).is_ok_and(|found| found.len() == 1)
+}
+
 fn can<S: Alter>(conn: &mut Connection<S>, alloc: Global, names: &Names, reading: Reading) -> bool {
     match reading {
         Reading::Report => reads_last(conn)
@@ -125,6 +132,7 @@ fn can<S: Alter>(conn: &mut Connection<S>, alloc: Global, names: &Names, reading
         Reading::Keys => reads_keys(conn, alloc, names),
         Reading::Ids => reads_ids(conn, alloc, names, 0, 2, 1),
         Reading::OlderIds => reads_ids(conn, alloc, names, GREATEST, 2, 1),
+        Reading::Bucket => reads_bucket(conn, alloc),
         Reading::OfMany(than) => reads_ids(conn, alloc, names, than, 3, 3),
     }
 }
@@ -168,6 +176,10 @@ const MORE_ENTRIES: &str =
 
 const MORE_HEADS: &str = "INSERT INTO heads SELECT bucket, key, id, 1 FROM entries WHERE id > ?1";
 
+/// Each name has the three bytes that a bucket's needs.
+const MORE_BUCKETS: &str =
+    "INSERT INTO buckets SELECT 'doc' || id, 'records', 0, NULL, NULL FROM entries";
+
 /// The greatest number that an id has.
 const GREATEST: u32 = 1_000_000_000;
 
@@ -185,7 +197,7 @@ fn read_names(alloc: Global) -> Result<Names, Fail> {
 }
 
 /// The steps that are enough for each reading.
-fn enough_for_each<S: Alter>(conn: &mut Connection<S>, alloc: Global, names: &Names) -> [u64; 6] {
+fn enough_for_each<S: Alter>(conn: &mut Connection<S>, alloc: Global, names: &Names) -> [u64; 7] {
     [
         enough_steps(conn, alloc, names, Reading::Report),
         enough_steps(conn, alloc, names, Reading::Head),
@@ -193,6 +205,7 @@ fn enough_for_each<S: Alter>(conn: &mut Connection<S>, alloc: Global, names: &Na
         enough_steps(conn, alloc, names, Reading::Keys),
         enough_steps(conn, alloc, names, Reading::Ids),
         enough_steps(conn, alloc, names, Reading::OlderIds),
+        enough_steps(conn, alloc, names, Reading::Bucket),
     ]
 }
 
@@ -236,6 +249,7 @@ fn judge_steps<S: Alter>(
         assert!(rt; steps < 64);
     }
     grow(conn)?;
+    batch(conn, MORE_BUCKETS)?;
     assert_eq!(rt; entries(conn)?, 10_240);
     assert_eq!(rt; enough_for_each(conn, alloc, names), among_ten);
     assert!(rt; entries(conn).is_err());
