@@ -65,12 +65,15 @@ class OfficeTest(unittest.TestCase):
         self.office.update({it: Path(f"{self.file}{it}").read_bytes() for it in ("", "-wal")})
 
     def lines(self, *lines: Mapping[str, Any], at: str = START) -> list[Any]:
-        """The engine's replies to these lines, by `ann` where a line doesn't say who asks."""
+        """The engine's replies to these lines, by `ann` where a line doesn't say who asks. None of them is refused."""
         script = "".join(json.dumps({"at": at, "as": "ann", **it}) + "\n" for it in lines)
         done = subprocess.run(
             [PROGRAM, "replay", str(self.file)], input=script, check=True, capture_output=True, encoding="utf-8"
         )
-        return [json.loads(it) for it in done.stdout.split("\n")[:-1]]
+        replies = [json.loads(it) for it in done.stdout.split("\n")[:-1]]
+        for line, reply in zip(lines, replies, strict=True):
+            self.assertIn("ok", reply, line)
+        return replies
 
     def desk(self, *words: str, at: str | None = "2024-01-15T10:00:00Z") -> Done:
         """A call of the desk with these words."""

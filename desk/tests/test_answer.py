@@ -27,8 +27,7 @@ class Answer(Evidence):
         self.lines(longer, at="2024-03-03T00:00:00Z")
         self.lines({"do": "set-hold", **it, "hold": "OFF"}, at="2024-03-04T00:00:00Z")
         self.lines({"do": "delete-version", **it, "bypass": True}, at="2024-03-05T00:00:00Z")
-        self.lines({"do": "delete", **it, "as": "ann", "id": None}, {"do": "delete", "bucket": "docs", "key": KEY},
-                   at="2024-03-06T00:00:00Z")
+        self.lines({"do": "delete", "bucket": "docs", "key": KEY}, at="2024-03-06T00:00:00Z")
 
     def guarded(self, number: int, at: str) -> str:
         return " ".join(json.loads(self.done("answer", str(number), "--json", at=at))["guarded"])

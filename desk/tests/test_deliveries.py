@@ -55,6 +55,14 @@ class Deliveries(OfficeTest):
     def listed(self, text: str) -> str:
         return self.written("list.csv", text.encode())
 
+    def test_a_files_name_that_isnt_utf_8_is_wrong_and_the_others_come(self) -> None:
+        (self.scans / os.fsdecode(b"scan \xe9.pdf")).write_bytes(b"another")
+        done = self.desk(*self.deliver())
+        self.assertEqual(done.status, 1)
+        self.assertRegex(done.out, r"scan \\udce9.pdf +the file's name isn't UTF-8")
+        told = json.loads(self.done(*self.deliver("--leave-out", "--json")))
+        self.assertEqual((told["taken_in"], told["findings"][0]["file"]), (4, "scan \udce9.pdf"))
+
     def test_a_folder_is_taken_in_once(self) -> None:
         done = json.loads(self.done(*self.deliver("--json")))
         self.assertEqual((done["taken_in"], done["refused"], done["differing"]), (4, [], []))

@@ -6,6 +6,7 @@ import base64
 import csv
 import hashlib
 import json
+import os
 import unittest
 from pathlib import Path
 from unittest import mock
@@ -87,6 +88,27 @@ class PutAndGet(OfficeTest):
         for content in (b"first", b"second"):
             self.done("put", "docs", "a", self.written("a.txt", content))
         self.assertEqual([self.done("get", "docs", "a", *it) for it in ((), ("--version", "1"))], ["second", "first"])
+
+    def test_keys_are_taken_letter_by_letter(self) -> None:
+        path = self.written("a.txt", b"hello")
+        keys = ["100%25", "100%", "M\u00fcller", "Mu\u0308ller", " a ", "a", "+", "a//b"]
+        for number, key in enumerate(keys, start=1):
+            self.assertEqual(self.done("put", "docs", key, path), f"{number}\n")
+        for number, key in enumerate(keys, start=1):
+            self.assertEqual(json.loads(self.done("info", "docs", key, "--json"))["version"], number)
+            self.assertEqual(json.loads(self.done("get", "docs", key, "--json"))["version"], number)
+        listed = {it["version"]: it["key"] for it in json.loads(self.done("ls", "docs", "--json"))}
+        self.assertEqual([listed[it] for it in range(1, 9)], keys)
+
+    def test_words_that_arent_utf_8(self) -> None:
+        path = os.fsdecode(b"scan \xe9.pdf")
+        self.written(path, b"hello")
+        self.done("put", "docs", "a", str(self.folder / path))
+        for words in (("put", "docs", path, str(self.folder / path)), ("get", "docs", path), ("find", path)):
+            done = self.desk(*words)
+            self.assertEqual((done.status, done.out), (2, ""), words)
+            self.assertRegex(done.err, r"^vaultdesk \w+: .*scan \\udce9: that isn't UTF-8, which keys and names are\n$")
+        self.assertEqual(len(json.loads(self.done("ls", "docs", "--json"))), 1)
 
     def test_a_content_is_json_too(self) -> None:
         content = bytes(range(256))

@@ -176,7 +176,8 @@ class Unsaid(GatewayTest):
         self.assertEqual(self.versions(), [1, 2, 3])
 
     def test_who_may_not_look_is_answered(self) -> None:
-        self.lines({"do": "add-caller", "as": "registrar", "caller": "bea", "dept": "records", "rights": ["put"]})
+        self.lines({"do": "add-caller", "as": "registrar", "caller": "dan", "dept": "records", "rights": ["put"]})
+        self.keys.write_text(self.keys.read_text().replace('caller = "bea"', 'caller = "dan"'))
         whole = request("PUT", "/docs/a", b"hello", access_key=BEA)
         self.assertEqual([self.send(whole)[0].headers["x-amz-version-id"] for _ in range(2)], ["1", "1"])
 

@@ -162,7 +162,10 @@ class Started(ServedTest):
 
 class Locks(ServedTest):
     def test_who_works_on_a_vault_is_for_root_to_lock(self) -> None:
-        self.done("night", "records", "--clock-is-right", at=None)
         folder = conf.run_folder()
-        modes = {it.name: it.stat().st_mode & 0o777 for it in folder.iterdir()}
-        self.assertEqual((folder.stat().st_mode & 0o777, modes["records.lock"]), (0o755, 0o600))
+        for mask in (0o077, 0):
+            os.umask(mask)
+            self.desk("check", "records", at=None)
+            modes = {it.name: it.stat().st_mode & 0o777 for it in folder.iterdir()}
+            self.assertEqual((folder.stat().st_mode & 0o777, modes["records.lock"]), (0o755, 0o600))
+            (folder / "records.lock").unlink()

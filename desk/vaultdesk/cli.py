@@ -14,8 +14,8 @@ from vaultdesk import backup, closing, copies, glue, metrics, night, offices, pa
 from vaultdesk.s3 import words as s3
 from vaultdesk.config import desk
 from vaultdesk.engine import Engine
-from vaultdesk.errors import DeskError
-from vaultdesk.output import say
+from vaultdesk.errors import DeskError, UsageError
+from vaultdesk.output import say, shown
 
 # Those that ask about a vault, and those that look after files, servers and users.
 FAMILIES = (
@@ -73,6 +73,11 @@ def main(given: Sequence[str] | None = None) -> int:
     except DeskError as error:
         say(f"vaultdesk {asked.command}: {error}")
         return error.status
+    except UnicodeEncodeError as error:
+        # Words that aren't UTF-8 can be the path of a file, and nothing that a vault has.
+        text = shown(error.object[max(0, error.start - 40):error.end])
+        say(f"vaultdesk {asked.command}: {text}: that isn't UTF-8, which keys and names are")
+        return UsageError.status
     except BrokenPipeError:
         # Whoever reads the output has enough of it.
         sys.stderr.close()

@@ -102,9 +102,16 @@ def item_of(number: int, row: Mapping[str, str], classes: Mapping[str, Class], t
     return it
 
 
+def _is_unicode(text: str) -> bool:
+    """Whether a text has no bytes of a file's name that aren't UTF-8."""
+    return not any("\udc80" <= it <= "\udcff" for it in text)
+
+
 def look_at_words(it: Item, now: str) -> None:
     """What is wrong with the key and the lock of an item by themselves."""
-    if not it.key or len(it.key.encode()) > LONGEST_KEY or any(ord(c) < 32 or ord(c) == 127 for c in it.key):
+    if not _is_unicode(it.key):
+        it.wrong.append("the file's name isn't UTF-8, which a key is: rename the file, or give an inventory with keys")
+    elif not it.key or len(it.key.encode()) > LONGEST_KEY or any(ord(c) < 32 or ord(c) == 127 for c in it.key):
         it.wrong.append("a key has 1 to 1,024 bytes, none of them a control character")
     if it.key != it.key.strip():
         it.notes.append("the key begins or ends with a blank, which is kept")

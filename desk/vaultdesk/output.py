@@ -24,9 +24,9 @@ def say(text: str) -> None:
 
 
 def print_json(value: Any) -> None:
-    """Prints one JSON value and a line's end."""
-    json.dump(value, sys.stdout, ensure_ascii=False, indent=2)
-    print()
+    """Prints one JSON value and a line's end. What of a file's name isn't UTF-8 is there as an escape of JSON."""
+    text = json.dumps(value, ensure_ascii=False, indent=2)
+    print(text.encode("utf-8", "backslashreplace").decode("utf-8"))
 
 
 def table_lines(rows: Sequence[Mapping[str, Any]], columns: Sequence[str]) -> list[str]:
