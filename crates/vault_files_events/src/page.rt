@@ -130,26 +130,6 @@ fn next_of(entries: u32, after: u32) -> Option<u32>
     (end < entries).then_some(end)
 }
 
-/// The part after an id of what was before a moment.
-fn page_before<K: Keeper>(
-    alloc: Global,
-    keeper: &mut K,
-    after: u32,
-    before: Moment,
-) -> Result<EventsPage, Fault>
-    ensures value { K.is_honest keeper.new → IfOk result (λ page. page ≡ spec.page_of before after (K.vault keeper.old)) }
-    ensures leaves { ReadsAs K.Kept keeper.old keeper.new result }
-{
-    let entries = count_entries(keeper)?;
-    let mut text = header(alloc, after)?;
-    let most = most_of(entries, after);
-    push_range(alloc, keeper, &mut text, &Some(before), after, most)?;
-    Ok(EventsPage {
-        text: Content::new(text),
-        next: next_of(entries, after),
-    })
-}
-
 /// A part of the text of what happened before a moment: the records of the entries after an id, 1,000 of them at most,
 /// by rising id. The part after 0 is the first, and begins with the header.
 ///
@@ -173,5 +153,12 @@ pub fn events_page<K: Keeper>(
     if last < before {
         return Err(Halt::Refused(Refusal::InvalidArgument));
     }
-    Ok(page_before(alloc, keeper, after, before)?)
+    let entries = count_entries(keeper)?;
+    let mut text = header(alloc, after)?;
+    let most = most_of(entries, after);
+    push_range(alloc, keeper, &mut text, &Some(before), after, most)?;
+    Ok(EventsPage {
+        text: Content::new(text),
+        next: next_of(entries, after),
+    })
 }

@@ -29,7 +29,7 @@ use vault_core_model::reply::{Answer, Reply};
 use vault_files_events::page::{EventsPage, events_page};
 use vault_http::reply_line::reply_line;
 use vault_http_door::buckets_line::{BucketNames, BucketsPage, buckets_line};
-use vault_http_door::inquiry::{About, After, Part};
+use vault_http_door::inquiry::{About, After};
 use vault_http_door::page_line::page_line;
 use vault_http_door::status_line::{Status, status_line};
 use vault_io::writing::write_bytes;
@@ -96,15 +96,6 @@ fn find_buckets<K: Keeper>(keeper: &mut K, after: &After) -> Result<Found, Halt>
     Ok(Found::Buckets(cut_names(names)))
 }
 
-/// What happened to the entries of a part. InvalidArgument where the vault hasn't reached its moment.
-fn find_events<K: Keeper>(alloc: Global, keeper: &mut K, part: Part) -> Result<Found, Halt>
-    ensures found { K.is_honest keeper.new → ChecksAs result (spec.events_found (K.vault keeper.old) part) }
-    ensures leaves { LeavesSame K.Kept keeper.old keeper.new (is_device result) }
-{
-    let page = events_page(alloc, keeper, part.after, part.before)?;
-    Ok(Found::Events(page))
-}
-
 /// What a caller asks for who may administer, of a server.
 ///
 /// ClockBack; AccessDenied `unknown-caller`; AccessDenied `admin`; and the refusals of what is asked for.
@@ -123,14 +114,17 @@ fn find<K: Keeper>(
         Wanted::End => Ok(Found::End),
         Wanted::About(About::Status) => find_status(keeper, failures, since),
         Wanted::About(About::Buckets(after)) => find_buckets(keeper, after),
-        Wanted::About(About::Events(part)) => find_events(alloc, keeper, *part),
+        Wanted::About(About::Events(part)) => {
+            let page = events_page(alloc, keeper, part.after, part.before)?;
+            Ok(Found::Events(page))
+        }
     }
 }
 
 /// What is answered, where that was found: a fault of the keeper is a refusal.
 fn stated(found: Result<Found, Halt>) -> Result<Found, Refusal>
     ensures answers { (judged : AnyResult AnyFound AnyRefusal) → ChecksAs found judged → spec.StatedAs result judged }
-    ensures device { spec.is_device_stated result ≡ is_device found }
+    ensures failed { spec.is_device_stated result ≡ is_device found }
 {
     match found {
         Ok(found) => Ok(found),
