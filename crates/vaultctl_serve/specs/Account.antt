@@ -19,13 +19,12 @@ trouble_of (Err faults.Memory) = Some trouble.Memory
 abbrev pub Accounts : Option ℕ → Facts → Vault → Vault → Type 0
 Accounts moment f old new = (f.moment ≡ moment) × AtMostOne moment old new
 
--- An entry with these facts was heard, which accounts for what was done; and nothing was carried out of what it calls late.
-abbrev pub IsAccounted : {D : Type 0} → (D → Facts → List ℕ → List ℕ → D → Type 0) → Option ℕ → Vault → Vault → Type 0
-IsAccounted {D} logs moment old new =
-    (before after : D) × (f : Facts) × (asked answered : List ℕ) × logs before f asked answered after
-    × Accounts moment f old new × (f.trouble ≡ Some trouble.Late → new ≡ old)
+-- between the two an entry was heard that accounts for what was done; and nothing was carried out of what it calls late
+abbrev pub IsAccounted : {D : Type 0} → (D → Facts → List ℕ → List ℕ → D → Type 0) → D → D → Option ℕ → Vault → Vault → Type 0
+IsAccounted logs before after moment old new =
+    (f : Facts) × (asked answered : List ℕ) × logs before f asked answered after × Accounts moment f old new × (f.trouble ≡ Some trouble.Late → new ≡ old)
 
 -- the same of a line, whose bytes are those that are logged
-abbrev pub IsLineAccounted : {D : Type 0} → (D → Facts → List ℕ → List ℕ → D → Type 0) → Option ℕ → List ℕ → Vault → Vault → Type 0
-IsLineAccounted {D} logs moment line old new =
-    (before after : D) × (f : Facts) × (answered : List ℕ) × logs before f line answered after × Accounts moment f old new
+abbrev pub IsLineAccounted : {D : Type 0} → (D → Facts → List ℕ → List ℕ → D → Type 0) → D → D → Option ℕ → List ℕ → Vault → Vault → Type 0
+IsLineAccounted logs before after moment line old new =
+    (f : Facts) × (answered : List ℕ) × logs before f line answered after × Accounts moment f old new

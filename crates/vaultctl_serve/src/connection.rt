@@ -56,8 +56,12 @@ pub fn serve_in_time<I: Inbound + Drop, W: Write, K: Keeper>(
     serve_for(alloc, &mut reader, writer, keeper, reading, hosts)
 }
 
-/// Reads the one request of a connection that is taken now, and answers it. What goes by is noted.
-fn exchange<C: Clock, P: Peer, K: Keeper>(
+/// Serves the one request of a connection, which was just taken; the request has to be for one of the hosts. What goes by
+/// up to the end of the answer is noted.
+///
+/// Where the request comes too late, that is a failed read, `Read`, and where its answer is taken too late, a
+/// failed write, `Write`.
+pub fn serve_connection<C: Clock, P: Peer, K: Keeper>(
     clock: &C,
     noted: &mut Noted,
     peer: &P,
@@ -82,27 +86,6 @@ fn exchange<C: Clock, P: Peer, K: Keeper>(
     };
     let served = serve_in_time(noted.alloc, inbound, &mut answer, keeper, reading, hosts);
     noted.took = since.elapsed(clock).unwrap_or(Duration::ZERO);
-    served
-}
-
-/// Serves the one request of a connection, which was just taken; the request has to be for one of the hosts. What goes by
-/// up to the end of the answer is noted.
-///
-/// Where the request comes too late, that is a failed read, `Read`, and where its answer is taken too late, a
-/// failed write, `Write`.
-pub fn serve_connection<C: Clock, P: Peer, K: Keeper>(
-    clock: &C,
-    noted: &mut Noted,
-    peer: &P,
-    keeper: &mut K,
-    reading: i64,
-    hosts: &Hosts,
-) -> Result<(), ServeFault>
-    ensures once { K.is_honest keeper.new → AtMostOne (moment_at reading) (K.vault keeper.old) (K.vault keeper.new) }
-    ensures unread { result ≡ Err faults.Read → K.vault keeper.new ≡ K.vault keeper.old }
-    ensures leaves { LeavesNoLess K.Kept keeper.old keeper.new }
-{
-    let served = exchange(clock, noted, peer, keeper, reading, hosts);
     if served.is_ok() {
         // The answer is written, whatever the client does after it.
         let _ = linger(clock, peer);

@@ -45,7 +45,7 @@ fn serve_taken<C: Clock, A: Arrivals, K: Keeper>(
     ensures tries { A.tries arrivals.new ≡ A.tries arrivals.old }
     ensures once { K.is_honest keeper.new → AtMostOne (moment_at reading) (K.vault keeper.old) (K.vault keeper.new) }
     // What is logged is what happened: the moment, and that nothing was carried out of what came late.
-    ensures logged { K.is_honest keeper.new → IsAccounted A.logs (moment_at reading) (K.vault keeper.old) (K.vault keeper.new) }
+    ensures logged { K.is_honest keeper.new → IsAccounted A.logs arrivals.old arrivals.new (moment_at reading) (K.vault keeper.old) (K.vault keeper.new) }
     ensures leaves { LeavesNoLess K.Kept keeper.old keeper.new }
 {
     let mut noted = Noted::new(alloc, arrivals.is_logged());

@@ -128,7 +128,7 @@ fn serve_request<C: Clock, D: Doors, K: Keeper>(
     ensures timely { K.is_honest keeper.new → StepsAt (D.tries doors.old) (D.shown doors.old) (K.vault keeper.old) (K.vault keeper.new) }
     // What is logged is what happened: the moment, and that nothing was carried out of what came late.
     ensures logged { K.is_honest keeper.new → (moment : Option ℕ) × ReadsAs (D.tries doors.old) (D.shown doors.old) moment
-        × IsAccounted D.logs moment (K.vault keeper.old) (K.vault keeper.new) }
+        × IsAccounted D.logs doors.old doors.new moment (K.vault keeper.old) (K.vault keeper.new) }
     ensures leaves { LeavesNoLess K.Kept keeper.old keeper.new }
 {
     let reading = doors.reading();
@@ -154,7 +154,7 @@ fn answer_heard<C: Clock, D: Doors, K: Keeper>(
     ensures end { result ≡ Ok Next.End → K.is_honest keeper.new → IsEnded (K.vault keeper.new) }
     // What is logged is what happened: the line, the moment.
     ensures logged { K.is_honest keeper.new → (moment : Option ℕ) × ReadsAs (D.tries doors.old) (D.shown doors.old) moment
-        × IsLineAccounted D.logs moment heard.now.bytes.items (K.vault keeper.old) (K.vault keeper.new) }
+        × IsLineAccounted D.logs doors.old doors.new moment heard.now.bytes.items (K.vault keeper.old) (K.vault keeper.new) }
     ensures leaves { LeavesNoLess K.Kept keeper.old keeper.new }
 {
     let reading = doors.reading();

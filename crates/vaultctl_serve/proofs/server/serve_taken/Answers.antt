@@ -15,8 +15,6 @@ returns-clause-logged g c =
     let P : ℤ → Type 0 = λ z. AtMostOne (moment_at z) old new in
     let entry = c.request.result in
     λ h. (
-      c.args.arrivals.now,
-      c.log.new.self,
       entry.facts,
       entry.asked.now,
       entry.answered.now,

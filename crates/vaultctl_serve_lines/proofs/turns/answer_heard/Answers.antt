@@ -27,8 +27,6 @@ returns-clause-logged g c =
     λ h. (
       moment_at reading,
       c.reading-reading.ensures,
-      c.args.doors.now,
-      c.log.new.self,
       entry.facts,
       entry.answered.now,
       rw c.line.ensures.bytes.0 at c.log.ensures.logs,

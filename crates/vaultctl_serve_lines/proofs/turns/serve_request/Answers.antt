@@ -28,8 +28,6 @@ returns-clause-logged g c =
     λ h. (
       moment_at reading,
       c.reading-reading.ensures,
-      c.args.doors.now,
-      c.log.new.self,
       entry.facts,
       entry.asked.now,
       entry.answered.now,
