@@ -78,7 +78,7 @@ pub fn serve_connection<C: Clock, P: Peer, K: Keeper>(
     };
     let mut answer = NotedAnswer {
         writer: TimedAnswer::new(TimedPeer { clock, peer, since }),
-        seen: &mut noted.answered,
+        seen: noted.take_answered(),
     };
     let inbound = NotedInbound {
         inbound: TimedPeer { clock, peer, since },
@@ -86,6 +86,7 @@ pub fn serve_connection<C: Clock, P: Peer, K: Keeper>(
     };
     let served = serve_in_time(noted.alloc, inbound, &mut answer, keeper, reading, hosts);
     noted.took = since.elapsed(clock).unwrap_or(Duration::ZERO);
+    noted.answered = answer.seen;
     if served.is_ok() {
         // The answer is written, whatever the client does after it.
         let _ = linger(clock, peer);

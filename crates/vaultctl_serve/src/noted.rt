@@ -10,6 +10,7 @@ ghost use Rattle.vaultctl_log.specs.Noting.{Notes};
 use crate::inbound::Inbound;
 use std::alloc::Global;
 use std::io::{self, Write};
+use std::mem;
 use std::time::Duration;
 use vault_base::moment::Moment;
 use vaultctl_log::entry::{Door, Entry, Facts, Trouble};
@@ -52,20 +53,20 @@ impl<I: Inbound> Inbound for NotedInbound<'_, I> {
 
 /// What is written on a connection is noted.
 #[derive(Drop)]
-pub struct NotedAnswer<'n, W: Write> {
+pub struct NotedAnswer<W: Write> {
     pub writer: W,
-    pub seen: &'n mut Seen,
+    pub seen: Seen,
 }
 
-impl<W: Write> Write for NotedAnswer<'_, W> {
+impl<W: Write> Write for NotedAnswer<W> {
     ghost contents = { λ noted. W.contents noted.writer };
 
     fn write(&mut self, buf: &[u8]) -> io::Result<usize>
         ensures bound { WritesAtMost result buf.now }
         ensures bytes { WriteAppends (W.contents self.old.writer) (W.contents self.new.writer) result buf.now }
         // What a write took is noted, and no other bytes.
-        ensures noted { IfOk result (λ n. Notes self.old.seen.now self.new.seen.now (take n buf.now)) }
-        ensures unwritten { IfErr result (λ _. self.new.seen.now ≡ self.old.seen.now) }
+        ensures noted { IfOk result (λ n. Notes self.old.seen self.new.seen (take n buf.now)) }
+        ensures unwritten { IfErr result (λ _. self.new.seen ≡ self.old.seen) }
     {
         let count = self.writer.write(buf)?;
         self.seen.see(&buf[..count]);
@@ -100,6 +101,13 @@ impl Noted {
             answered: Seen::new(alloc, answered),
             took: Duration::ZERO,
         }
+    }
+
+    /// What was written so far, for whoever writes on; what is written then is noted there.
+    pub fn take_answered(&mut self) -> Seen
+        ensures { result ≡ self.old.answered }
+    {
+        mem::replace(&mut self.answered, Seen::new(self.alloc, 0))
     }
 
     /// How many milliseconds it took.

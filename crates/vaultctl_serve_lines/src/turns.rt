@@ -67,10 +67,11 @@ fn answer_talker<C: Clock, P: Peer, K: Keeper>(
     let peer = talker;
     let mut writer = NotedAnswer {
         writer: TimedAnswer::new(TimedPeer { clock, peer, since }),
-        seen: &mut noted.answered,
+        seen: noted.take_answered(),
     };
     let answered = serve_line(service, heard, &mut writer, keeper, reading);
     noted.took = since.elapsed(clock).unwrap_or(Duration::ZERO);
+    noted.answered = writer.seen;
     Answering { answered, noted }
 }
 
