@@ -158,14 +158,14 @@ class Locks(GatewayTest):
         found = self.done("GET", "/docs?object-lock")
         self.assertEqual((found.all("Mode"), found.all("Days"), found.all("Years")), (["GOVERNANCE"], ["3"], []))
         for old, new, code in (
-            (b"Enabled", b"Disabled", "MalformedXML"),
+            (b">Enabled<", b">Disabled<", "MalformedXML"),
             (b"<ObjectLockEnabled>Enabled</ObjectLockEnabled>", b"", "MalformedXML"),
             (b"<DefaultRetention><Mode>GOVERNANCE</Mode><Days>3</Days></DefaultRetention>", b"", "MalformedXML"),
             (b"<Rule>", b"<Rule><More/>", "NotImplemented"), (b"<Rule>", b"<More/><Rule>", "NotImplemented"),
             (b"<Days>", b"<More>1</More><Days>", "NotImplemented"),
         ):  # fmt: skip
             self.assertEqual(self.ask("PUT", "/docs?object-lock", three.replace(old, new)).code, code, new)
-        cleared = default("").replace(b"Enabled<", b"Disabled<")
+        cleared = default("").replace(b">Enabled<", b">Disabled<")
         self.assertEqual(self.ask("PUT", "/docs?object-lock", cleared).code, "MalformedXML")
         self.assertEqual(self.done("GET", "/docs?object-lock").all("Days"), ["3"])
         self.done("PUT", "/docs?object-lock", default(""))
@@ -176,8 +176,9 @@ class Locks(GatewayTest):
 FILTER = b"<Filter><And><Prefix>2024/</Prefix><ObjectSizeGreaterThan>3</ObjectSizeGreaterThan></And></Filter>"
 RULES = (
     b"<LifecycleConfiguration><Rule>" + FILTER + b"<Status>Enabled</Status><Expiration><Days>30</Days></Expiration>"
-    b"</Rule><Rule><ID>old</ID><Prefix/><Status>Disabled</Status><NoncurrentVersionExpiration><NoncurrentDays>7</NoncurrentDays><NewerNoncurrentVersions>"
-    b"2</NewerNoncurrentVersions></NoncurrentVersionExpiration></Rule></LifecycleConfiguration>"
+    b"</Rule><Rule><ID>old</ID><Prefix/><Status>Disabled</Status><NoncurrentVersionExpiration><NoncurrentDays>7"
+    b"</NoncurrentDays><NewerNoncurrentVersions>2</NewerNoncurrentVersions></NoncurrentVersionExpiration></Rule>"
+    b"</LifecycleConfiguration>"
 )
 
 
