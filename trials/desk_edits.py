@@ -347,6 +347,11 @@ EDITS = [
     ("night", "            say(f\"vaultdesk night: {error}\")\n            self.is_whole = False\n",
      "            say(f\"vaultdesk night: {error}\")\n",
      PARTS + "test_what_fails_makes_the_night_fail"),
+    # limits to the second
+    ("limits", "if least and until < least.after(now):", "if least and until <= least.after(now):",
+     "test_limits.Periods.test_its_first_and_its_last_moment_are_within"),
+    ("limits", "if greatest and until > greatest.after(now):", "if greatest and until >= greatest.after(now):",
+     "test_limits.Periods.test_its_first_and_its_last_moment_are_within"),
     # cases that are released on trial
     ("locks", "        if not self.dry_run:\n            self._note(RELEASE, it, version, was)",
      "        if True:\n            self._note(RELEASE, it, version, was)",

@@ -29,6 +29,7 @@ from trials.servers import LIMIT, free_port
 POINTS = int(os.environ.get("TRIALS_KILLS", 50 if IS_LONG else 5))
 CALLS = (*CHANGING, "unlink")
 KEYS = [f"2024/{number:02}" for number in range(12)]
+NEW = range(40)
 RULE = {
     "ID": "old", "Status": "Enabled", "Prefix": "2024/", "Expiration": {"Days": 30},
     "NoncurrentVersionExpiration": {"NoncurrentDays": 1},
@@ -137,7 +138,7 @@ class Kills(Case):
         shutil.rmtree(self.place, ignore_errors=True)
         shutil.copytree(self.made, self.place)
         server = self.serve(kill)
-        for number in range(12):
+        for number in NEW:
             server.done("put", bucket="docs", key=f"new/{number}", text=f"{number} " * 300)
         return server
 
@@ -148,9 +149,13 @@ class Kills(Case):
 
     def look_at_answered(self, server: Server) -> None:
         """Fails unless each put that was answered is there."""
-        for number in range(12):
+        for number in NEW:
             found = server.done("get", bucket="docs", key=f"new/{number}")
             self.assertEqual(bytes.fromhex(found["hex"]).decode(), f"{number} " * 300)
+
+    def log_size(self) -> int:
+        """The bytes of the vault's log."""
+        return (self.place / "records.vault-wal").stat().st_size
 
     def is_killed(self, server: Server, point: Point) -> None:
         self.assertIn(server.ended(), KILLED, f"no kill came before {point}")
@@ -162,6 +167,7 @@ class AtClose(Kills):
         server = self.begin()
         begun = len(points_of(server.trace))
         server.close()
+        left = self.log_size()
         for point in spread(points_of(server.trace)[begun:]):
             with self.subTest(point):
                 server = self.begin(point)
@@ -170,9 +176,8 @@ class AtClose(Kills):
                 again = self.serve()
                 self.look_at_answered(again)
                 again.close()
+                self.assertEqual(self.log_size(), left, "the bytes of the log, which is in the file")
                 self.is_sound(self.place / "records.vault")
-                log = self.place / "records.vault-wal"
-                self.assertTrue(not log.exists() or not log.stat().st_size, "the log is in the file")
 
 
 @unittest.skipUnless(os.geteuid() == 0, "the night's work is for root")

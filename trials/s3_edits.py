@@ -9,6 +9,7 @@ COPY, DELETE, ETAGS = "test_s3_objects.Copy.", "test_s3_objects.Delete.", "test_
 LOCKS, LIFECYCLE = "test_s3_locks.Locks.", "test_s3_locks.Lifecycle."
 BUCKETS, LISTS = "test_s3_lists.Buckets.", "test_s3_lists.Lists."
 AGAIN, HEADS, PROGRAMS = "test_s3_again.Again.", "test_s3_again.Heads.", "test_s3_again.Programs."
+NOTED = "test_s3_objects.Noted."
 UNSAID, KEYS, SETTINGS = "test_s3_again.Unsaid.", "test_s3_words.Keys.", "test_s3_words.Settings."
 
 EDITS = [
@@ -288,4 +289,14 @@ EDITS = [
     ("listings", "(\"Prefix\", wanted.shown(wanted.prefix))]", "(\"Prefix\", wanted.prefix)]", LISTS + "test_what_is_encoded_is_a_path"),
     ("listings", "most = min(int(text), MOST) if text else MOST", "most = int(text) if text else MOST",
      LISTS + "test_values_that_arent_any"),
+    # ETags after a line that was cut, and what a client tries again
+    ("etags", "        if text and not text.endswith(\"\\n\"):\n", "        if False:\n",
+     NOTED + "test_what_comes_after_a_line_that_was_cut_is_a_line"),
+    ("etags", "self.known[int(found[1])] = found[2], found[3]", "self.known[int(found[1]) + 1] = found[2], found[3]",
+     NOTED + "test_what_comes_after_a_line_that_was_cut_is_a_line"),
+    ("faults", "    \"Device\": \"InternalError\",\n", "", NOTED + "test_a_refusal_is_tried_again_only_where_that_may_help"),
+    ("faults", "    \"Memory\": \"SlowDown\",\n", "", NOTED + "test_a_refusal_is_tried_again_only_where_that_may_help"),
+    ("faults", "    \"ClockBack\": \"SlowDown\",\n", "", NOTED + "test_a_refusal_is_tried_again_only_where_that_may_help"),
+    ("faults", "    \"RetentionOutOfRange\": \"InvalidArgument\",\n", "",
+     NOTED + "test_a_refusal_is_tried_again_only_where_that_may_help"),
 ]

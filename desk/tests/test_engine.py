@@ -80,7 +80,7 @@ class Known(unittest.TestCase):
 
     def is_known(self, department: str, *batches: tuple[str, str]) -> bool:
         """Whether a vault with these batches knows the delivery's."""
-        found = {
+        found: dict[str, list[Any]] = {
             "find": [], "batches": [{"bucket": bucket, "batch": batch, "lines": 1} for bucket, batch in batches],
             "callers": [{"caller": "ann", "department": department}],
         }  # fmt: skip

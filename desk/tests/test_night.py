@@ -48,9 +48,8 @@ class Parts(unittest.TestCase):
             return carried_out
 
         parts = {it: part(it) for it in PARTS}
-        with tempfile.TemporaryDirectory() as name, mock.patch.multiple(night.Night, **parts), mock.patch.object(
-            night.snapshot, "readable", lambda file, _: contextlib.nullcontext(file)
-        ):
+        readable = mock.patch("vaultdesk.snapshot.readable", lambda file, _: contextlib.nullcontext(file))
+        with tempfile.TemporaryDirectory() as name, mock.patch.multiple(night.Night, **parts), readable:
             served = mock.Mock(folder=Path(name), file=Path(name) / "records.vault")
             served.name = "records"
             with contextlib.redirect_stderr(io.StringIO()):

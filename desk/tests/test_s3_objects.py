@@ -3,8 +3,13 @@
 from __future__ import annotations
 
 import hashlib
+import tempfile
+import unittest
+from pathlib import Path
 
 from tests.s3_office import GatewayTest, quoted, request
+from vaultdesk.refusals import refused
+from vaultdesk.s3 import etags, faults
 
 HELLO = hashlib.md5(b"hello").hexdigest()
 KEYS = (
@@ -298,6 +303,33 @@ class Delete(GatewayTest):
                            (nameless, "MalformedXML"), (twofold, "MalformedXML"), (unsure, "MalformedXML")):
             self.assertEqual(self.ask("POST", "/docs?delete", body).code, code, body[:60])
         self.assertEqual(self.entries(), before)
+
+
+class Noted(unittest.TestCase):
+    """ETags that are noted in a file, and what S3's clients are answered to the engine's refusals."""
+
+    def test_what_comes_after_a_line_that_was_cut_is_a_line(self) -> None:
+        at = "2024-01-15T10:00:00Z"
+        with tempfile.TemporaryDirectory() as name:
+            path = Path(name) / "etags"
+            path.write_text(f"1 {at} {HELLO}\n2 {at} {HELLO[:9]}")
+            noted = etags.Etags(path)
+            noted.note(3, at, b"hello")
+            noted.close()
+            again = etags.Etags(path)
+            self.assertEqual([again.find(it, at) for it in (1, 2, 3)], [HELLO, None, HELLO])
+            self.assertIsNone(again.find(1, "2024-01-15T10:00:01Z"))
+            again.close()
+
+    def test_a_refusal_is_tried_again_only_where_that_may_help(self) -> None:
+        for code, named, status in (
+            ("AccessDenied", "AccessDenied", 403), ("NoSuchVersion", "NoSuchVersion", 404),
+            ("RetentionOutOfRange", "InvalidArgument", 400), ("IntakeConflict", "InvalidRequest", 400),
+            ("MalformedBody", "MalformedXML", 400), ("QuotaExceeded", "QuotaExceeded", 403),
+            ("ClockBack", "SlowDown", 503), ("Memory", "SlowDown", 503), ("Device", "InternalError", 500),
+        ):  # fmt: skip
+            fault = faults.of_refusal(refused({"code": code, "n": 1}))
+            self.assertEqual((fault.code, fault.status), (named, status), code)
 
 
 class Etags(GatewayTest):
