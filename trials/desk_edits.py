@@ -14,6 +14,8 @@ EXPORT, LIMITS, COPIES = "test_documents.Export.", "test_limits.Limits.", "test_
 TRAIL, EXPIRE, RULES = "test_trail.", "test_policies.Expire.", "test_policies.Rules."
 ASKING, USERS, OFFICES = "test_asking.Confirm.", "test_users.Users.", "test_offices.Offices."
 NIGHTLY, BACKUP, RESTORE = "test_night.Night.", "test_night.Backup.", "test_server.Restore."
+MOMENTS, ROWS, PARTS = "test_moments.Moments.", "test_moments.Rows.", "test_night.Parts."
+LINES, KNOWN = "test_engine.Lines.", "test_engine.Known."
 EDITS = [
     # keys that are altered
     ("contrib/queries/find.sql", "substr(key, 1, length(:prefix)) = :prefix", "key LIKE :prefix || '%'",
@@ -294,4 +296,67 @@ EDITS = [
     ("output", "    if sys.stderr.isatty():\n", "    if True:\n", "test_output.CountedOff.test_elsewhere_none_does"),
     ("office", "        print_done(words.json, department=words.add, done=\"added\")\n", "",
      "test_words.Every.test_each_prints_one_json_value_where_it_is_done"),
+    # moments of another zone, on a machine of another zone
+    ("moments", "return text_of(dt.datetime.fromisoformat(text.replace(\"Z\", \"+00:00\")))", "return text[:19] + \"Z\"",
+     MOMENTS + "test_one_of_another_zone_is_the_same_moment"),
+    ("moments", "return text_of(dt.datetime.fromisoformat(text).replace(tzinfo=dt.timezone.utc))",
+     "return text_of(dt.datetime.fromisoformat(text))",
+     MOMENTS + "test_a_date_is_a_day_of_utc"),
+    ("moments", "dt.datetime.fromisoformat(first[:10]).replace(tzinfo=dt.timezone.utc)",
+     "dt.datetime.fromisoformat(first[:10]).astimezone()",
+     MOMENTS + "test_a_date_is_a_day_of_utc"),
+    ("copies", "\"%Y%m%dT%H%M%SZ\").replace(tzinfo=dt.timezone.utc)", "\"%Y%m%dT%H%M%SZ\")", MOMENTS + "test_now_is_of_utc"),
+    ("backup", "dt.datetime.now(dt.timezone.utc).strftime", "dt.datetime.now().strftime", MOMENTS + "test_now_is_of_utc"),
+    ("moments", "int(at[:4]) + FAR + 1", "int(at[:4]) + FAR", MOMENTS + "test_a_far_end_is_more_than_a_year_past_thirty"),
+    # the lock of a row
+    ("items", "row.get(\"mode\") or \"GOVERNANCE\", moments", "\"GOVERNANCE\", moments", ROWS + "test_it_is_the_one_that_the_row_says"),
+    ("items", "row.get(\"hold\", \"\").upper())", "\"\")", ROWS + "test_it_is_the_one_that_the_row_says"),
+    ("items", "    if row.get(\"until\"):\n", "    if row.get(\"until\") and not row.get(\"class\"):\n",
+     ROWS + "test_it_is_the_one_that_the_row_says"),
+    ("items", "return kept.mode, end_of", "return \"GOVERNANCE\", end_of", ROWS + "test_it_is_that_of_the_class"),
+    ("items", "begun.year + kept.years + 1:04", "begun.year + kept.years:04", ROWS + "test_it_is_that_of_the_class"),
+    ("items", "moments.read(row[\"date\"])[:10]", "row[\"date\"][:10]", ROWS + "test_it_is_that_of_the_class"),
+    ("items", "            raise UsageError(f\"no class {row['class']!r} in the file of classes\")\n", "            return \"\", \"\"\n",
+     ROWS + "test_where_it_isnt_known_the_row_is_wrong"),
+    ("items", "    if it.mode not in MODES or it.hold not in HOLDS:\n", "    if False:\n",
+     ROWS + "test_where_it_isnt_known_the_row_is_wrong"),
+    # lines to the engine, and its answers
+    ("engine", "if value is not None}", "if value}", LINES + "test_what_is_empty_is_asked_and_what_isnt_given_is_left_out"),
+    ("engine", "asker or self.desk.caller", "self.desk.caller", LINES + "test_who_asks_is_the_caller_or_who_is_named"),
+    ("engine", "            raise refused(reply[\"error\"])\n", "            return {}\n", LINES + "test_no_refusal_is_an_answer"),
+    ("engine", "        raise EngineError(f\"the run stopped after {stopped['changes']} changes, which stand: {stopped['fault']}\")\n",
+     "        return dict(stopped)\n",
+     LINES + "test_no_refusal_is_an_answer"),
+    ("engine", "            more = found[\"more\"]\n", "            more = False\n", LINES + "test_a_listing_goes_on_up_to_its_end"),
+    ("engine", "\"after_key\": last[\"key\"], \"after_id\": last[\"version_id\"]", "\"after_key\": last[\"key\"]",
+     LINES + "test_a_listing_goes_on_up_to_its_end"),
+    # what a delivery finds in the vault
+    ("deliveries", "if (it[\"bucket\"], it[\"batch\"]) == (words.bucket, words.batch)]", "if it[\"batch\"] == words.batch]",
+     KNOWN + "test_a_batch_is_one_of_its_bucket"),
+    ("deliveries", "callers[caller][\"department\"] == \"-\"", "False", KNOWN + "test_who_can_put_nothing_is_refused_first"),
+    ("intake", "    if status not in (0, 1):\n", "    if False:\n", KNOWN + "test_an_intake_that_wasnt_begun_is_a_failure"),
+    ("cases", "vault.with_suffix(\".cases\") if vault.suffix == \".vault\" else", "vault.with_suffix(\".cases\") if True else",
+     KNOWN + "test_each_vault_has_its_own_cases"),
+    # a night of which a part fails
+    ("night", "        if self.done(self.make_copy) and is_right:\n", "        if [self.done(self.make_copy)] and is_right:\n",
+     PARTS + "test_no_copy_is_removed_where_none_was_made"),
+    ("night", "        if self.done(self.make_copy) and is_right:\n", "        if self.done(self.make_copy):\n",
+     PARTS + "test_by_a_wrong_clock_nothing_is_removed"),
+    ("night", "        if is_right:\n            door", "        if True:\n            door",
+     PARTS + "test_by_a_wrong_clock_nothing_is_removed"),
+    ("night", "            say(f\"vaultdesk night: {error}\")\n            self.is_whole = False\n",
+     "            say(f\"vaultdesk night: {error}\")\n",
+     PARTS + "test_what_fails_makes_the_night_fail"),
+    # limits to the second
+    ("limits", "if least and until < least.after(now):", "if least and until <= least.after(now):",
+     "test_limits.Periods.test_its_first_and_its_last_moment_are_within"),
+    ("limits", "if greatest and until > greatest.after(now):", "if greatest and until >= greatest.after(now):",
+     "test_limits.Periods.test_its_first_and_its_last_moment_are_within"),
+    # cases that are released on trial
+    ("locks", "        if not self.dry_run:\n            self._note(RELEASE, it, version, was)",
+     "        if True:\n            self._note(RELEASE, it, version, was)",
+     CASES + "test_a_dry_run_of_a_release_notes_nothing"),
+    ("locks", "        if not self.dry_run:\n            self._note(RELEASE, it, it.version or 0",
+     "        if True:\n            self._note(RELEASE, it, it.version or 0",
+     CASES + "test_a_dry_run_of_a_release_notes_nothing"),
 ]  # fmt: skip

@@ -9,6 +9,7 @@ COPY, DELETE, ETAGS = "test_s3_objects.Copy.", "test_s3_objects.Delete.", "test_
 LOCKS, LIFECYCLE = "test_s3_locks.Locks.", "test_s3_locks.Lifecycle."
 BUCKETS, LISTS = "test_s3_lists.Buckets.", "test_s3_lists.Lists."
 AGAIN, HEADS, PROGRAMS = "test_s3_again.Again.", "test_s3_again.Heads.", "test_s3_again.Programs."
+NOTED = "test_s3_objects.Noted."
 UNSAID, KEYS, SETTINGS = "test_s3_again.Unsaid.", "test_s3_words.Keys.", "test_s3_words.Settings."
 
 EDITS = [
@@ -178,8 +179,7 @@ EDITS = [
     # what is removed
     ("objects", "asked.ask(\"delete-version\", **place, **bypass)", "asked.ask(\"delete-version\", **place, bypass=True)",
      LOCKS + "test_governance_and_its_bypass"),
-    ("objects", "    for it in objects:\n        it.only(\"Key\", \"VersionId\")\n    results", "    results",
-     DELETE + "test_what_isnt_the_document"),
+    ("objects", "    it.only(\"Key\", \"VersionId\")\n", "", DELETE + "test_what_isnt_the_document"),
     ("xml", "parser.CharacterDataHandler, parser.StartDoctypeDeclHandler = reading.text, reading.doctype",
      "parser.CharacterDataHandler = reading.text", DELETE + "test_what_isnt_the_document"),
     ("locks", "hold=status", "hold=\"ON\"", LOCKS + "test_a_legal_hold"),
@@ -239,4 +239,64 @@ EDITS = [
     ("words", "        _say_unlocked(unlocked)\n", "",
      PROGRAMS + "test_it_says_what_isnt_locked_serves_and_ends_by_a_signal"),
     ("words", "    buckets = door.open()\n", "    buckets = door.buckets()\n", PROGRAMS + "test_a_damaged_vault_keeps_it_from_starting"),
+    # documents of which a part is wrong, or says more
+    ("objects", "        raise xml.malformed(\"an Object has a Key\")\n", "        key = \"a\"\n",
+     DELETE + "test_what_isnt_the_document"),
+    ("objects", "is_quiet = document.value(\"Quiet\") == \"true\"", "is_quiet = \"true\" in [it.text for it in document.all(\"Quiet\")]",
+     DELETE + "test_what_isnt_the_document"),
+    ("xml", "        if len(found) > 1:\n", "        if False:\n", DELETE + "test_what_isnt_the_document"),
+    ("objects", "document.value(\"Quiet\") == \"true\"", "document.value(\"Quiet\") is not None", DELETE + "test_many"),
+    ("lifecycle", "    place.only(\"And\", \"Prefix\", *SIZES)\n", "", LIFECYCLE + "test_what_the_vault_hasnt_is_refused"),
+    ("lifecycle", "        place.only(\"And\")\n", "", LIFECYCLE + "test_what_the_vault_hasnt_is_refused"),
+    ("lifecycle", "{\"ExpiredObjectDeleteMarker\": marker == \"true\"}", "{\"ExpiredObjectDeleteMarker\": True}",
+     LIFECYCLE + "test_a_marker_that_isnt_to_go_stays"),
+    ("locks", "    if document.value(\"ObjectLockEnabled\") != \"Enabled\":\n", "    if False:\n", LOCKS + "test_a_default"),
+    ("locks", "        rule.only(\"DefaultRetention\")\n", "", LOCKS + "test_a_default"),
+    ("locks", "    document.only(\"ObjectLockEnabled\", \"Rule\")\n", "", LOCKS + "test_a_default"),
+    ("locks", "(\"Days\", found[\"days\"]) if \"days\" in found else", "(\"Years\", found[\"days\"]) if \"days\" in found else",
+     LOCKS + "test_a_default"),
+    ("locks", "    document.only(\"Status\")\n", "", LOCKS + "test_a_legal_hold"),
+    # dates of another zone, sources of a copy, ranges
+    ("objects", "given = given.replace(tzinfo=dt.timezone.utc)", "given = given.replace(tzinfo=dt.timezone(dt.timedelta(hours=1)))",
+     GET + "test_a_date_of_a_condition_has_its_zone"),
+    ("objects", "given = email.utils.parsedate_to_datetime(date)", "given = email.utils.parsedate_to_datetime(date).replace(tzinfo=None)",
+     GET + "test_a_date_of_a_condition_has_its_zone"),
+    ("objects", "f\"/{path.removeprefix('/')}{query}\", [])", "f\"/{path.removeprefix('/').replace('+', '%20')}{query}\", [])",
+     COPY + "test_a_source_is_read_letter_by_letter"),
+    ("objects", "key=source.key, **source.version)", "key=__import__(\"urllib.parse\").parse.unquote(source.key), **source.version)",
+     COPY + "test_a_source_is_read_letter_by_letter"),
+    ("objects", "key=source.key, **source.version)", "key=__import__(\"unicodedata\").normalize(\"NFC\", source.key), **source.version)",
+     COPY + "test_a_source_is_read_letter_by_letter"),
+    ("objects", "(\\d{0,19})-(\\d{0,19})", "(\\d*)-(\\d*)", GET + "test_ranges"),
+    # conditions, and headers of other calls
+    ("routes", "def _change(request: Request, _: Settings) -> set[str]:\n    heads.look_at_change(request)\n",
+     "def _change(request: Request, _: Settings) -> set[str]:\n",
+     LOCKS + "test_no_change_has_a_condition_or_another_calls_header"),
+    ("routes", "def _rules(request: Request, _: Settings) -> set[str]:\n    heads.look_at_change(request)\n",
+     "def _rules(request: Request, _: Settings) -> set[str]:\n",
+     LOCKS + "test_no_change_has_a_condition_or_another_calls_header"),
+    ("routes", "\"PutObjectRetention\", locks.put_retention, VERSION, look=_change,",
+     "\"PutObjectRetention\", locks.put_retention, VERSION, look=lambda *_: heads.BYPASS,",
+     LOCKS + "test_no_change_has_a_condition_or_another_calls_header"),
+    ("routes", "objects.delete_many, look=_change,", "objects.delete_many, look=lambda *_: heads.BYPASS,",
+     LOCKS + "test_no_change_has_a_condition_or_another_calls_header"),
+    ("heads", "allowed = PLAIN | known |", "allowed = PLAIN | known | LOCKS |",
+     LOCKS + "test_no_change_has_a_condition_or_another_calls_header"),
+    ("heads", "allowed = PLAIN | known |", "allowed = PLAIN | known | BYPASS |", PUT + "test_what_cant_be_kept_is_refused"),
+    # lists that are encoded
+    ("listings", "urllib.parse.quote(key, safe=\"/\")", "urllib.parse.quote_plus(key, safe=\"/\")",
+     LISTS + "test_what_is_encoded_is_a_path"),
+    ("listings", "(\"Prefix\", wanted.shown(wanted.prefix))]", "(\"Prefix\", wanted.prefix)]", LISTS + "test_what_is_encoded_is_a_path"),
+    ("listings", "most = min(int(text), MOST) if text else MOST", "most = int(text) if text else MOST",
+     LISTS + "test_values_that_arent_any"),
+    # ETags after a line that was cut, and what a client tries again
+    ("etags", "        if text and not text.endswith(\"\\n\"):\n", "        if False:\n",
+     NOTED + "test_what_comes_after_a_line_that_was_cut_is_a_line"),
+    ("etags", "self.known[int(found[1])] = found[2], found[3]", "self.known[int(found[1]) + 1] = found[2], found[3]",
+     NOTED + "test_what_comes_after_a_line_that_was_cut_is_a_line"),
+    ("faults", "    \"Device\": \"InternalError\",\n", "", NOTED + "test_a_refusal_is_tried_again_only_where_that_may_help"),
+    ("faults", "    \"Memory\": \"SlowDown\",\n", "", NOTED + "test_a_refusal_is_tried_again_only_where_that_may_help"),
+    ("faults", "    \"ClockBack\": \"SlowDown\",\n", "", NOTED + "test_a_refusal_is_tried_again_only_where_that_may_help"),
+    ("faults", "    \"RetentionOutOfRange\": \"InvalidArgument\",\n", "",
+     NOTED + "test_a_refusal_is_tried_again_only_where_that_may_help"),
 ]

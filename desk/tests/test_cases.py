@@ -76,6 +76,17 @@ class OfCases(OfficeTest):
         self.done("release", "--case", "two")
         self.assertEqual(self.holds(), ["OFF", "OFF", "OFF"])
 
+    def test_a_dry_run_of_a_release_notes_nothing(self) -> None:
+        for case in ("one", "two"):
+            self.done("hold", "docs", "2024/a", "--case", case)
+        self.done("hold", "docs", "2025/c", "--case", "one")
+        self.lines({"do": "set-hold", "bucket": "docs", "key": "2025/c", "id": 3, "hold": "OFF"},
+                   {"do": "delete-version", "bucket": "docs", "key": "2025/c", "id": 3}, at="2024-01-15T10:00:00Z")
+        before = self.file_of_cases.read_bytes()
+        rows = json.loads(self.done("release", "--case", "one", "--dry-run", "--json"))
+        self.assertEqual([it["is"].partition(": ")[2] for it in rows], ["still for case 'two'", ""])
+        self.assertEqual(self.file_of_cases.read_bytes(), before)
+
     def test_a_hold_of_a_case_isnt_lifted_without_its_name(self) -> None:
         self.done("hold", "docs", "2024/a", "--case", "one")
         self.done("hold", "docs", "2024/b")

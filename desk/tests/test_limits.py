@@ -27,6 +27,17 @@ class Periods(unittest.TestCase):
         for text in ("2", "2 weeks", "-1 days", "two years", ""):
             self.assertRaises(UsageError, limits.period, text)
 
+    def test_its_first_and_its_last_moment_are_within(self) -> None:
+        within = limits.Limits({"docs": limits.period("2 years")}, {"docs": limits.period("10 years")})
+        for until, is_within in (
+            ("2026-01-15T09:59:59Z", False), ("2026-01-15T10:00:00Z", True),
+            ("2034-01-15T10:00:00Z", True), ("2034-01-15T10:00:01Z", False),
+        ):  # fmt: skip
+            self.assertEqual(not limits.why_outside(within, "docs", until, AT), is_within, until)
+            self.assertFalse(limits.why_outside(within, "others", until, AT))
+        self.assertEqual(limits.why_not_kept(within, "others", None, AT), "")
+        self.assertIn("no default retention", limits.why_not_kept(within, "docs", None, AT))
+
 
 class Limits(OfficeTest):
     def setUp(self) -> None:

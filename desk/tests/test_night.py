@@ -2,12 +2,17 @@
 
 from __future__ import annotations
 
+import contextlib
 import datetime as dt
+import io
 import json
 import os
 import sqlite3
 import subprocess
+import tempfile
 import time
+import unittest
+from collections.abc import Callable
 from contextlib import closing
 from pathlib import Path
 from unittest import mock
@@ -15,12 +20,53 @@ from unittest import mock
 from tests.machine import STOPPED_AND_STARTED, MachineTest
 from tests.office import PROGRAM
 from vaultdesk import night
+from vaultdesk.errors import DeskError
 
 
 def ago(days: float) -> str:
     """A moment that many days before now."""
     moment = dt.datetime.now(dt.timezone.utc) - dt.timedelta(days=days)
     return moment.strftime("%Y-%m-%dT%H:%M:%SZ")
+
+
+PARTS = ["look_at_clock", "warn_of_memory", "carry_out", "make_copy", "remove_old", "make_seal"]
+
+
+class Parts(unittest.TestCase):
+    """Which parts of a night are done after one that wasn't, of which nothing is carried out here."""
+
+    def work(self, fails: str) -> tuple[int, list[str]]:
+        """The status of a night of which that part fails, and its parts in their order."""
+        done: list[str] = []
+
+        def part(name: str) -> Callable[..., None]:
+            def carried_out(*_: object) -> None:
+                done.append(name)
+                if name == fails:
+                    raise DeskError(name)
+
+            return carried_out
+
+        parts = {it: part(it) for it in PARTS}
+        readable = mock.patch("vaultdesk.snapshot.readable", lambda file, _: contextlib.nullcontext(file))
+        with tempfile.TemporaryDirectory() as name, mock.patch.multiple(night.Night, **parts), readable:
+            served = mock.Mock(folder=Path(name), file=Path(name) / "records.vault")
+            served.name = "records"
+            with contextlib.redirect_stderr(io.StringIO()):
+                return night.Night(served, is_sure=True, goes_on=False).work(), done
+
+    def test_no_copy_is_removed_where_none_was_made(self) -> None:
+        self.assertEqual(self.work("nothing"), (0, PARTS))
+        self.assertEqual(self.work("make_copy"), (1, [it for it in PARTS if it != "remove_old"]))
+
+    def test_by_a_wrong_clock_nothing_is_removed(self) -> None:
+        wanted = ["look_at_clock", "warn_of_memory", "make_copy", "make_seal"]
+        self.assertEqual(self.work("look_at_clock"), (1, wanted))
+
+    def test_what_fails_makes_the_night_fail(self) -> None:
+        for name in ("carry_out", "remove_old", "make_seal"):
+            status, done = self.work(name)
+            self.assertEqual((status, done[-1]), (1, "make_seal"), name)
 
 
 class Night(MachineTest):

@@ -156,8 +156,15 @@ class Lists(GatewayTest):
                       "list-type=2&continuation-token=%21", "versions&version-id-marker=1", "prefix=%0A"):
             self.refused("InvalidArgument", 400, self.ask("GET", f"/docs?{query}"))
         self.assertEqual(self.done("GET", "/docs?list-type=2&max-keys=0").all("IsTruncated"), ["false"])
+        self.assertEqual(self.done("GET", "/docs?list-type=2&max-keys=5000").all("MaxKeys"), ["1000"])
         self.refused("NoSuchBucket", 404, self.ask("GET", "/nothing?list-type=2&max-keys=0"))
         self.refused("AccessDenied", 403, self.ask("GET", "/cases?list-type=2", who=BEA))
+
+    def test_what_is_encoded_is_a_path(self) -> None:
+        self.put(["a b/c+d%", "a b/u\u0308"])
+        got = self.done("GET", "/docs?list-type=2&encoding-type=url&prefix=a%20b%2F&delimiter=%2B")
+        wanted = (["a%20b/u%CC%88"], ["a%20b/", "a%20b/c%2B"], ["%2B"])
+        self.assertEqual((got.all("Key"), got.all("Prefix"), got.all("Delimiter")), wanted)
 
     def test_a_key_that_xml_cant_carry(self) -> None:
         self.put(["a\uffffb"])

@@ -68,12 +68,34 @@ class Locks(GatewayTest):
         self.assertEqual(self.done("GET", "/docs/a?legal-hold").all("Status"), ["OFF"])
         hold = b'<LegalHold xmlns="http://s3.amazonaws.com/doc/2006-03-01/"><Status>ON</Status></LegalHold>'
         self.refused("AccessDenied", 403, self.ask("PUT", "/docs/a?legal-hold", hold, who=BEA))
+        more = self.ask("PUT", "/docs/a?legal-hold", hold.replace(b"</LegalHold>", b"<More/></LegalHold>"))
+        self.refused("NotImplemented", 501, more)
+        self.assertEqual(self.done("GET", "/docs/a?legal-hold").all("Status"), ["OFF"])
         self.done("PUT", "/docs/a?legal-hold", hold)
         self.assertEqual(self.done("GET", "/docs/a?legal-hold&versionId=1").all("Status"), ["ON"])
         self.refused_so("legal-hold", "DELETE", "/docs/a?versionId=1", headers=BYPASS)
         self.done("PUT", "/docs/a?legal-hold", hold.replace(b"ON", b"OFF"))
         self.done("DELETE", "/docs/a?versionId=1")
         self.assertEqual(self.entries(), [])
+
+    def test_no_change_has_a_condition_or_another_calls_header(self) -> None:
+        self.locked("GOVERNANCE")
+        hold = b"<LegalHold><Status>ON</Status></LegalHold>"
+        changes = (
+            ("PUT", "/docs/a?retention", retention("GOVERNANCE", LATER)), ("PUT", "/docs/a?legal-hold", hold),
+            ("PUT", "/docs?object-lock", default("<Mode>GOVERNANCE</Mode><Days>1</Days>")),
+            ("PUT", "/docs?lifecycle", RULES), ("DELETE", "/docs?lifecycle", b""), ("DELETE", "/docs/a", b""),
+            ("POST", "/docs?delete", b"<Delete><Object><Key>a</Key></Object></Delete>"),
+        )  # fmt: skip
+        before = self.door.ask("ann", "head", bucket="docs", key="a").value
+        for method, target, body in changes:
+            for headers in ({"if-match": "*"}, {"if-unmodified-since": "Mon, 15 Jan 2024 11:00:00 GMT"},
+                            {"x-amz-object-lock-legal-hold": "OFF"}, {"x-amz-copy-source": "/docs/a"}):
+                with self.subTest(target, headers=headers):
+                    self.refused("InvalidRequest", 400, self.ask(method, target, body, headers))
+        self.assertEqual(self.door.ask("ann", "head", bucket="docs", key="a").value, before)
+        self.assertEqual(self.done("GET", "/docs?object-lock").all("Mode"), [])
+        self.refused("NoSuchLifecycleConfiguration", 404, self.ask("GET", "/docs?lifecycle"))
 
     def test_locks_are_those_of_the_version_that_is_named(self) -> None:
         self.done("PUT", "/docs/a", b"hello")
@@ -131,16 +153,32 @@ class Locks(GatewayTest):
         ):  # fmt: skip
             self.assertEqual(self.ask("PUT", "/docs?object-lock", default(inner)).code, code, inner)
         self.assertEqual(self.done("GET", "/docs?object-lock").all("Years"), ["2"])
+        three = default("<Mode>GOVERNANCE</Mode><Days>3</Days>")
+        self.done("PUT", "/docs?object-lock", three)
+        found = self.done("GET", "/docs?object-lock")
+        self.assertEqual((found.all("Mode"), found.all("Days"), found.all("Years")), (["GOVERNANCE"], ["3"], []))
+        for old, new, code in (
+            (b">Enabled<", b">Disabled<", "MalformedXML"),
+            (b"<ObjectLockEnabled>Enabled</ObjectLockEnabled>", b"", "MalformedXML"),
+            (b"<DefaultRetention><Mode>GOVERNANCE</Mode><Days>3</Days></DefaultRetention>", b"", "MalformedXML"),
+            (b"<Rule>", b"<Rule><More/>", "NotImplemented"), (b"<Rule>", b"<More/><Rule>", "NotImplemented"),
+            (b"<Days>", b"<More>1</More><Days>", "NotImplemented"),
+        ):  # fmt: skip
+            self.assertEqual(self.ask("PUT", "/docs?object-lock", three.replace(old, new)).code, code, new)
+        cleared = default("").replace(b">Enabled<", b">Disabled<")
+        self.assertEqual(self.ask("PUT", "/docs?object-lock", cleared).code, "MalformedXML")
+        self.assertEqual(self.done("GET", "/docs?object-lock").all("Days"), ["3"])
         self.done("PUT", "/docs?object-lock", default(""))
         self.assertEqual(self.done("GET", "/docs?object-lock").all("Mode"), [])
         self.refused("AccessDenied", 403, self.ask("PUT", "/docs?object-lock", default(""), who=BEA))
 
 
+FILTER = b"<Filter><And><Prefix>2024/</Prefix><ObjectSizeGreaterThan>3</ObjectSizeGreaterThan></And></Filter>"
 RULES = (
-    b"<LifecycleConfiguration><Rule><Filter><And><Prefix>2024/</Prefix><ObjectSizeGreaterThan>3</ObjectSizeGreaterThan>"
-    b"</And></Filter><Status>Enabled</Status><Expiration><Days>30</Days></Expiration></Rule><Rule><ID>old</ID><Prefix/>"
-    b"<Status>Disabled</Status><NoncurrentVersionExpiration><NoncurrentDays>7</NoncurrentDays><NewerNoncurrentVersions>"
-    b"2</NewerNoncurrentVersions></NoncurrentVersionExpiration></Rule></LifecycleConfiguration>"
+    b"<LifecycleConfiguration><Rule>" + FILTER + b"<Status>Enabled</Status><Expiration><Days>30</Days></Expiration>"
+    b"</Rule><Rule><ID>old</ID><Prefix/><Status>Disabled</Status><NoncurrentVersionExpiration><NoncurrentDays>7"
+    b"</NoncurrentDays><NewerNoncurrentVersions>2</NewerNoncurrentVersions></NoncurrentVersionExpiration></Rule>"
+    b"</LifecycleConfiguration>"
 )
 
 
@@ -161,6 +199,14 @@ class Lifecycle(GatewayTest):
         self.refused("AccessDenied", 403, self.ask("PUT", "/docs?lifecycle", RULES, who=BEA))
         self.assertEqual(self.done("DELETE", "/docs?lifecycle").status, 204)
         self.refused("NoSuchLifecycleConfiguration", 404, self.ask("GET", "/docs?lifecycle"))
+
+    def test_a_marker_that_isnt_to_go_stays(self) -> None:
+        for given, kept in ((b"false", []), (b"true", ["true"])):
+            marker = b"<ExpiredObjectDeleteMarker>" + given + b"</ExpiredObjectDeleteMarker>"
+            rules = RULES.replace(b"<NoncurrentV", b"<Expiration>" + marker + b"</Expiration><NoncurrentV")
+            self.ask("PUT", "/docs?lifecycle", rules)
+            told = self.ask("GET", "/docs?lifecycle").all("ExpiredObjectDeleteMarker")
+            self.assertEqual([it for it in told if it != "false"], kept)
 
     def test_a_rule_is_carried_out(self) -> None:
         self.done("PUT", "/docs/2024/a", b"hello")
@@ -185,6 +231,8 @@ class Lifecycle(GatewayTest):
             (b"<ID>old</ID>", b"<ID>rule-1</ID>", "InvalidArgument"),
             (b"<NewerNoncurrentVersions>", b"<More/><NewerNoncurrentVersions>", "NotImplemented"),
             (b"<Rule><ID>", b"<More/><Rule><ID>", "NotImplemented"),
+            (b"</And>", b"</And><Prefix>2025/</Prefix>", "NotImplemented"),
+            (FILTER, b"<Filter><Tag><Key>a</Key><Value>b</Value></Tag></Filter>", "NotImplemented"),
         ):  # fmt: skip
             self.assertEqual(self.ask("PUT", "/docs?lifecycle", RULES.replace(old, new)).code, code, new)
         self.refused("NoSuchLifecycleConfiguration", 404, self.ask("GET", "/docs?lifecycle"))

@@ -3,8 +3,13 @@
 from __future__ import annotations
 
 import hashlib
+import tempfile
+import unittest
+from pathlib import Path
 
 from tests.s3_office import GatewayTest, quoted, request
+from vaultdesk.refusals import refused
+from vaultdesk.s3 import etags, faults
 
 HELLO = hashlib.md5(b"hello").hexdigest()
 KEYS = (
@@ -28,6 +33,7 @@ REFUSED = (
     ({"content-language": "de"}, "InvalidRequest"),
     ({"x-amz-write-offset-bytes": "0"}, "InvalidRequest"),
     ({"x-amz-anything-new": "1"}, "InvalidRequest"),
+    ({"x-amz-bypass-governance-retention": "true"}, "InvalidRequest"),
     ({"x-amz-expected-bucket-owner": "123456789012"}, "AccessDenied"),
     ({"x-amz-object-lock-mode": "COMPLIANCE"}, "InvalidArgument"),
     ({"x-amz-object-lock-retain-until-date": "2034-01-01T00:00:00Z"}, "InvalidArgument"),
@@ -137,7 +143,7 @@ class Get(GatewayTest):
         self.assertEqual(middle.headers["content-range"], "bytes 2-4/10")
         for text in ("bytes=10-", "bytes=-0"):
             self.refused("InvalidRange", 416, self.ask("GET", "/docs/a", headers={"range": text}))
-        for text in ("bytes=4-2", "bytes=0-1,3-4", "lines=0-1", "bytes=-"):
+        for text in ("bytes=4-2", "bytes=0-1,3-4", "lines=0-1", "bytes=-", f"bytes={'0' * 5_000}-"):
             self.assertEqual(self.done("GET", "/docs/a", headers={"range": text}).status, 200, text)
         other = {"range": "bytes=0-0", "if-range": '"other"'}
         self.assertEqual(self.done("GET", "/docs/a", headers=other).status, 200)
@@ -156,6 +162,16 @@ class Get(GatewayTest):
         ):  # fmt: skip
             for method in ("GET", "HEAD"):
                 self.assertEqual(self.ask(method, "/docs/a", headers=headers).status, status, headers)
+
+    def test_a_date_of_a_condition_has_its_zone(self) -> None:
+        for name, date, status in (
+            ("if-unmodified-since", "Mon, 15 Jan 2024 10:59:59 +0100", 412),
+            ("if-unmodified-since", "Mon, 15 Jan 2024 11:00:00 +0100", 200),
+            ("if-modified-since", "Mon, 15 Jan 2024 05:00:00 -0500", 304),
+            ("if-modified-since", "Mon, 15 Jan 2024 10:00:00 -0000", 304),
+            ("if-modified-since", "Mon, 15 Jan 2024 09:59:59 -0000", 200),
+        ):
+            self.assertEqual(self.ask("GET", "/docs/a", headers={name: date}).status, status, date)
 
     def test_versions_and_markers(self) -> None:
         self.done("PUT", "/docs/a", b"newer")
@@ -200,6 +216,15 @@ class Copy(GatewayTest):
         told = self.door.ask("ann", "get", bucket="docs", key="b").value
         self.assertEqual((bytes.fromhex(told["hex"]), told["hold"]), (b"hello", "OFF"))
         self.assertEqual(told["retention"], {"mode": "GOVERNANCE", "until": "2030-01-01T00:00:00Z"})
+
+    def test_a_source_is_read_letter_by_letter(self) -> None:
+        keys = ("x+y", "x y", "%41", "A", "u\u0308", "\u00fc", "a//b", "a/b", "?versionId=1")
+        for key in keys:
+            self.done("PUT", f"/docs/{quoted(key)}", f"the content of {key}".encode())
+        for key in keys:
+            for source in (f"/docs/{quoted(key)}", f"docs/{quoted(key).replace('%2B', '+')}"):
+                self.done("PUT", "/docs/copy", b"", {"x-amz-copy-source": source})
+                self.assertEqual(self.done("GET", "/docs/copy").body.decode(), f"the content of {key}", source)
 
     def test_onto_itself(self) -> None:
         source = {"x-amz-copy-source": "docs/a%20%2B%3F", "x-amz-metadata-directive": "REPLACE"}
@@ -255,6 +280,8 @@ class Delete(GatewayTest):
         self.assertEqual(done.all("Key"), ["a", "b", "held", "<&>", "x"])
         self.assertEqual(done.all("Code"), ["AccessDenied", "InvalidArgument"])
         self.assertEqual(done.all("DeleteMarkerVersionId"), ["5", "6"])
+        loud = self.done("POST", "/docs?delete", asked.replace(b"</Delete>", b"<Quiet>false</Quiet></Delete>"))
+        self.assertEqual(loud.all("Key"), ["a", "b", "held", "<&>", "x"])
         quiet = self.done("POST", "/docs?delete", asked.replace(b"</Delete>", b"<Quiet>true</Quiet></Delete>"))
         self.assertEqual(quiet.all("Key"), ["b", "held", "x"])
         self.assertEqual(self.done("GET", "/docs/held").body, b"hello")
@@ -265,11 +292,44 @@ class Delete(GatewayTest):
         conditional = b"<Delete><Object><Key>b</Key></Object><Object><Key>a</Key><ETag>x</ETag></Object></Delete>"
         entity = b'<!DOCTYPE a [<!ENTITY e "a">]><Delete><Object><Key>&e;</Key></Object></Delete>'
         deep = b"<Delete>" + b"<a>" * 20 + b"</a>" * 20 + b"</Delete>"
+        nameless, twofold, unsure = (
+            b"<Delete><Object><Key>b</Key></Object>" + it + b"</Delete>"
+            for it in (b"<Object><VersionId>1</VersionId></Object>", b"<Object><Key>a</Key><Key>c</Key></Object>",
+                       b"<Quiet>true</Quiet><Quiet>true</Quiet>")
+        )  # fmt: skip
         for body, code in ((many, "MalformedXML"), (b"<Delete/>", "MalformedXML"), (b"", "MalformedXML"),
                            (b"{}", "MalformedXML"), (entity, "MalformedXML"), (deep, "MalformedXML"),
-                           (b"<Other/>", "MalformedXML"), (conditional, "NotImplemented")):
+                           (b"<Other/>", "MalformedXML"), (conditional, "NotImplemented"),
+                           (nameless, "MalformedXML"), (twofold, "MalformedXML"), (unsure, "MalformedXML")):
             self.assertEqual(self.ask("POST", "/docs?delete", body).code, code, body[:60])
         self.assertEqual(self.entries(), before)
+
+
+class Noted(unittest.TestCase):
+    """ETags that are noted in a file, and what S3's clients are answered to the engine's refusals."""
+
+    def test_what_comes_after_a_line_that_was_cut_is_a_line(self) -> None:
+        at = "2024-01-15T10:00:00Z"
+        with tempfile.TemporaryDirectory() as name:
+            path = Path(name) / "etags"
+            path.write_text(f"1 {at} {HELLO}\n2 {at} {HELLO[:9]}")
+            noted = etags.Etags(path)
+            noted.note(3, at, b"hello")
+            noted.close()
+            again = etags.Etags(path)
+            self.assertEqual([again.find(it, at) for it in (1, 2, 3)], [HELLO, None, HELLO])
+            self.assertIsNone(again.find(1, "2024-01-15T10:00:01Z"))
+            again.close()
+
+    def test_a_refusal_is_tried_again_only_where_that_may_help(self) -> None:
+        for code, named, status in (
+            ("AccessDenied", "AccessDenied", 403), ("NoSuchVersion", "NoSuchVersion", 404),
+            ("RetentionOutOfRange", "InvalidArgument", 400), ("IntakeConflict", "InvalidRequest", 400),
+            ("MalformedBody", "MalformedXML", 400), ("QuotaExceeded", "QuotaExceeded", 403),
+            ("ClockBack", "SlowDown", 503), ("Memory", "SlowDown", 503), ("Device", "InternalError", 500),
+        ):  # fmt: skip
+            fault = faults.of_refusal(refused({"code": code, "n": 1}))
+            self.assertEqual((fault.code, fault.status), (named, status), code)
 
 
 class Etags(GatewayTest):

@@ -18,7 +18,7 @@ from vaultdesk.s3.faults import Fault
 from vaultdesk.s3.request import Answer, Request, number, read as read_request
 
 MOST_DELETED = 1_000  # keys of one DeleteObjects
-RANGE = re.compile(r"bytes=(\d*)-(\d*)")
+RANGE = re.compile(r"bytes=(\d{0,19})-(\d{0,19})")
 DESCRIBING = (
     "cache-control", "content-disposition", "content-encoding", "content-language", "content-type", "expires",
 )  # fmt: skip
@@ -290,14 +290,28 @@ def delete(asked: Asked) -> Answer:
     return Answer(204, headers)
 
 
-def _result(asked: Asked, it: xml.Element) -> xml.Node:
-    """What became of one key of DeleteObjects."""
-    key, version = it.value("Key"), it.value("VersionId")
+class Named(NamedTuple):
+    """A key of DeleteObjects, and the version, if one is named."""
+
+    key: str
+    version: str | None
+
+
+def _named(it: xml.Element) -> Named:
+    """What an Object names. `Fault` where it has no key, or anything else beside it."""
+    it.only("Key", "VersionId")
+    key = it.value("Key")
     if key is None:
         raise xml.malformed("an Object has a Key")
-    named: list[xml.Node] = [("Key", key), *([("VersionId", version)] if version is not None else [])]
+    return Named(key, it.value("VersionId"))
+
+
+def _result(asked: Asked, it: Named) -> xml.Node:
+    """What became of one key of DeleteObjects."""
+    version = it.version
+    named: list[xml.Node] = [("Key", it.key), *([("VersionId", version)] if version is not None else [])]
     try:
-        place = {"bucket": asked.request.bucket, "key": key}
+        place = {"bucket": asked.request.bucket, "key": it.key}
         one = {} if version is None else {"id": number(version, "VersionId")}
         done = _deleted(asked, {**place, **one}, asked.request.bypass)
     except Fault as fault:
@@ -308,15 +322,16 @@ def _result(asked: Asked, it: xml.Element) -> xml.Node:
 
 
 def delete_many(asked: Asked) -> Answer:
-    """Up to 1,000 keys or versions, one after another; of each it is said what became of it."""
+    """Up to 1,000 keys or versions, one after another; of each it is said what became of it.
+
+    The whole document is looked at before the first of them: one that is refused has nothing deleted."""
     document = asked.document("Delete")
     document.only("Object", "Quiet")
-    objects = document.all("Object")
+    is_quiet = document.value("Quiet") == "true"
+    objects = [_named(it) for it in document.all("Object")]
     if not 1 <= len(objects) <= MOST_DELETED:
         raise xml.malformed(f"there are 1 to {MOST_DELETED} Objects")
-    for it in objects:
-        it.only("Key", "VersionId")
     results = [_result(asked, it) for it in objects]
-    if document.value("Quiet") == "true":
+    if is_quiet:
         results = [it for it in results if it[0] == "Error"]
     return xml_answer("DeleteResult", results)

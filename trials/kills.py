@@ -1,0 +1,222 @@
+"""Kills: a server that is killed as it ends by its line, and one that is killed during a night's work over its door.
+
+The kills come by `strace`, before calls that change the vault's file or its log: at fifty points of each, or as many as
+`TRIALS_KILLS` says, spread over all calls that an untroubled run makes; the gate tries five. After each kill
+
+  - a server opens the vault, and so its tables are sound;
+  - each change that was answered is there, with its content;
+  - the next try works: the server ends by its line with status 0, or the night is done, and then the vault has what it has
+    after an untroubled night, and each copy with the name of one is sound.
+
+An `init` and a `migrate` are killed before each such call in `faults.py` and `migrate.py`, a server under load in `serve.py`.
+"""
+
+import collections
+import json
+import os
+import pathlib
+import shutil
+import socket
+import subprocess
+import time
+import unittest
+from typing import Any, NamedTuple
+
+from trials.calls import CHANGING, KILLED, needs_strace
+from trials.program import DESK, IS_LONG, OPENED_AT, PROGRAM, Case, Ran, check, make_office, ran_words
+from trials.servers import LIMIT, free_port
+
+POINTS = int(os.environ.get("TRIALS_KILLS", 50 if IS_LONG else 5))
+CALLS = (*CHANGING, "unlink")
+KEYS = [f"2024/{number:02}" for number in range(12)]
+NEW = range(40)
+RULE = {
+    "ID": "old", "Status": "Enabled", "Prefix": "2024/", "Expiration": {"Days": 30},
+    "NoncurrentVersionExpiration": {"NoncurrentDays": 1},
+}
+
+
+class Point(NamedTuple):
+    """A call, by its name and its number among those of that name."""
+
+    call: str
+    number: int
+
+
+def points_of(trace: pathlib.Path) -> list[Point]:
+    """The calls of a trace, in their order."""
+    counts = collections.Counter[str]()
+    found = []
+    for line in trace.read_text().splitlines():
+        name = line.partition("(")[0]
+        if name in CALLS:
+            counts[name] += 1
+            found.append(Point(name, counts[name]))
+    return found
+
+
+def spread(points: list[Point]) -> list[Point]:
+    """As many of these as are to be tried, from the first to the last."""
+    check(len(points) >= POINTS, f"there are {len(points)} points, and {POINTS} are to be tried")
+    return [points[at * (len(points) - 1) // max(1, POINTS - 1)] for at in range(POINTS)]
+
+
+class Server:
+    """A server of the vault in a folder, at whose calls one looks; with a point, it is killed before that call."""
+
+    def __init__(self, folder: pathlib.Path, kill: Point | None = None) -> None:
+        self.file, self.trace = folder / "records.vault", folder / "trace"
+        self.where = folder / "run" / "records" / "lines"
+        self.where.parent.mkdir(parents=True, exist_ok=True)
+        at = [it for end in ("", "-wal") for it in ("-P", f"{self.file}{end}")]
+        killing = ["-e", f"inject={kill.call}:signal=KILL:when={kill.number}"] if kill else []
+        front = ["strace", "-qq", "-o", self.trace, *at, "-e", f"trace={','.join(CALLS)}", *killing]
+        words = [PROGRAM, "serve", self.file, str(free_port()), "--lines", self.where]
+        self.said = folder / "said"
+        with self.said.open("wb") as said:
+            self.process = subprocess.Popen([*front, *words], stdout=subprocess.DEVNULL, stderr=said)
+        end = time.monotonic() + LIMIT
+        while f"lines at {self.where}" not in self.said.read_text():
+            check(self.process.poll() is None and time.monotonic() < end, f"no server: {self.said.read_text()}")
+            time.sleep(0.02)
+
+    def ask(self, do: str, who: str = "ann", **members: Any) -> Any:
+        """The reply to a line; none where the server is killed before it answers."""
+        line = json.dumps({"as": who, "do": do, **members})
+        with socket.socket(socket.AF_UNIX) as peer:
+            peer.settimeout(LIMIT)
+            try:
+                peer.connect(str(self.where))
+                peer.sendall(line.encode() + b"\n")
+                peer.shutdown(socket.SHUT_WR)
+                with peer.makefile("rb") as file:
+                    found = file.read()
+            except (ConnectionError, FileNotFoundError):
+                return None
+        return json.loads(found) if found.endswith(b"\n") else None
+
+    def done(self, do: str, **members: Any) -> Any:
+        """What is answered to a line that is carried out."""
+        reply = self.ask(do, **members)
+        check(reply and "ok" in reply, f"{do} {members}: {reply}")
+        return reply["ok"]
+
+    def ended(self) -> int:
+        """The status with which it ends."""
+        return self.process.wait(LIMIT)
+
+    def close(self) -> None:
+        """Ends it by its line."""
+        check(self.ask("close", "registrar") == {"ok": {}}, "the line that ends it isn't answered")
+        check(self.ended() == 0, f"the server has the status {self.process.returncode}: {self.said.read_text()}")
+
+    def stop(self) -> None:
+        """Ends it in any case."""
+        self.process.kill()
+        self.process.wait()
+
+
+@needs_strace
+class Kills(Case):
+    """A vault whose server is killed: each time it begins with the same files."""
+
+    def setUp(self) -> None:
+        super().setUp()
+        self.made, self.place = self.folder / "made", self.folder / "place"
+        self.made.mkdir()
+        file = self.made / "records.vault"
+        rights = ("put", "get", "list", "run", "config", "report")
+        make_office(file, *rights, at=["--at", OPENED_AT])
+        lines = [{"do": "set-rules", "bucket": "docs", "rules": [RULE]}]
+        lines += [{"do": "put", "bucket": "docs", "key": key, "text": f"{key} {it}"} for it in "ab" for key in KEYS]
+        script = "".join(json.dumps({"at": OPENED_AT, "as": "ann", **it}) + "\n" for it in lines)
+        replies = self.printed("replay", file, given=script).splitlines()
+        self.assertEqual([it for it in replies if not it.startswith('{"ok"')], [])
+
+    def begin(self, kill: Point | None = None) -> Server:
+        """A server of the vault as it was made, to which something was put meanwhile: all of it was answered."""
+        shutil.rmtree(self.place, ignore_errors=True)
+        shutil.copytree(self.made, self.place)
+        server = self.serve(kill)
+        for number in NEW:
+            server.done("put", bucket="docs", key=f"new/{number}", text=f"{number} " * 300)
+        return server
+
+    def serve(self, kill: Point | None = None) -> Server:
+        server = Server(self.place, kill)
+        self.addCleanup(server.stop)
+        return server
+
+    def look_at_answered(self, server: Server) -> None:
+        """Fails unless each put that was answered is there."""
+        for number in NEW:
+            found = server.done("get", bucket="docs", key=f"new/{number}")
+            self.assertEqual(bytes.fromhex(found["hex"]).decode(), f"{number} " * 300)
+
+    def log_size(self) -> int:
+        """The bytes of the vault's log."""
+        return (self.place / "records.vault-wal").stat().st_size
+
+    def is_killed(self, server: Server, point: Point) -> None:
+        self.assertIn(server.ended(), KILLED, f"no kill came before {point}")
+
+
+class AtClose(Kills):
+    def test_points(self) -> None:
+        """A server that is killed as it ends by its line: the next one has all that was answered, and ends by its line."""
+        server = self.begin()
+        begun = len(points_of(server.trace))
+        server.close()
+        left = self.log_size()
+        for point in spread(points_of(server.trace)[begun:]):
+            with self.subTest(point):
+                server = self.begin(point)
+                server.ask("close", "registrar")
+                self.is_killed(server, point)
+                again = self.serve()
+                self.look_at_answered(again)
+                again.close()
+                self.assertEqual(self.log_size(), left, "the bytes of the log, which is in the file")
+                self.is_sound(self.place / "records.vault")
+
+
+@unittest.skipUnless(os.geteuid() == 0, "the night's work is for root")
+class AtNight(Kills):
+    def night(self) -> Ran:
+        """What the desk's night comes to, over the door of the server."""
+        (self.place / "records.conf").write_text(f"PORT=8080\nBUCKETS=docs:ann\nBACKUP='{self.place / 'copies'}'\n")
+        folders = {"VAULT_CONF": self.place, "VAULT_FOLDER": self.place, "VAULT_LOCKS": self.place / "run"}
+        env = {**os.environ, "VAULTCTL": str(PROGRAM), **{name: str(it) for name, it in folders.items()}}
+        return ran_words(DESK, "night", "records", "--clock-is-right", "--json", env=env)
+
+    def entries(self, server: Server) -> list[Any]:
+        """What the bucket holds, but for moments."""
+        found = server.done("list-versions", bucket="docs", most=1_000)["entries"]
+        return [(it["key"], it["version_id"], it["delete_marker"], it["current"]) for it in found]
+
+    def test_points(self) -> None:
+        """A server that is killed while the desk does a night's work over its door: the next night does the rest."""
+        server = self.begin()
+        begun = len(points_of(server.trace))
+        whole = self.night()
+        self.assertEqual((whole.status, whole.err), (0, ""))
+        wanted, points = self.entries(server), points_of(server.trace)[begun:]
+        done = json.loads(whole.out)["rules"]
+        self.assertEqual(done, [{"bucket": "docs", "marked": len(KEYS), "removed": len(KEYS), "lone": 0}])
+        server.close()
+        for point in spread(points):
+            with self.subTest(point):
+                server = self.begin(point)
+                cut = self.night()
+                self.is_killed(server, point)
+                self.assertEqual(cut.status, 1, cut)
+                again = self.serve()
+                self.look_at_answered(again)
+                rest = self.night()
+                self.assertEqual((rest.status, rest.err), (0, ""))
+                self.assertEqual(self.entries(again), wanted)
+                self.look_at_answered(again)
+                again.close()
+                self.is_sound(self.place / "records.vault")
+                for copy in (self.place / "copies").glob("*.vault"):
+                    self.is_sound(copy)
