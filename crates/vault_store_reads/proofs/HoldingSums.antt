@@ -142,20 +142,29 @@ first_of : (f : Row → ℕ) (rows : List Row) (row : Row) (tail : List Row) (mo
 first_of f rows row tail most low = omega (arith, low, sum_by-append f (rows ++ row ∷ []) tail, sum_by_push f rows row)
 
 module _ (v : Vault) (kept : IsKept v) (bucket : List ℕ) (rows : List Row) (row : Row) (tail : List Row) (are : IsPermutation (map sized_row (map sized_of (held_in v bucket))) ((rows ++ row ∷ []) ++ tail)) where
-  pub readable_row : ReportsOne sized_row IsSizedRow row
+  readable_row : ReportsOne sized_row IsSizedRow row
   readable_row = at_seam (ReportsOne sized_row IsSizedRow) rows row tail (all-permutation (ReportsOne sized_row IsSizedRow) _ _ are (sized_readable v kept bucket))
 
   own : unsized row ≡ readable_row.0
   own = ap unsized readable_row.1 ∙ back readable_row.0
 
-  pub bytes_fit : (bytes : ℕ) → bytes ≡ bytes_in rows → bytes + readable_row.0.size < 2 ^ 64
+  bytes_fit : (bytes : ℕ) → bytes ≡ bytes_in rows → bytes + readable_row.0.size < 2 ^ 64
   bytes_fit bytes is =
       let low = first_of (λ r. (unsized r).size) rows row tail (2 ^ 64) (bytes_bound v kept bucket _ are) in
       let size = ap (λ (x : SizedRow). x.size) own in
       omega (arith, low, is, size)
 
-  pub weight_fits : (weight : ℕ) → weight ≡ weight_in rows → weight + weight_of readable_row.0 < 2 ^ 64
+  weight_fits : (weight : ℕ) → weight ≡ weight_in rows → weight + weight_of readable_row.0 < 2 ^ 64
   weight_fits weight is =
       let low = first_of (λ r. weight_of (unsized r)) rows row tail (2 ^ 64) (weight_bound v kept bucket _ are) in
       let one = ap weight_of own in
       omega (arith, low, is, one)
+
+-- a row that goes on from those before it is that of an entry, and the sums with it are numbers of 64 bits
+pub fits : (v : Vault) (bucket : List ℕ) (rows : List Row) (row : Row) (tail : List Row) (bytes weight : ℕ) → FindsRows v sized_text (Text bucket ∷ []) ((rows ++ row ∷ []) ++ tail) → bytes ≡ bytes_in rows → weight ≡ weight_in rows
+    → (x : SizedRow) × IsSizedRow x × (row ≡ sized_row x) × (bytes + x.size < 2 ^ 64) × (weight + weight_of x < 2 ^ 64)
+fits v bucket rows row tail bytes weight found is_bytes is_weight =
+    let kept = found.1.spells.kept in
+    let are = found_sized v bucket ((rows ++ row ∷ []) ++ tail) found in
+    let it = readable_row v kept bucket rows row tail are in
+    (it.0, it.2, it.1, bytes_fit v kept bucket rows row tail are bytes is_bytes, weight_fits v kept bucket rows row tail are weight is_weight)

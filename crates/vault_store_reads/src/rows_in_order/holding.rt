@@ -2,13 +2,13 @@
 //!
 //! An index has a bucket's entries with their removals. So of one that was removed no more than its place there is
 //! looked at. A marker has no bytes and no tenure, and adds nothing.
-ghost use Rattle.std.specs.Prelude.{◌≡◌, ◌+◌, ◌<◌, ◌^◌, false, MatchOption, IfOk};
+ghost use Rattle.std.specs.Prelude.{◌≡◌, ◌+◌, ◌<◌, ◌^◌, MatchOption, IfOk};
 ghost use Rattle.sqlite.specs.Held.{state};
-ghost use Rattle.sqlite.specs.State.{HasCleanDisk, Survives};
+ghost use Rattle.sqlite.specs.State.{HasCleanDisk};
 ghost use Rattle.vault_core_model.specs.Totals.{bucket_bytes, bucket_weight};
 ghost use Rattle.vault_core_model.specs.Vault.{Vault};
 ghost use Rattle.vault_store_model.specs.Keeping.{Keeps};
-ghost use Rattle.vault_store_reads.specs.Quiet.{IsOpenIfOk, IsQuiet};
+ghost use Rattle.vault_store_reads.specs.Quiet.{ReadsQuietly, IsOpenIfOk};
 ghost use Rattle.vault_store_reads.specs.Readable.{IsSizedRow};
 ghost use Rattle.vault_store_reads.specs.Shown.{day_if_given, sized_row, weight_of};
 ghost use Rattle.vault_store_reads.specs.Wants.{WantsMemoryIfErr};
@@ -56,12 +56,9 @@ pub fn find_bucket_held<S: Alter>(
     bucket: &BucketName,
 ) -> Result<(u64, u64), Error>
     ensures value { HasCleanDisk (state S.Store conn.new) → IfOk result (λ held. (v : Vault) → Keeps (state S.Store conn.old) v → (held.0 ≡ bucket_bytes v bucket.now) × (held.1 ≡ bucket_weight v bucket.now)) }
-    ensures same { HasCleanDisk (state S.Store conn.new) → (v : Vault) → Keeps (state S.Store conn.old) v → Keeps (state S.Store conn.new) v }
-    ensures honest { HasCleanDisk (state S.Store conn.new) → HasCleanDisk (state S.Store conn.old) }
-    ensures mode { conn.old.in_transaction ≡ false → conn.new.in_transaction ≡ false }
+    ensures read { ReadsQuietly S.Store conn.old conn.new }
     ensures open { IsOpenIfOk S.Store conn.new result }
     ensures memory { WantsMemoryIfErr S.Store conn.old conn.new result }
-    ensures survives { Survives (state S.Store conn.old) (state S.Store conn.new) (IsQuiet (state S.Store conn.old)) }
 {
     let mut rows = conn.query(
         "SELECT (SELECT e.size FROM entries AS e WHERE e.id = h.id) AS size, (SELECT t.moment FROM tenures AS t WHERE t.id = h.id ORDER BY t.n DESC) AS since FROM entries AS h WHERE h.bucket = ?1 AND h.removed IS NULL",

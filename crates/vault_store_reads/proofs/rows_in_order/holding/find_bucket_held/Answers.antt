@@ -13,7 +13,7 @@ use Rattle.vault_store_reads.specs.Quiet.{IsQuiet}
 use Rattle.vault_store_reads.proofs.AskedLemmas.{sized_asked}
 use Rattle.vault_store_reads.proofs.HandLemmas.{undone}
 use Rattle.vault_store_reads.proofs.HoldingLemmas.{found_sized}
-use Rattle.vault_store_reads.proofs.HoldingSums.{bytes_are, bytes_fit, bytes_in, bytes_more, readable_row, weight_fits, weight_in, weight_is, weight_more}
+use Rattle.vault_store_reads.proofs.HoldingSums.{bytes_are, bytes_in, bytes_more, fits, weight_in, weight_is, weight_more}
 use Rattle.vault_store_reads.proofs.OpenLemmas.{quiet}
 use Rattle.vault_store_reads.proofs.OrderedTextLemmas.{sized_is, sized_query, sized_text}
 use Rattle.vault_store_reads.proofs.QueryLemmas.{finds, unchanged_keeps}
@@ -23,18 +23,25 @@ use Rattle.vault_store_reads.proofs.rows_in_order.holding.find_bucket_held.Goals
 
 -- the query doesn't begin
 
-pub returns-in_err-rows-clause-survives : goal.returns-in_err-rows-clause-survives
-returns-in_err-rows-clause-survives g c =
-    let params : Row = Text c.args.bucket.now ∷ [] in
-    let old = state g.S.Store c.args.conn.now in
-    let new = state g.S.Store c.query.follows.lender-at-none in
-    let held = rw (c.params-to_sql.ensures, c.as_str.ensures.text) at c.query.follows.holds-at-none in
-    let kept : Survives old new (CommitsShowing sized_text params old) = search rules in
-    quiet sized_text params old new sized_query sized_is kept
-
-pub returns-in_err-rows-clause-same : goal.returns-in_err-rows-clause-same
-returns-in_err-rows-clause-same g c clean v was =
-    refused_keeps sized_text (Text c.args.bucket.now ∷ []) sized_query sized_is g.S.Store c.args.conn.now c.query.follows.lender-at-none v was clean c.query.result (rw (c.params-to_sql.ensures, c.as_str.ensures.text) at c.query.follows.holds-at-none) (search rules)
+pub returns-in_err-rows-clause-read : goal.returns-in_err-rows-clause-read
+returns-in_err-rows-clause-read g c = record {
+  same = λ clean v was.
+      refused_keeps sized_text (Text c.args.bucket.now ∷ []) sized_query sized_is g.S.Store c.args.conn.now c.query.follows.lender-at-none v was clean c.query.result (rw (c.params-to_sql.ensures, c.as_str.ensures.text) at c.query.follows.holds-at-none) (search rules);
+  honest = λ clean.
+      let old = state g.S.Store c.args.conn.now in
+      let new = state g.S.Store c.query.follows.lender-at-none in
+      let held = rw (c.params-to_sql.ensures, c.as_str.ensures.text) at c.query.follows.holds-at-none in
+      let kept : Survives old new (CommitsShowing sized_text (Text c.args.bucket.now ∷ []) old) = search rules in
+      omega (arith, clean, kept.clean);
+  mode = λ alone. search rules;
+  survives =
+      let params : Row = Text c.args.bucket.now ∷ [] in
+      let old = state g.S.Store c.args.conn.now in
+      let new = state g.S.Store c.query.follows.lender-at-none in
+      let held = rw (c.params-to_sql.ensures, c.as_str.ensures.text) at c.query.follows.holds-at-none in
+      let kept : Survives old new (CommitsShowing sized_text params old) = search rules in
+      quiet sized_text params old new sized_query sized_is kept;
+}
 
 -- the rows so far
 
@@ -58,7 +65,8 @@ rows-preserved g c =
     let one = c.in-Some-with_row.ensures in
     let all : (rows : List Row) × HasGiven g.S.Store sized_text params now rows × IsUnchanged (state g.S.Store c.args.conn.now) (state g.S.Store now) × (c.in-Some-with_row.sums.0 ≡ bytes_in rows) × (c.in-Some-with_row.sums.1 ≡ weight_in rows) =
     (it.0 ++ c.in-Some.row.now ∷ [], given, unchanged_then _ _ _ it.2 same, bytes_more it.0 c.in-Some.row.now one.0 _ _ one.1 it.3 one.2, weight_more it.0 c.in-Some.row.now one.0 _ _ one.1 it.4 one.3) in all in
-    (search rules, search rules, search rules, fact)
+    let old = state g.S.Store c.args.conn.now in
+    (search rules, survives_then old _ (state g.S.Store now) _ _ _ (λ _ db q. q) (λ _ db none. absurd none) c.rows.invariant.1 moved.survives, search rules, fact)
 
 -- no further row
 
@@ -78,16 +86,32 @@ returns-in_default-clause-value g c clean v was =
     let are = found_sized v c.args.bucket.now it.0 found in
     (it.3 ∙ bytes_are v kept c.args.bucket.now it.0 are, it.4 ∙ weight_is v kept c.args.bucket.now it.0 are)
 
-pub returns-in_default-clause-same : goal.returns-in_default-clause-same
-returns-in_default-clause-same g c clean v was =
-    let moved = c.next.follows.holds-at-none in
-    let now = c.next.follows.lender-at-none.conn.now in
-    let end = c.conn-in_default-1.given.0 in
-    let same : now ≡ end = search rules in
-    let late : HasCleanDisk (state g.S.Store now) = search rules in
-    let it = c.rows.invariant.3 (omega (arith, moved.survives.clean)) v was in
-    let still = rw c.in_ok-row.was at (moved.same late) in
-    subst (λ (h : Held g.row.S.Denot). Keeps (state g.S.Store h) v) same (unchanged_keeps (state g.S.Store c.args.conn.now) (state g.S.Store now) v (inl (unchanged_then _ _ _ it.2 still)) was)
+pub returns-in_default-clause-read : goal.returns-in_default-clause-read
+returns-in_default-clause-read g c = record {
+  same = λ clean v was.
+      let moved = c.next.follows.holds-at-none in
+      let now = c.next.follows.lender-at-none.conn.now in
+      let end = c.conn-in_default-1.given.0 in
+      let same : now ≡ end = search rules in
+      let late : HasCleanDisk (state g.S.Store now) = search rules in
+      let it = c.rows.invariant.3 (omega (arith, moved.survives.clean)) v was in
+      let still = rw c.in_ok-row.was at (moved.same late) in
+      subst (λ (h : Held g.row.S.Denot). Keeps (state g.S.Store h) v) same (unchanged_keeps (state g.S.Store c.args.conn.now) (state g.S.Store now) v (inl (unchanged_then _ _ _ it.2 still)) was);
+  honest = λ clean.
+      let now = c.next.follows.lender-at-none.conn.now in
+      let end = c.conn-in_default-1.given.0 in
+      let same : now ≡ end = search rules in
+      let late : HasCleanDisk (state g.S.Store now) = search rules in
+      omega (arith, late, c.next.follows.holds-at-none.survives.clean, c.rows.invariant.1.clean);
+  mode = λ alone. search rules;
+  survives =
+      let old = state g.S.Store c.args.conn.now in
+      let moved = c.next.follows.holds-at-none in
+      let now = c.next.follows.lender-at-none.conn.now in
+      let end = c.conn-in_default-1.given.0 in
+      let same : now ≡ end = search rules in
+      subst (λ (h : Held g.row.S.Denot). Survives old (state g.S.Store h) (IsQuiet old)) same (survives_then old _ (state g.S.Store now) _ _ _ (λ _ db q. q) (λ _ db none. absurd none) c.rows.invariant.1 moved.survives);
+}
 
 pub returns-in_default-clause-open : goal.returns-in_default-clause-open
 returns-in_default-clause-open g c clean =
@@ -101,25 +125,32 @@ returns-in_default-clause-open g c clean =
 
 -- the row isn't that of an entry, or the sums go beyond 64 bits
 
-pub returns-in_default-with_row-clause-same : goal.returns-in_default-with_row-clause-same
-returns-in_default-with_row-clause-same g c clean v was =
-    let moved = c.next.follows.holds-at-none in
-    let now = c.next.follows.lender-at-none.conn.now in
-    let end = c.conn-in_default-with_row-1.given.0 in
-    let same : now ≡ end = search rules in
-    let late : HasCleanDisk (state g.S.Store now) = search rules in
-    let it = c.rows.invariant.3 (omega (arith, moved.survives.clean)) v was in
-    let still = rw c.in_ok-row.was at (moved.same late) in
-    subst (λ (h : Held g.row.S.Denot). Keeps (state g.S.Store h) v) same (unchanged_keeps (state g.S.Store c.args.conn.now) (state g.S.Store now) v (inl (unchanged_then _ _ _ it.2 still)) was)
-
-pub returns-in_default-with_row-clause-survives : goal.returns-in_default-with_row-clause-survives
-returns-in_default-with_row-clause-survives g c =
-    let old = state g.S.Store c.args.conn.now in
-    let moved = c.next.follows.holds-at-none in
-    let now = c.next.follows.lender-at-none.conn.now in
-    let end = c.conn-in_default-with_row-1.given.0 in
-    let same : now ≡ end = search rules in
-    subst (λ (h : Held g.row.S.Denot). Survives old (state g.S.Store h) (IsQuiet old)) same (survives_then old _ (state g.S.Store now) _ _ _ (λ _ db q. q) (λ _ db none. absurd none) c.rows.invariant.1 moved.survives)
+pub returns-in_default-with_row-clause-read : goal.returns-in_default-with_row-clause-read
+returns-in_default-with_row-clause-read g c = record {
+  same = λ clean v was.
+      let moved = c.next.follows.holds-at-none in
+      let now = c.next.follows.lender-at-none.conn.now in
+      let end = c.conn-in_default-with_row-1.given.0 in
+      let same : now ≡ end = search rules in
+      let late : HasCleanDisk (state g.S.Store now) = search rules in
+      let it = c.rows.invariant.3 (omega (arith, moved.survives.clean)) v was in
+      let still = rw c.in_ok-row.was at (moved.same late) in
+      subst (λ (h : Held g.row.S.Denot). Keeps (state g.S.Store h) v) same (unchanged_keeps (state g.S.Store c.args.conn.now) (state g.S.Store now) v (inl (unchanged_then _ _ _ it.2 still)) was);
+  honest = λ clean.
+      let now = c.next.follows.lender-at-none.conn.now in
+      let end = c.conn-in_default-with_row-1.given.0 in
+      let same : now ≡ end = search rules in
+      let late : HasCleanDisk (state g.S.Store now) = search rules in
+      omega (arith, late, c.next.follows.holds-at-none.survives.clean, c.rows.invariant.1.clean);
+  mode = λ alone. search rules;
+  survives =
+      let old = state g.S.Store c.args.conn.now in
+      let moved = c.next.follows.holds-at-none in
+      let now = c.next.follows.lender-at-none.conn.now in
+      let end = c.conn-in_default-with_row-1.given.0 in
+      let same : now ≡ end = search rules in
+      subst (λ (h : Held g.row.S.Denot). Survives old (state g.S.Store h) (IsQuiet old)) same (survives_then old _ (state g.S.Store now) _ _ _ (λ _ db q. q) (λ _ db none. absurd none) c.rows.invariant.1 moved.survives);
+}
 
 pub returns-in_default-with_row-clause-memory : goal.returns-in_default-with_row-clause-memory
 returns-in_default-with_row-clause-memory g c well v was =
@@ -133,34 +164,63 @@ returns-in_default-with_row-clause-memory g c well v was =
     let given = (rw (c.in_ok-row.was, c.in-Some.is) at (moved.ok late)) sized_text params it.0 it.1 in
     let still = rw c.in_ok-row.was at (moved.same late) in
     let on = given_found sized_text params sized_query sized_is g.S.Store c.args.conn.now now v was (unchanged_then _ _ _ it.2 still) (it.0 ++ c.in-Some.row.now ∷ []) given in
-    let kept = on.1.1.spells.kept in
-    let are = found_sized v c.args.bucket.now _ on.1 in
-    let one = readable_row v kept c.args.bucket.now it.0 c.in-Some.row.now on.0 are in
-    absurd (c.in_default-with_row.ensures one.0 one.2 one.1 (bytes_fit v kept c.args.bucket.now it.0 c.in-Some.row.now on.0 are _ it.3) (weight_fits v kept c.args.bucket.now it.0 c.in-Some.row.now on.0 are _ it.4))
+    let one = fits v c.args.bucket.now it.0 c.in-Some.row.now on.0 c.rows.bytes c.rows.weight on.1 it.3 it.4 in
+    absurd (c.in_default-with_row.ensures one.0 one.1 one.2 one.3 one.4)
 
 -- no row could be had
 
-pub returns-in_err-row-clause-same : goal.returns-in_err-row-clause-same
-returns-in_err-row-clause-same g c clean v was =
-    let moved = c.next.follows.holds-at-none in
-    let now = c.next.follows.lender-at-none.conn.now in
-    let end = c.conn-in_err-row-1.given.0 in
-    let same : now ≡ end = search rules in
-    let late : HasCleanDisk (state g.S.Store now) = search rules in
-    let it = c.rows.invariant.3 (omega (arith, moved.survives.clean)) v was in
-    let kept = rw c.in_err-row.was at (moved.kept late) in
-    subst (λ (h : Held g.row.S.Denot). Keeps (state g.S.Store h) v) same (unchanged_keeps _ (state g.S.Store now) v (undone _ _ _ kept) (unchanged_keeps (state g.S.Store c.args.conn.now) _ v (inl it.2) was))
+pub returns-in_err-row-clause-read : goal.returns-in_err-row-clause-read
+returns-in_err-row-clause-read g c = record {
+  same = λ clean v was.
+      let moved = c.next.follows.holds-at-none in
+      let now = c.next.follows.lender-at-none.conn.now in
+      let end = c.conn-in_err-row-1.given.0 in
+      let same : now ≡ end = search rules in
+      let late : HasCleanDisk (state g.S.Store now) = search rules in
+      let it = c.rows.invariant.3 (omega (arith, moved.survives.clean)) v was in
+      let kept = rw c.in_err-row.was at (moved.kept late) in
+      subst (λ (h : Held g.row.S.Denot). Keeps (state g.S.Store h) v) same (unchanged_keeps _ (state g.S.Store now) v (undone _ _ _ kept) (unchanged_keeps (state g.S.Store c.args.conn.now) _ v (inl it.2) was));
+  honest = λ clean.
+      let now = c.next.follows.lender-at-none.conn.now in
+      let end = c.conn-in_err-row-1.given.0 in
+      let same : now ≡ end = search rules in
+      let late : HasCleanDisk (state g.S.Store now) = search rules in
+      omega (arith, late, c.next.follows.holds-at-none.survives.clean, c.rows.invariant.1.clean);
+  mode = λ alone. search rules;
+  survives =
+      let old = state g.S.Store c.args.conn.now in
+      let moved = c.next.follows.holds-at-none in
+      let now = c.next.follows.lender-at-none.conn.now in
+      let end = c.conn-in_err-row-1.given.0 in
+      let same : now ≡ end = search rules in
+      subst (λ (h : Held g.row.S.Denot). Survives old (state g.S.Store h) (IsQuiet old)) same (survives_then old _ (state g.S.Store now) _ _ _ (λ _ db q. q) (λ _ db none. absurd none) c.rows.invariant.1 moved.survives);
+}
 
 -- more rows than can be counted
 
-pub returns-clause-same : goal.returns-clause-same
-returns-clause-same g c clean v was =
-    let now = c.rows.rows.conn.now in
-    let end = c.conn-2-1.given.0 in
-    let same : now ≡ end = search rules in
-    let late : HasCleanDisk (state g.S.Store now) = search rules in
-    let it = c.rows.invariant.3 late v was in
-    subst (λ (h : Held g.row.S.Denot). Keeps (state g.S.Store h) v) same (unchanged_keeps (state g.S.Store c.args.conn.now) (state g.S.Store now) v (inl it.2) was)
+pub returns-clause-read : goal.returns-clause-read
+returns-clause-read g c = record {
+  same = λ clean v was.
+      let now = c.rows.rows.conn.now in
+      let end = c.conn-2-1.given.0 in
+      let same : now ≡ end = search rules in
+      let late : HasCleanDisk (state g.S.Store now) = search rules in
+      let it = c.rows.invariant.3 late v was in
+      subst (λ (h : Held g.row.S.Denot). Keeps (state g.S.Store h) v) same (unchanged_keeps (state g.S.Store c.args.conn.now) (state g.S.Store now) v (inl it.2) was);
+  honest = λ clean.
+      let now = c.rows.rows.conn.now in
+      let end = c.conn-2-1.given.0 in
+      let same : now ≡ end = search rules in
+      let late : HasCleanDisk (state g.S.Store now) = search rules in
+      omega (arith, late, c.rows.invariant.1.clean);
+  mode = λ alone. search rules;
+  survives =
+      let old = state g.S.Store c.args.conn.now in
+      let now = c.rows.rows.conn.now in
+      let end = c.conn-2-1.given.0 in
+      let same : now ≡ end = search rules in
+      subst (λ (h : Held g.row.S.Denot). Survives old (state g.S.Store h) (IsQuiet old)) same c.rows.invariant.1;
+}
 
 -- a store that works
 

@@ -3,8 +3,8 @@ use Rattle.vault_store_reads.proofs.rows_in_order.reads.read_bucket_held.Goals a
 
 pub returns-clause-read : goal.returns-clause-read
 returns-clause-read g c = record {
-  same = c.find_bucket_held.ensures.same;
-  honest = λ clean. c.find_bucket_held.ensures.honest clean;
-  mode = λ alone. c.find_bucket_held.ensures.mode alone;
-  crash = λ v was. of_vault _ _ c.find_bucket_held.ensures.survives v was;
+  same = c.find_bucket_held.ensures.read.same;
+  honest = λ clean. c.find_bucket_held.ensures.read.honest clean;
+  mode = λ alone. c.find_bucket_held.ensures.read.mode alone;
+  crash = λ v was. of_vault _ _ c.find_bucket_held.ensures.read.survives v was;
 }
