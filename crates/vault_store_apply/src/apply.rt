@@ -23,11 +23,7 @@ use vault_base::moment::Moment;
 use vault_core_model::change::Change;
 
 /// Makes a change, where the connection is open.
-fn make<S: Alter>(
-    conn: &mut Connection<S>,
-    at: Moment,
-    change: &Change,
-) -> Result<(), Error>
+fn make<S: Alter>(conn: &mut Connection<S>, at: Moment, change: &Change) -> Result<(), Error>
     requires { conn.old.in_transaction ≡ false }
     ensures mode { conn.new.in_transaction ≡ false }
     ensures open { IsOpenIfOk S.Store conn.new result }

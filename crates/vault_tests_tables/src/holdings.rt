@@ -112,7 +112,10 @@ fn judge_steps<S: Alter>(
     assert_eq!(rt; held_within(conn, bucket, steps), Some(SUMS));
     assert_eq!(rt; held_within(conn, bucket, steps.saturating_sub(1)), None);
     batch(conn, REMOVED)?;
-    assert_eq!(rt; held_within(conn, bucket, steps.saturating_add(1_536)), Some(SUMS));
+    assert_eq!(rt;
+        held_within(conn, bucket, steps.saturating_add(1_536)),
+        Some(SUMS)
+    );
     assert_eq!(rt; held_within(conn, bucket, steps), None);
     Ok(())
 }

@@ -53,10 +53,7 @@ struct Load {
 }
 
 /// Reads that.
-fn read_load<S: Alter>(
-    conn: &mut Connection<S>,
-    bucket: &BucketName,
-) -> Result<Load, Error>
+fn read_load<S: Alter>(conn: &mut Connection<S>, bucket: &BucketName) -> Result<Load, Error>
     ensures value { HasCleanDisk (state S.Store conn.new) → IfOk result (λ load. (v : Vault) → Keeps (state S.Store conn.old) v
         → (load.bytes ≡ bucket_bytes v bucket.now) × (load.weight ≡ bucket_weight v bucket.now) × (load.number ≡ v.moves + 1)) }
     ensures open { IsOpenIfOk S.Store conn.new result }
