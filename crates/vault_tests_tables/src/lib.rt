@@ -1,5 +1,5 @@
 //! Tests of vaults in tables: which stores are made and opened as a vault, commands, an intake and requests over tables,
-//! that what is read of one key or summed of one bucket doesn't grow, and copies of vaults of earlier editions.
+//! that what is read of one key doesn't grow, and copies of vaults of earlier editions.
 #![tactic(auto)]
 
 #[cfg(test)]
@@ -12,8 +12,6 @@ mod create;
 mod editions;
 #[cfg(test)]
 mod exchange;
-#[cfg(test)]
-mod holdings;
 #[cfg(test)]
 mod intake;
 #[cfg(test)]
