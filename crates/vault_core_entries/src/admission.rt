@@ -1,11 +1,10 @@
 //! What a put and a line of an intake batch have in common.
-ghost use Rattle.std.specs.Prelude.{◌≡◌, ◌≤◌, ◌+◌, length, [], ◌∷◌, IfOk, OnOk, Some, false};
+ghost use Rattle.std.specs.Prelude.{◌≡◌, ◌≤◌, length, [], ◌∷◌, IfOk, OnOk, Some, false};
 ghost use Rattle.vault_core_model.specs.Leaves.{LeavesSame};
 ghost use Rattle.vault_core_model.specs.Halts.{ChecksAs, is_device};
 ghost use Rattle.vault_core_model.specs.EntryOutcomes as outcome;
-ghost use Rattle.vault_core_model.specs.Totals.{admitted_bytes, received_bytes};
 ghost use Rattle.vault_core_model.specs.Vault.{config_of};
-ghost use Rattle.vault_tally.specs.Row.{quota};
+ghost use Rattle.vault_core_entries.specs.Entries.{Fits};
 
 use std::alloc::{AllocError, Global};
 use vault_base::moment::Moment;
@@ -57,7 +56,7 @@ pub(crate) fn find_lock_to_admit<K: Keeper>(
 ) -> Result<Lock, Halt>
     ensures found { K.is_honest keeper.new → ChecksAs result (outcome.lock_to_admit (K.vault keeper.old) at command.now access.now) }
     ensures small { OnOk result (length command.now.content ≤ 1048576) }
-    ensures fits { K.is_honest keeper.new → OnOk result (admitted_bytes (K.vault keeper.old) access.now.bucket.dept + received_bytes (K.vault keeper.old) access.now.bucket.dept + length command.now.content ≤ quota) }
+    ensures fits { K.is_honest keeper.new → OnOk result (Fits (K.vault keeper.old) access.now.bucket.dept (length command.now.content)) }
     ensures leaves { LeavesSame K.Kept keeper.old keeper.new (is_device result) }
 {
     check_size(&command.content)?;

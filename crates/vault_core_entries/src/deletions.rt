@@ -1,10 +1,11 @@
 //! Delete markers, and entries that are removed for good.
-ghost use Rattle.std.specs.Prelude.{◌≡◌, ◌≤◌, IfOk, OnOk, None};
+ghost use Rattle.std.specs.Prelude.{◌≡◌, ◌≤◌, IfOk, OnOk};
 ghost use Rattle.vault_core_model.specs.Leaves.{Leaves, LeavesSame};
 ghost use Rattle.vault_core_model.specs.Halts.{ChecksAs, AnswersAs, is_device};
 ghost use Rattle.vault_core_model.specs.declared.records.Author.TheVariants as author;
-ghost use Rattle.vault_core_model.specs.Allowed.{IsAdmission, IsHeldId};
+ghost use Rattle.vault_core_model.specs.Allowed.{IsHeldId};
 ghost use Rattle.vault_core_model.specs.EntryOutcomes as outcome;
+ghost use Rattle.vault_core_entries.specs.Entries.{MayMark};
 
 use std::alloc::{AllocError, Global};
 use vault_base::moment::Moment;
@@ -51,7 +52,7 @@ fn find_marker_id<K: Keeper>(
 ) -> Result<VersionId, Halt>
     ensures found { K.is_honest keeper.new → ChecksAs result (outcome.marker_id (K.vault keeper.old) at who.now command.now) }
     ensures in_time { K.is_honest keeper.new → OnOk result ((K.vault keeper.old).last ≤ at) }
-    ensures allowed { K.is_honest keeper.new → IfOk result (λ id. IsAdmission (K.vault keeper.old) at (record { history = outcome.new_marker id command.now.bucket command.now.key at (author.Caller who.now); note = None })) }
+    ensures allowed { K.is_honest keeper.new → IfOk result (MayMark (K.vault keeper.old) at who.now command.now) }
     ensures leaves { LeavesSame K.Kept keeper.old keeper.new (is_device result) }
 {
     drop(find_access(keeper, at, who, &command.bucket, Right::Delete)?);

@@ -1,13 +1,12 @@
 //! A line of an intake batch.
-ghost use Rattle.std.specs.Prelude.{◌≡◌, ◌≤◌, ◌+◌, length, IsTrue, IfOk, IfErr, OnOk, Some, None, false};
+ghost use Rattle.std.specs.Prelude.{◌≡◌, ◌≤◌, length, IsTrue, IfOk, IfErr, OnOk, Some, None, false};
 ghost use Rattle.sha2.specs.Sha256.{sha256};
 ghost use Rattle.vault_core_model.specs.Leaves.{Leaves, LeavesSame};
 ghost use Rattle.vault_core_model.specs.Halts.{ChecksAs, AnswersAs, is_device, is_device_refusal};
 ghost use Rattle.vault_core_model.specs.EntryOutcomes.{new_version};
 ghost use Rattle.vault_core_model.specs.IntakeOutcome as outcome;
-ghost use Rattle.vault_core_model.specs.Totals.{admitted_bytes, received_bytes};
 ghost use Rattle.vault_core_model.specs.Vault.{config_of, note_of};
-ghost use Rattle.vault_tally.specs.Row.{quota};
+ghost use Rattle.vault_core_entries.specs.Entries.{Fits, intake_as_noted};
 
 use crate::admission::{find_access_to_put, find_lock_to_admit, new_version};
 use std::alloc::{AllocError, Global};
@@ -55,7 +54,7 @@ fn take_in_once<K: Keeper>(
 ) -> Result<Answer, Halt>
     requires in_time { K.is_honest keeper.old → (K.vault keeper.old).last ≤ at }
     requires there { K.is_honest keeper.old → config_of (K.vault keeper.old) command.now.put.bucket ≡ Some access.now.bucket }
-    ensures meets { K.is_honest keeper.new → AnswersAs result (K.vault keeper.old) (K.vault keeper.new) (outcome.intake_by (K.vault keeper.old) at who.now command.now access.now (note_of (K.vault keeper.old) command.now.put.bucket command.now.batch command.now.line)) }
+    ensures meets { K.is_honest keeper.new → AnswersAs result (K.vault keeper.old) (K.vault keeper.new) (intake_as_noted (K.vault keeper.old) at who.now command.now access.now) }
     ensures leaves { Leaves K.Kept keeper.old keeper.new (is_device result) }
 {
     let Some(note) = keeper.note(&command.put.bucket, &command.batch, command.line)? else {
@@ -127,7 +126,7 @@ fn find_lock_to_take_in<K: Keeper>(
     ensures found { K.is_honest keeper.new → ChecksAs result (outcome.lock_to_take_in (K.vault keeper.old) at command.now access.now) }
     ensures line { OnOk result (IsTrue (outcome.is_line command.now.line)) }
     ensures small { OnOk result (length command.now.put.content ≤ 1048576) }
-    ensures fits { K.is_honest keeper.new → OnOk result (admitted_bytes (K.vault keeper.old) access.now.bucket.dept + received_bytes (K.vault keeper.old) access.now.bucket.dept + length command.now.put.content ≤ quota) }
+    ensures fits { K.is_honest keeper.new → OnOk result (Fits (K.vault keeper.old) access.now.bucket.dept (length command.now.put.content)) }
     ensures leaves { LeavesSame K.Kept keeper.old keeper.new (is_device result) }
 {
     if command.line == 0 {

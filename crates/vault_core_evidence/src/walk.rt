@@ -3,7 +3,7 @@ ghost use Rattle.std.specs.Prelude.{◌≡◌, IfOk, Some, length};
 ghost use Rattle.vault_core_model.specs.Leaves.{ReadsAs};
 ghost use Rattle.vault_core_model.specs.Reads.{entry_of, settings_of, tenures_of};
 ghost use Rattle.vault_core_evidence.specs.Breaches.{first_breach};
-ghost use Rattle.vault_core_evidence.specs.Walk.{Finds, FindsMoves};
+ghost use Rattle.vault_core_evidence.specs.Walk.{FindsAt, FindsMoves};
 
 use crate::breach::{Breach, Law};
 use crate::history::rule_breach;
@@ -73,7 +73,7 @@ fn breach_of<K: Keeper>(
     id: VersionId,
 ) -> Result<Option<Law>, Fault>
     requires now { K.is_honest keeper.old → now ≡ (K.vault keeper.old).last }
-    ensures value { K.is_honest keeper.new → IfOk result (λ found. Finds (K.vault keeper.old) seen.old (entry_of (K.vault keeper.old) id) (settings_of (K.vault keeper.old) id) (tenures_of (K.vault keeper.old) id) found seen.new) }
+    ensures value { K.is_honest keeper.new → IfOk result (λ found. FindsAt (K.vault keeper.old) seen.old id found seen.new) }
     ensures leaves { ReadsAs K.Kept keeper.old keeper.new result }
 {
     let Some(entry) = keeper.entry(id)? else {

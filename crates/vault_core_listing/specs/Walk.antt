@@ -5,18 +5,24 @@ use Rattle.std.specs.Str.{bytes_eq}
 use Rattle.std.specs.Ordering.{nat_cmp, is_gt}
 use Rattle.std.specs.Cmp.Lexicographic.{slice_cmp}
 use Rattle.vault_core_model.specs.declared.command.ListVersions.{ListVersions}
+use Rattle.vault_core_model.specs.declared.records.Entry.{Entry}
 use Rattle.vault_core_model.specs.declared.reply.Listed.{Listed}
 use Rattle.vault_core_model.specs.declared.reply.Page.{Page}
 use Rattle.vault_core_model.specs.Vault.{Vault}
 use Rattle.vault_core_model.specs.Places.{held_at, is_behind, keys_of}
 use Rattle.vault_core_model.specs.ListingOutcome.{asked_for, is_asked_for, listed}
-use Rattle.vault_core_model.specs.Reads.{ids_before}
+use Rattle.vault_core_model.specs.Reads.{entry_of, ids_before}
 
 -- the page with one entry more while there is room; then it is known that there are more
 abbrev pub grown : ℕ → Page → Listed → Page
 grown most page l =
     if page.more then page
     else (if nat_lt (length page.entries) most then record { entries = page.entries ++ l ∷ []; more = false } else record { entries = page.entries; more = true })
+
+-- the page with the entry of that id, if there is one
+abbrev pub GrowsBy : Vault → ℕ → Bool → ℕ → Page → Page → Type 0
+GrowsBy v id current most page page' =
+    (entry : Entry) → entry_of v id ≡ Some entry → page' ≡ grown most page (record { entry = entry; current = current })
 
 -- with these, one after another
 abbrev pub filled : ℕ → Page → List Listed → Page
@@ -47,6 +53,10 @@ ids_read c page = min (c.most - length page.entries) 1000000000 + 1
 -- the id of the newest held entry of a key
 abbrev pub newest_id : Vault → List ℕ → List ℕ → Option ℕ
 newest_id v bucket key = slice_get (ids_before v bucket key None 1) 0
+
+-- where each entry of a key is asked for, the first that is asked for is the newest
+abbrev pub IsFirstAsked : Vault → ListVersions → List ℕ → ℕ → Type 0
+IsFirstAsked v c key first = older_than c key ≡ None → newest_id v c.bucket key ≡ Some first
 
 -- the entries of a key that are asked for, newest first
 abbrev pub asked_at : Vault → ListVersions → List ℕ → List Listed

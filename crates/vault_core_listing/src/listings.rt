@@ -1,13 +1,12 @@
 //! Listings of a bucket's versions: keys by their bytes, within a key newest first.
-ghost use Rattle.std.specs.Prelude.{◌≡◌, ◌&&◌, IfOk, Err, None, Some, is_some, flat_map, false};
+ghost use Rattle.std.specs.Prelude.{◌≡◌, ◌&&◌, IfOk, Err, is_some, flat_map, false};
 ghost use Rattle.vault_core_model.specs.Leaves.{Leaves, ReadsAs};
 ghost use Rattle.vault_core_model.specs.Halts.{ChecksAs, AnswersAs, is_device};
 ghost use Rattle.vault_core_model.specs.Checks.{check};
-ghost use Rattle.vault_core_model.specs.Reads.{entry_of};
 ghost use Rattle.std.specs.Str.{bytes_eq};
 ghost use Rattle.vault_core_model.specs.Places.{is_behind};
 ghost use Rattle.vault_core_model.specs.ListingOutcome as outcome;
-ghost use Rattle.vault_core_listing.specs.Walk.{EndsOrAdvances, asked_at, asked_first, beginning, completed, filled, grown, has_first, has_prefix, ids_read, is_key_asked, is_past, is_prefix_later, newest_id, older_than, page_of};
+ghost use Rattle.vault_core_listing.specs.Walk.{EndsOrAdvances, GrowsBy, IsFirstAsked, asked_at, asked_first, beginning, completed, filled, has_first, has_prefix, ids_read, is_key_asked, is_past, is_prefix_later, newest_id, older_than, page_of};
 
 use std::alloc::{AllocError, Global};
 use vault_base::moment::Moment;
@@ -214,7 +213,7 @@ fn find_newest<K: Keeper>(
     key: &ObjectKey,
     first: VersionId,
 ) -> Result<Option<VersionId>, Fault>
-    ensures value { K.is_honest keeper.new → (older_than command.now key.now ≡ None → newest_id (K.vault keeper.old) command.now.bucket key.now ≡ Some first) → IfOk result (λ newest. newest ≡ newest_id (K.vault keeper.old) command.now.bucket key.now) }
+    ensures value { K.is_honest keeper.new → IsFirstAsked (K.vault keeper.old) command.now key.now first → IfOk result (λ newest. newest ≡ newest_id (K.vault keeper.old) command.now.bucket key.now) }
     ensures leaves { ReadsAs K.Kept keeper.old keeper.new result }
 {
     if older_than(command, key).is_none() {
@@ -232,7 +231,7 @@ fn list_entry<K: Keeper>(
     id: VersionId,
     current: bool,
 ) -> Result<(), Fault>
-    ensures value { K.is_honest keeper.new → IfOk result (λ _. (entry : Entry) → entry_of (K.vault keeper.old) id ≡ Some entry → page.new ≡ grown command.now.most page.old (record { entry = entry; current = current })) }
+    ensures value { K.is_honest keeper.new → IfOk result (λ _. GrowsBy (K.vault keeper.old) id current command.now.most page.old page.new) }
     ensures leaves { ReadsAs K.Kept keeper.old keeper.new result }
 {
     if page.more {

@@ -12,8 +12,8 @@ use Rattle.vault_core_model.specs.declared.reply.Counts.{Counts}
 use Rattle.vault_core_model.specs.Vault.{Vault, next_id}
 use Rattle.vault_core_model.specs.Allowed.{Allows}
 use Rattle.vault_core_model.specs.Checks.{most_ids}
-use Rattle.vault_core_model.specs.Plan.{change_at, after_steps, counts, with_ids}
-use Rattle.vault_core_run_laws.specs.KeyRuns.{HaveIds, last_key, plan_at}
+use Rattle.vault_core_model.specs.Plan.{change_at, after_steps, counts, plan, with_ids}
+use Rattle.vault_core_run_laws.specs.KeyRuns.{HaveIds, last_key, plan_at, plans_at}
 
 -- the place of the rule that is the cause of a step
 abbrev pub place_of : Step → ℕ
@@ -81,6 +81,14 @@ MakesSteps (Err e) v bucket t ps old new v' = MakesUpTo v bucket t ps e old new 
 -- the same of all steps of a key's plan
 abbrev pub MakesPlanAt : {X : Type 0} → Result X Halt → Vault → List ℕ → ℕ → List ℕ → Counts → Counts → Vault → Type 0
 MakesPlanAt r v bucket t key old new v' = MakesSteps r v bucket t (plan_at v bucket t key) old new v'
+
+-- of the plans of these keys, one after another
+abbrev pub MakesPlansAt : {X : Type 0} → Result X Halt → Vault → List ℕ → ℕ → List (List ℕ) → Counts → Counts → Vault → Type 0
+MakesPlansAt r v bucket t keys old new v' = MakesSteps r v bucket t (plans_at v bucket t keys) old new v'
+
+-- of a bucket's plan
+abbrev pub MakesPlan : {X : Type 0} → Result X Halt → Vault → List ℕ → ℕ → Counts → Counts → Vault → Type 0
+MakesPlan r v bucket t old new v' = MakesSteps r v bucket t (plan v bucket t) old new v'
 
 -- the last of these keys, which has a byte
 pub record IsLastKey (keys : List (List ℕ)) (k : List ℕ) : Type 0 where

@@ -2,9 +2,9 @@
 ghost use Rattle.std.specs.Prelude.{◌≡◌, ◌≤◌, ◌<◌, [], length, IfOk, MatchOption};
 ghost use Rattle.vault_core_model.specs.Leaves.{Leaves};
 ghost use Rattle.vault_core_model.specs.Halts.{is_device};
-ghost use Rattle.vault_core_model.specs.Plan.{plan, rules_in};
-ghost use Rattle.vault_core_run_laws.specs.KeyRuns.{MayRun, plans_at};
-ghost use Rattle.vault_core_runs.specs.Making.{IsLastKey, MakesPlanAt, MakesSteps};
+ghost use Rattle.vault_core_model.specs.Plan.{rules_in};
+ghost use Rattle.vault_core_run_laws.specs.KeyRuns.{MayRun};
+ghost use Rattle.vault_core_runs.specs.Making.{IsLastKey, MakesPlan, MakesPlanAt, MakesPlansAt};
 ghost use Rattle.vault_core_runs.specs.Ranges.{GoesOn};
 ghost use Rattle.vault_rules_laws.specs.BucketLaws.{IsRising};
 
@@ -29,7 +29,7 @@ pub fn run_pages<K: Keeper>(
 ) -> Result<(), Halt>
     requires may { K.is_honest keeper.old → MayRun (K.vault keeper.old) run.now.bucket run.now.at }
     requires given { K.is_honest keeper.old → rules_in (K.vault keeper.old) run.now.bucket ≡ run.now.rules }
-    ensures makes { K.is_honest keeper.new → MakesSteps result (K.vault keeper.old) run.now.bucket run.now.at (plan (K.vault keeper.old) run.now.bucket run.now.at) counts.old counts.new (K.vault keeper.new) }
+    ensures makes { K.is_honest keeper.new → MakesPlan result (K.vault keeper.old) run.now.bucket run.now.at counts.old counts.new (K.vault keeper.new) }
     ensures leaves { Leaves K.Kept keeper.old keeper.new (is_device result) }
 {
     let mut place = before_all(alloc)?;
@@ -160,7 +160,7 @@ fn run_page<K: Keeper>(
     requires may { K.is_honest keeper.old → MayRun (K.vault keeper.old) run.now.bucket run.now.at }
     requires given { K.is_honest keeper.old → rules_in (K.vault keeper.old) run.now.bucket ≡ run.now.rules }
     requires rising { K.is_honest keeper.old → IsRising keys.now }
-    ensures makes { K.is_honest keeper.new → MakesSteps result (K.vault keeper.old) run.now.bucket run.now.at (plans_at (K.vault keeper.old) run.now.bucket run.now.at keys.now) counts.old counts.new (K.vault keeper.new) }
+    ensures makes { K.is_honest keeper.new → MakesPlansAt result (K.vault keeper.old) run.now.bucket run.now.at keys.now counts.old counts.new (K.vault keeper.new) }
     ensures leaves { Leaves K.Kept keeper.old keeper.new (is_device result) }
 {
     for key in keys {

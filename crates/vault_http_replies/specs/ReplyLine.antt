@@ -63,8 +63,12 @@ digest_value (Some digest) = text (encode_lower digest)
 abbrev pub version_members : Version → List ℕ → List ℕ → Data → Data → Data
 version_members v admitted digits retention sha256 = object (member (codes "admitted") (text admitted) (member (codes "hex") (text digits) (member (codes "hold") (text (hold_name v.lock.hold)) (member (codes "retention") retention (member (codes "sha256") sha256 (member (codes "size") (whole v.entry.size) (member (codes "version_id") (whole v.entry.id) no_members)))))))
 
+-- a version by its texts
+abbrev pub version_texts : Version → List ℕ → List ℕ → Data
+version_texts v admitted digits = version_members v admitted digits (retention_value v.lock.retention) (digest_value v.entry.digest)
+
 abbrev pub version_value : Version → List ℕ → Data
-version_value v content = version_members v (moment_text v.entry.admitted) (encode_lower content) (retention_value v.lock.retention) (digest_value v.entry.digest)
+version_value v content = version_texts v (moment_text v.entry.admitted) (encode_lower content)
 
 -- the same without the bytes
 abbrev pub head_members : Version → List ℕ → Data → Data → Data

@@ -1,9 +1,9 @@
 //! Replies to lines.
-ghost use Rattle.std.specs.Prelude.{◌≡◌, IfOk, OnOk, codes, map, option_map, string_bytes};
-ghost use Rattle.serde_json.specs.Data.{put as with_member};
+ghost use Rattle.std.specs.Prelude.{◌≡◌, IfOk, OnOk, map, option_map, string_bytes};
 ghost use Rattle.serde_json.specs.View.{view, members_view};
 ghost use Rattle.vault_base.specs.declared.refusal.Refusal.TheVariants.{AccessDenied, NoSuchKey};
 ghost use Rattle.vault_core_model.specs.declared.reply.Answer.TheVariants as answer;
+ghost use Rattle.vault_http_replies.specs.Putting.{put_lock_and_digest};
 ghost use Rattle.vault_http_replies.specs.ReplyLine as spec;
 
 use crate::object::{Plain, object_of, plain_object, put_plain};
@@ -70,7 +70,7 @@ fn put_lock_and_digest(
     alloc: Global,
     version: &Version,
 ) -> Result<(), AllocError>
-    ensures { OnOk result (members_view members.new.entries ≡ with_member (codes "sha256") (spec.digest_value version.now.entry.digest) (with_member (codes "retention") (spec.retention_value version.now.lock.retention) (members_view members.old.entries))) }
+    ensures { OnOk result (members_view members.new.entries ≡ put_lock_and_digest version.now (members_view members.old.entries)) }
 {
     let retention = retention_value(alloc, version.lock.retention)?;
     put(members, alloc, "retention", retention)?;
@@ -93,7 +93,7 @@ fn version_members<'a>(
     admitted: &'a str,
     digits: &'a str,
 ) -> Result<Value, AllocError>
-    ensures { IfOk result (λ value. view value ≡ spec.version_members version.now admitted.now digits.now (spec.retention_value version.now.lock.retention) (spec.digest_value version.now.entry.digest)) }
+    ensures { IfOk result (λ value. view value ≡ spec.version_texts version.now admitted.now digits.now) }
 {
     let entry = &version.entry;
     let mut members = Map::new(alloc);
