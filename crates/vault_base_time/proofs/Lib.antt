@@ -1,4 +1,5 @@
 pub mod Dates
+pub mod JiffDates
 pub mod DayNumbers
 pub mod MomentGrammar
 pub mod ReadBack

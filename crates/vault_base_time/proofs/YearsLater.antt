@@ -15,7 +15,7 @@ use Rattle.vault_base_time.proofs.Dates.{date_of_is, date_of_only, jiff_date}
 same_parts : (y m d : ℕ) (w : Date) → y ≡ w.year → m ≡ w.month → d ≡ w.day → record { year = y; month = m; day = d } ≡ w
 same_parts y m d w ey em ed = rw (ey, em, ed) refl
 
-same_date : (a b : Date) → (pos a.year ≡ pos b.year) × (a.month ≡ b.month) × (a.day ≡ b.day) → a ≡ b
+pub same_date : (a b : Date) → (pos a.year ≡ pos b.year) × (a.month ≡ b.month) × (a.day ≡ b.day) → a ≡ b
 same_date a b h =
     let year : a.year ≡ b.year = omega (arith, ints, h.0) in
     same_parts a.year a.month a.day b year h.1 h.2

@@ -4,7 +4,7 @@ ghost use Rattle.jiff_core.specs.Date.{epoch_day};
 ghost use Rattle.vault_base_time.specs.Calendar as spec;
 ghost use Rattle.vault_base_time.specs.Days.{as_day, last_day};
 
-use jiff_core::civil;
+use jiff::{ToSpan, civil};
 
 /// The year of the last moment.
 const LAST_YEAR: u32 = 9999;
@@ -17,15 +17,18 @@ pub struct Date {
     pub day: u8,
 }
 
+/// The date of a day.
 fn date_of(day: u32) -> civil::Date
     requires { day ≤ last_day }
     ensures { epoch_day result ≡ pos day }
 {
-    civil::Date::from_unix_epoch_day(i64::from(day)).unwrap()
+    let plain = jiff_core::civil::Date::from_unix_epoch_day(i64::from(day));
+    civil::Date::from_plain(plain.unwrap())
 }
 
 impl Date {
-    ghost use Rattle.std.specs.Prelude.{◌≡◌, ◌≤◌, ◌+◌, nat_le, if◌then◌else◌, Some, None, IfSome};
+    ghost use Rattle.std.specs.Prelude.{◌≡◌, ◌≤◌, ◌+◌, ◌≤ℤ◌, nat_le, if◌then◌else◌, pos, Some, None, IfSome};
+    ghost use Rattle.jiff_core.specs.Date.{IsYmd};
     ghost use Rattle.vault_base_time.specs.Calendar as spec;
     ghost use Rattle.vault_base_time.specs.Days.{last_day};
 
@@ -35,12 +38,29 @@ impl Date {
         ensures value { result ≡ spec.date_of day }
         ensures date { spec.IsDate result }
     {
-        let date = date_of(day);
+        Date::of_civil(date_of(day))
+    }
+
+    /// The same of a date of `jiff`.
+    fn of_civil(date: civil::Date) -> Date
+        requires { pos spec.first_year ≤ℤ date.year }
+        ensures year { pos result.year ≡ date.year }
+        ensures month { result.month ≡ date.month }
+        ensures day { result.day ≡ date.day }
+    {
         Date {
-            year: date.year as u16,
-            month: date.month,
-            day: date.day,
+            year: date.year() as u16,
+            month: date.month() as u8,
+            day: date.day() as u8,
         }
+    }
+
+    /// The date of `jiff` that is the same.
+    fn to_civil(self) -> civil::Date
+        requires { spec.IsDate self }
+        ensures { IsYmd (pos self.year) (pos self.month) (pos self.day) result }
+    {
+        civil::date(self.year as i16, self.month as i8, self.day as i8)
     }
 
     /// Its day, counted from 0 for 1970-01-01.
@@ -49,7 +69,7 @@ impl Date {
         ensures value { result ≡ spec.day_of_date self }
         ensures range { result ≤ last_day }
     {
-        civil::Date::constrain(self.year as i16, self.month, self.day).to_unix_epoch_day() as u32
+        self.to_civil().to_plain().to_unix_epoch_day() as u32
     }
 
     /// The same month and day n years later, 29 February cut to the 28th; none after 9999.
@@ -62,12 +82,8 @@ impl Date {
         if year > LAST_YEAR {
             return None;
         }
-        let later = civil::Date::constrain(year as i16, self.month, self.day);
-        Some(Date {
-            year: year as u16,
-            month: later.month,
-            day: later.day,
-        })
+        let later = self.to_civil().checked_add(i64::from(years).years());
+        Some(Date::of_civil(later.unwrap()))
     }
 }
 

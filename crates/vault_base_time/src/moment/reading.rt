@@ -5,7 +5,7 @@ ghost use Rattle.vault_base_time.specs.Days.{day_length};
 ghost use Rattle.vault_base_time.specs.Moment as spec;
 
 use crate::moment::{DAY, MomentFault};
-use jiff_core::civil::Date;
+use jiff::civil::Date;
 
 fn is_digit(byte: u8) -> bool
     ensures { result ≡ spec.is_digit byte }
@@ -69,7 +69,7 @@ fn day_number(year: u16, month: u8, day: u8) -> Result<i32, MomentFault>
     ensures bound { IfOk result IsEpochDay }
 {
     match Date::new(year as i16, month as i8, day as i8) {
-        Ok(date) => Ok(date.to_unix_epoch_day()),
+        Ok(date) => Ok(date.to_plain().to_unix_epoch_day()),
         Err(_) => Err(MomentFault::Form),
     }
 }

@@ -29,4 +29,4 @@ returns-in-Ok-clause-value c =
     let ed : to_z w8 c.args.day ≡ pos c.args.day = omega (arith, ints) in
     let is = (c.in-Ok.ensures.succeeds).0 refl in
     let is2 = rw (ey, em, ed) at is in
-    rw (to_z-of_z f) (number c.args.year c.args.month c.args.day _ is2 (days c.to_unix_epoch_day.result c.in-Ok.date _ _ _ c.to_unix_epoch_day.ensures.value (rw (ey, em, ed) at c.in-Ok.ensures.value)))
+    rw (to_z-of_z f) (number c.args.year c.args.month c.args.day _ is2 (days c.to_unix_epoch_day.result c.in-Ok.date _ _ _ (rw c.to_plain.ensures at c.to_unix_epoch_day.ensures.value) (rw (ey, em, ed) at c.in-Ok.ensures.value)))
