@@ -47,13 +47,17 @@ class Parts(unittest.TestCase):
 
             return carried_out
 
-        parts = {it: part(it) for it in PARTS}
-        readable = mock.patch("vaultdesk.snapshot.readable", lambda file, _: contextlib.nullcontext(file))
-        with tempfile.TemporaryDirectory() as name, mock.patch.multiple(night.Night, **parts), readable:
+        with contextlib.ExitStack() as stack:
+            for it in PARTS:
+                stack.enter_context(mock.patch.object(night.Night, it, part(it)))
+            as_it_is = mock.patch("vaultdesk.snapshot.readable", lambda file, _: contextlib.nullcontext(file))
+            stack.enter_context(as_it_is)
+            name = stack.enter_context(tempfile.TemporaryDirectory())
             served = mock.Mock(folder=Path(name), file=Path(name) / "records.vault")
             served.name = "records"
             with contextlib.redirect_stderr(io.StringIO()):
-                return night.Night(served, is_sure=True, goes_on=False).work(), done
+                status = night.Night(served, is_sure=True, goes_on=False).work()
+        return status, done
 
     def test_no_copy_is_removed_where_none_was_made(self) -> None:
         self.assertEqual(self.work("nothing"), (0, PARTS))
