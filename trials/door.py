@@ -5,6 +5,7 @@ minutes.
 """
 
 import contextlib
+import hashlib
 import json
 import pathlib
 import shutil
@@ -254,6 +255,31 @@ def buckets(server: Server) -> None:
     equal(said, MALFORMED + b"\n", "the same in a script")
 
 
+def events(server: Server) -> None:
+    """What happened before a moment comes in parts, which are of one past while the vault changes; together they are sealed."""
+    server.lines(b"".join(put(f"k{number % 7}", str(number)) for number in range(1_100)))
+    time.sleep(1.1)
+    removed = line("ann", "delete-version", bucket="docs", key="k0", id=1)
+    equal(b'"ok"' in server.lines(removed)[0], True, "a removal")
+    before = json.loads(server.lines(line("registrar", "status"))[0])["ok"]["last"]
+    parts, after = [], 0
+    while after is not None:
+        found = json.loads(server.lines(line("registrar", "events", before=before, after=after))[0])["ok"]
+        parts.append(found["text"])
+        server.lines(put("more") + line("ann", "delete-version", bucket="docs", key=f"k{(after + 1) % 7}", id=after + 2))
+        after = found["next"]
+    equal(len(parts), 2, "the parts")
+    late = [line("registrar", "events", before="2100-01-01T00:00:00Z"), line("ann", "events", before=before)]
+    refusals = [json.loads(it)["error"]["code"] for it in server.lines(b"".join(late))]
+    equal(refusals, ["InvalidArgument", "AccessDenied"], "a moment to come, and another caller")
+    equal(server.lines(line("registrar", "close")), [b'{"ok":{}}'], "the end")
+    equal(server.serving.wait(LIMIT), 0, "the status")
+    text = "".join(parts)
+    equal(text, printed("events", server.file, "--before", before), "the text")
+    digest = hashlib.sha256(text.encode()).hexdigest()
+    equal(printed("seal", server.file, "--before", before).splitlines()[-1], f"sha256: {digest}", "the seal")
+
+
 def at_a_port(server: Server) -> None:
     """Lines at a port."""
     equal(server.said, f"serving {server.file} at {HOST}:{server.port}, lines at {HOST}:{server.where}\n", "what it says")
@@ -299,6 +325,7 @@ TRIALS: dict[str, Trial] = {
     "closing": (closing, []),
     "status": (status, []),
     "buckets": (buckets, []),
+    "events": (events, []),
     "at-a-port": (at_a_port, []),
     "counted": (counted, ["--count", "3"]),
     "no-places": (no_places, []),
@@ -311,7 +338,7 @@ class Door(Case):
 
     def look_at(self, name: str) -> None:
         trial, words = TRIALS[name]
-        make_office(self.folder / "records.vault", "put", "get", "list", "report")
+        make_office(self.folder / "records.vault", "put", "get", "list", "report", "delete-version")
         server = Server(self.folder, str(free_port()) if name == "at-a-port" else "")
         server.start(*words)
         try:

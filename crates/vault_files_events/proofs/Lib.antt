@@ -1,3 +1,5 @@
 mod Adding
+mod Parts
+mod Staying
 mod Walking
 mod Written

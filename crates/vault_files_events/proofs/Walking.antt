@@ -32,7 +32,7 @@ history_at v i sound = at_place 1 i v.histories sound.ids
 
 -- ---- the events of the first entries, of one more, and of the rest
 
-one_more : (before : Option ℕ) (hs : List History) (i : ℕ) → i < length hs → asked_in before (take (suc i) hs) ≡ asked_in before (take i hs) ++ asked_found before (slice_get hs i)
+pub one_more : (before : Option ℕ) (hs : List History) (i : ℕ) → i < length hs → asked_in before (take (suc i) hs) ≡ asked_in before (take i hs) ++ asked_found before (slice_get hs i)
 one_more before [] i low = absurd (omega (arith, low))
 one_more before (h ∷ hs) zero low = append-nil (events_asked_of before h)
 one_more before (h ∷ hs) (suc i) low =

@@ -3,6 +3,7 @@ pub mod Counts
 pub mod Asked
 pub mod Adds
 pub mod Past
+pub mod Page
 pub mod Taking
 pub mod Takers
 pub mod Faults

@@ -1,11 +1,26 @@
-//! The law of seals.
-ghost use Rattle.std.specs.Prelude.{◌≡◌, ◌≤◌, ℕ, List};
+//! The laws of seals, and of the parts of a text.
+ghost use Rattle.std.specs.Prelude.{◌≡◌, ◌≤◌, ◌++◌, ℕ, List, length, Some, None};
+ghost use Rattle.vault_core_evidence.specs.Events.{events_before};
 ghost use Rattle.vault_core_model.specs.declared.command.Timed.{Timed};
 ghost use Rattle.vault_core_model.specs.declared.reply.Reply.{Reply};
 ghost use Rattle.vault_core_model.specs.Sound.{Sound};
 ghost use Rattle.vault_core_model.specs.Step.{IsRun};
 ghost use Rattle.vault_core_model.specs.Vault.{Vault};
+ghost use Rattle.vault_files_events.specs.EventsText.{asked_in, event_rows, events_header, events_text};
+ghost use Rattle.vault_files_events.specs.Page.{next_of, part, rest_text};
 ghost use Rattle.vault_files_events.specs.Seal.{seal_of};
+
+/// The parts of the text of what was before a moment, each after the id that the one before it names, make that text.
+/// They do so too where the vault changes between any two of them: what is left of the text after an id stays what it
+/// is, where the moment isn't past the vault's last one.
+pub fn parts_make_the_text()
+    ensures whole { (v : Vault) (m : ℕ) → events_text (events_before m v) ≡ events_header ++ rest_text m 0 v }
+    ensures next { (v : Vault) (m after next : ℕ) → next_of (length v.histories) after ≡ Some next →
+        rest_text m after v ≡ event_rows (asked_in (Some m) (part after v)) ++ rest_text m next v }
+    ensures last { (v : Vault) (m after : ℕ) → next_of (length v.histories) after ≡ None → rest_text m after v ≡ event_rows (asked_in (Some m) (part after v)) }
+    ensures stays { (v later : Vault) (commands : List Timed) (replies : List Reply) (m after : ℕ) →
+        Sound v → m ≤ v.last → IsRun v commands replies later → rest_text m after later ≡ rest_text m after v }
+{}
 
 /// Whatever is asked of a vault later, the seal of a moment that isn't past its last one stays what it is.
 pub fn seals_stay()

@@ -5,6 +5,7 @@ mod cells;
 mod counted;
 mod export;
 pub mod laws;
+pub mod page;
 mod past;
 mod record;
 mod rows;

@@ -196,7 +196,7 @@ fn all_rows(
     tenures: &[Tenure],
 ) -> Result<Rows, ExportFault>
     ensures text { IfOk result (λ rows. rows.text.items ≡ event_rows (events.events_asked_of before.now (history_by entry.now settings.now tenures.now))) }
-    ensures counted { IfOk result (λ rows. rows.counted ≡ counts (events.events_asked_of before.now (history_by entry.now settings.now tenures.now))) }
+    ensures count { IfOk result (λ rows. rows.counted ≡ counts (events.events_asked_of before.now (history_by entry.now settings.now tenures.now))) }
 {
     let mut rows = Rows {
         text: Vec::new(alloc),
@@ -216,7 +216,7 @@ pub(crate) fn rows_of(
     tenures: &[Tenure],
 ) -> Result<Rows, AllocError>
     ensures text { IfOk result (λ rows. rows.text.items ≡ event_rows (events.events_asked_of before.now (history_by entry.now settings.now tenures.now))) }
-    ensures counted { IfOk result (λ rows. rows.counted ≡ counts (events.events_asked_of before.now (history_by entry.now settings.now tenures.now))) }
+    ensures count { IfOk result (λ rows. rows.counted ≡ counts (events.events_asked_of before.now (history_by entry.now settings.now tenures.now))) }
 {
     match all_rows(alloc, before, entry, settings, tenures) {
         Ok(rows) => Ok(rows),

@@ -10,7 +10,7 @@ ghost use Rattle.vault_files_events.specs.Taking.{TookSome};
 ghost use Rattle.vault_files_texts.specs.Faults.{is_device_met};
 
 use crate::counted::Counted;
-use crate::past::{Past, read_past};
+use crate::past::{Past, count_entries, read_past};
 use crate::rows::rows_of;
 use crate::taker::Taker;
 use std::alloc::Global;
@@ -20,7 +20,7 @@ use vault_core_model::keeper::Keeper;
 use vault_files_texts::ExportFault;
 
 /// The names of the columns.
-const HEADER: &[u8] =
+pub(crate) const HEADER: &[u8] =
     b"version,event,moment,by,bucket,key,kind,size,sha256,mode,until,hold,bypass,cause,department,move\n";
 
 /// Has the records of one entry taken, and lets go of it.
@@ -93,18 +93,6 @@ fn take_each<K: Keeper, T: Taker>(
         counted = sum;
     }
     Ok(counted)
-}
-
-/// How many entries a vault has.
-fn count_entries<K: Keeper>(keeper: &mut K) -> Result<u32, ExportFault>
-    ensures value { K.is_honest keeper.new → IfOk result (λ n. n ≡ length (K.vault keeper.old).histories) }
-    ensures leaves { LeavesSame K.Kept keeper.old keeper.new (is_device_met result) }
-{
-    let next = keeper.next_id()?;
-    match u32::try_from(next.saturating_sub(1)) {
-        Ok(entries) => Ok(entries),
-        Err(_) => Err(ExportFault::Memory),
-    }
 }
 
 /// Has the text of all events taken: the header, and the record of each, one entry after another.

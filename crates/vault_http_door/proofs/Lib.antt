@@ -1,2 +1,3 @@
 mod BucketsLemmas
+mod PageLemmas
 mod StatusLemmas

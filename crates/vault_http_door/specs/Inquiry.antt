@@ -3,14 +3,15 @@ use Rattle.std.specs.Prelude.{ℕ, ◌&&◌, nat_lt, List, [], ◌∷◌, length
 use Rattle.std.specs.Str.{bytes_eq}
 use Rattle.serde_json.specs.Data.{Data}
 use Rattle.vault_base.specs.declared.refusal.Refusal.{Refusal}
-use Rattle.vault_base.specs.declared.refusal.Refusal.TheVariants.{MalformedBody}
+use Rattle.vault_base.specs.declared.refusal.Refusal.TheVariants.{InvalidArgument, MalformedBody}
+use Rattle.vault_base.specs.Moment.{moment_of}
 use Rattle.vault_http_values.specs.Document.{document_of}
 use Rattle.vault_http_values.specs.Members.{optional_text_of, text_of}
 use Rattle.vault_http_values.specs.Shape.{has_members}
-use Rattle.vault_http_values.specs.Values.{asker_of}
+use Rattle.vault_http_values.specs.Values.{asker_of, optional_number_of}
 use Rattle.vault_http_values.specs.declared.shape.Kind.{Kind}
-use Rattle.vault_http_values.specs.declared.shape.Kind.TheVariants.{OptionalText, Text}
-use Rattle.vault_values.specs.Fault.{◌>>=◌}
+use Rattle.vault_http_values.specs.declared.shape.Kind.TheVariants.{OptionalNumber, OptionalText, Text}
+use Rattle.vault_values.specs.Fault.{◌>>=◌, or_refused}
 use Rattle.vault_http_lines.specs.ReadLine.{without_cr}
 use Rattle.vault_http_lines.specs.Stamped.{clock_of}
 use Rattle.vault_http_door.specs.declared.inquiry.About.{About}
@@ -27,11 +28,16 @@ status_members = (codes "as", Text) ∷ (codes "do", Text) ∷ []
 abbrev pub buckets_members : List (List ℕ × Kind)
 buckets_members = (codes "as", Text) ∷ (codes "do", Text) ∷ (codes "after", OptionalText) ∷ []
 
+-- the members of the line that asks what happened: these, the moment before which it happened, and the id after which the part begins
+abbrev pub events_members : List (List ℕ × Kind)
+events_members = (codes "as", Text) ∷ (codes "do", Text) ∷ (codes "before", Text) ∷ (codes "after", OptionalNumber) ∷ []
+
 -- the shape of the line of that `do`, if the value is an object of just its members
 abbrev pub shape_named : List ℕ → Data → Result Shape Refusal
 shape_named name d =
     if bytes_eq name (codes "status") && has_members status_members d then Ok shape.Status
     else if bytes_eq name (codes "buckets") && has_members buckets_members d then Ok shape.Buckets
+    else if bytes_eq name (codes "events") && has_members events_members d then Ok shape.Events
     else Err MalformedBody
 
 unfoldable pub shape_of : Data → Result Shape Refusal
@@ -50,9 +56,30 @@ buckets_of d = do
   after ← text_after_of d
   Ok (about.Buckets after)
 
+abbrev pub moment_named : List ℕ → Result ℕ Refusal
+moment_named text = or_refused InvalidArgument (moment_of text)
+
+unfoldable pub before_of : Data → Result ℕ Refusal
+before_of d = do
+  text ← text_of (codes "before") d
+  moment_named text
+
+-- the first part is that after 0
+unfoldable pub id_after_of : Data → Result ℕ Refusal
+id_after_of d = do
+  number ← optional_number_of (codes "after") d
+  Ok (unwrap_or number 0)
+
+unfoldable pub events_of : Data → Result About Refusal
+events_of d = do
+  before ← before_of d
+  after ← id_after_of d
+  Ok (about.Events (record { after = after; before = before }))
+
 abbrev pub about_of : Shape → Data → Result About Refusal
 about_of shape.Status d = Ok about.Status
 about_of shape.Buckets d = buckets_of d
+about_of shape.Events d = events_of d
 
 -- the shape, then the clock, the caller who asks, and what else the line says
 unfoldable pub asked_of : Option ℕ → Data → Result Inquiry Refusal

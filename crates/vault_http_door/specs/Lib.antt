@@ -1,3 +1,4 @@
 pub mod BucketsLine
 pub mod Inquiry
+pub mod PageLine
 pub mod StatusLine

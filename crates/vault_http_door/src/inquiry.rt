@@ -16,7 +16,7 @@ use vault_http_lines::read_line::LONGEST_LINE;
 use vault_http_values::document::document;
 use vault_http_values::members::{optional_text_of, text_of};
 use vault_http_values::shape::{Kind, has_members};
-use vault_http_values::values::asker;
+use vault_http_values::values::{asker, optional_number_of};
 use vault_values::fault::LineFault;
 
 /// What a line asks about, by whom, and at which reading.
@@ -34,6 +34,8 @@ pub enum About {
     Status,
     /// The names of buckets after that text.
     Buckets(After),
+    /// What happened to some of its entries.
+    Events(Part),
 }
 
 /// A text after which names come.
@@ -69,11 +71,21 @@ impl After {
     }
 }
 
+/// A part of all that happened.
+#[derive(Clone, Copy, PartialEq, Eq)]
+pub struct Part {
+    /// The id after which it begins.
+    pub after: u32,
+    /// The moment before which it happened.
+    pub before: Moment,
+}
+
 /// The shape of a line that asks about a vault.
 #[derive(Clone, Copy, Debug, PartialEq, Eq)]
 pub enum Shape {
     Status,
     Buckets,
+    Events,
 }
 
 /// The members of the line that asks how things are: the caller who asks, and `do`.
@@ -86,6 +98,14 @@ const BUCKETS: [(&str, Kind); 3] = [
     ("after", Kind::OptionalText),
 ];
 
+/// The members of the line that asks what happened: these, and which part.
+const EVENTS: [(&str, Kind); 4] = [
+    ("as", Kind::Text),
+    ("do", Kind::Text),
+    ("before", Kind::Text),
+    ("after", Kind::OptionalNumber),
+];
+
 /// The shape of the line of that `do`, where the value has it.
 fn shape_named(name: &str, value: &Value) -> Result<Shape, LineFault>
     ensures { Gives (λ x. x) result (spec.shape_named name.now (view value.now)) }
@@ -94,6 +114,8 @@ fn shape_named(name: &str, value: &Value) -> Result<Shape, LineFault>
         Ok(Shape::Status)
     } else if name == "buckets" && has_members(value, &BUCKETS) {
         Ok(Shape::Buckets)
+    } else if name == "events" && has_members(value, &EVENTS) {
+        Ok(Shape::Events)
     } else {
         Err(LineFault::Refused(Refusal::MalformedBody))
     }
@@ -126,6 +148,40 @@ fn buckets(alloc: Global, value: &Value) -> Result<About, LineFault>
     Ok(About::Buckets(after))
 }
 
+fn moment_named(text: &str) -> Result<Moment, LineFault>
+    ensures { Gives (λ x. x) result (spec.moment_named text.now) }
+{
+    match Moment::read(text) {
+        Ok(moment) => Ok(moment),
+        Err(_) => Err(LineFault::Refused(Refusal::InvalidArgument)),
+    }
+}
+
+#[tactic(auto, unfolding(crate::specs::Inquiry::before_of))]
+fn before(value: &Value) -> Result<Moment, LineFault>
+    ensures { Gives (λ x. x) result (spec.before_of (view value.now)) }
+{
+    let text = text_of("before", value)?;
+    moment_named(text)
+}
+
+#[tactic(auto, unfolding(crate::specs::Inquiry::id_after_of))]
+fn id_after(value: &Value) -> Result<u32, LineFault>
+    ensures { Gives (λ x. x) result (spec.id_after_of (view value.now)) }
+{
+    let number = optional_number_of("after", value)?;
+    Ok(number.unwrap_or(0))
+}
+
+#[tactic(auto, unfolding(crate::specs::Inquiry::events_of))]
+fn events(value: &Value) -> Result<About, LineFault>
+    ensures { Gives (λ x. x) result (spec.events_of (view value.now)) }
+{
+    let before = before(value)?;
+    let after = id_after(value)?;
+    Ok(About::Events(Part { after, before }))
+}
+
 /// What a line of that shape asks about.
 fn asked_about(alloc: Global, shape: Shape, value: &Value) -> Result<About, LineFault>
     ensures { Gives (λ x. x) result (spec.about_of shape (view value.now)) }
@@ -133,6 +189,7 @@ fn asked_about(alloc: Global, shape: Shape, value: &Value) -> Result<About, Line
     match shape {
         Shape::Status => Ok(About::Status),
         Shape::Buckets => buckets(alloc, value),
+        Shape::Events => events(value),
     }
 }
 
@@ -180,7 +237,7 @@ fn trimmed(line: &[u8]) -> &[u8]
 ///
 /// A line that is longer than a line may be, or isn't a JSON object of just the members of such a line, is refused with
 /// `MalformedBody`; then ClockOutOfRange comes where the clock shows no moment, and AccessDenied where `as` is no name
-/// of a caller. `Memory` is want of memory.
+/// of a caller, and InvalidArgument where another value isn't allowed. `Memory` is want of memory.
 #[tactic(auto, unfolding(crate::specs::Inquiry::inquiry_of))]
 pub fn read_inquiry(
     alloc: Global,

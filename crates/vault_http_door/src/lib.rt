@@ -4,4 +4,5 @@
 
 pub mod buckets_line;
 pub mod inquiry;
+pub mod page_line;
 pub mod status_line;

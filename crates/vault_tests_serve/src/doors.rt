@@ -302,6 +302,41 @@ fn names_of_buckets(rt: HostRuntime) -> Result<(), Fail> {
     Ok(())
 }
 
+/// What happened before a moment comes in parts; a moment that the vault hasn't reached has none.
+#[test]
+fn what_happened(rt: HostRuntime) -> Result<(), Fail> {
+    let alloc = rt.alloc();
+    let mut keeper = opened(alloc)?;
+    let turns = [
+        Coming::Line(PUT),
+        Coming::Line(r#"{"as":"registrar","do":"events","before":"2024-01-15T10:30:00Z"}"#),
+        Coming::Line(r#"{"as":"registrar","do":"events","before":"2024-01-15T10:30:01Z"}"#),
+        Coming::Line(
+            r#"{"as":"registrar","do":"events","before":"2024-01-15T10:30:00Z","after":1}"#,
+        ),
+        Coming::Line(r#"{"as":"registrar","do":"events","before":"soon"}"#),
+        Coming::Line(r#"{"as":"registrar","do":"events"}"#),
+        Coming::Line(r#"{"as":"ann","do":"events","before":"2024-01-15T10:30:00Z"}"#),
+    ];
+    let served = serve(alloc, &mut keeper, &turns, 0, 7)?;
+    let invalid = "{\"error\":{\"code\":\"InvalidArgument\",\"n\":10}}\n";
+    let wanted = [
+        STORED,
+        "{\"ok\":{\"next\":null,\"text\":\"version,event,moment,by,bucket,key,kind,size,sha256,mode,until,hold,bypass,cause,department,move\\n\"}}\n",
+        invalid,
+        "{\"ok\":{\"next\":null,\"text\":\"\"}}\n",
+        invalid,
+        "{\"error\":{\"code\":\"MalformedBody\",\"n\":12}}\n",
+        "{\"error\":{\"code\":\"AccessDenied\",\"n\":3,\"reason\":\"right:admin\"}}\n",
+    ];
+    let mut all = String::new(alloc);
+    for text in &wanted {
+        all.push_str(text)?;
+    }
+    assert_eq!(rt; served.taken.as_str(), all.as_str());
+    Ok(())
+}
+
 /// Turns in which nothing came don't count. After a last line without LF, the connection isn't kept; a CR alone is no empty
 /// line there.
 #[test]

@@ -1,9 +1,9 @@
 -- What is left of a line that was answered, or wasn't.
 use Rattle.std.proofs.Common.{◌≡◌, ◌∙◌, ℕ, Bool, true, false, List, [], ◌∷◌, Option, None, Some, Result, Ok, Err, OnOk, OnErr, refl, sym, ap, subst, inl}
-use Rattle.std.specs.Prelude.{if◌then◌else◌, IfOk, IsOk}
+use Rattle.std.specs.Prelude.{if◌then◌else◌, nat_lt, IfOk, IsOk}
 use Rattle.std.proofs.KnownBytes.{Appends-nil}
 use Rattle.vault_base.specs.declared.refusal.Refusal.{Refusal}
-use Rattle.vault_base.specs.declared.refusal.Refusal.TheVariants.{Memory}
+use Rattle.vault_base.specs.declared.refusal.Refusal.TheVariants.{InvalidArgument, Memory}
 use Rattle.vault_core_model.specs.Checks.{◌>>=◌, administrator}
 use Rattle.vault_core_model.specs.Leaves.{Standing}
 use Rattle.vault_core_model.specs.Vault.{Vault}
@@ -13,6 +13,8 @@ use Rattle.vault_http.specs.Left.{AtMostOne}
 use Rattle.vault_http.specs.Line.{Line}
 use Rattle.vault_http.specs.Line.TheVariants as line
 use Rattle.vault_http.specs.Stamped.{closer_of}
+use Rattle.vault_files_events.specs.Page.{page_of}
+use Rattle.vault_files_events.specs.declared.page.EventsPage.{EventsPage}
 use Rattle.vault_http_door.specs.Inquiry.{inquiry_of}
 use Rattle.vault_http_door.specs.declared.inquiry.About.TheVariants as about
 use Rattle.vault_http_door.specs.declared.inquiry.Inquiry.{Inquiry}
@@ -77,16 +79,22 @@ closes false line moment bytes asked e what = absurd cc
 
 -- ---- what is answered where the server ends
 
-ended-by : (v : Vault) (failures : ℕ) (since : Option ℕ) (who : Result Caller Refusal) (what : Wanted) → who >>= (λ c. Ok (found_of v failures since what)) ≡ Ok found.End → (what ≡ wanted.End) × IsOk who
+not-events : (early : Bool) (page : EventsPage) → (let r : Result Found Refusal = if early then Err InvalidArgument else Ok (found.Events page) in r) ≡ Ok found.End → ⊥
+not-events true page e = cc
+not-events false page e = cc
+
+ended-by : (v : Vault) (failures : ℕ) (since : Option ℕ) (who : Result Caller Refusal) (what : Wanted) → who >>= (λ c. found_of v failures since what) ≡ Ok found.End → (what ≡ wanted.End) × IsOk who
 ended-by v failures since (Ok c) wanted.End e = (refl, refl)
 ended-by v failures since (Ok c) (wanted.About about.Status) e = absurd cc
 ended-by v failures since (Ok c) (wanted.About (about.Buckets after)) e = absurd cc
+ended-by v failures since (Ok c) (wanted.About (about.Events part)) e = absurd (not-events (nat_lt v.last part.before) (page_of part.before part.after v) e)
 ended-by v failures since (Err r) what e = absurd cc
 
 pub ended : (v : Vault) (failures : ℕ) (since : Option ℕ) (asked : Asked) (stated : Result Found Refusal) → is_end stated ≡ true → StatedAs stated (judged v failures since asked) → (asked.what ≡ wanted.End) × IsOk (administrator v asked.at asked.who)
 ended v failures since asked (Ok found.End) e is = ended-by v failures since (administrator v asked.at asked.who) asked.what is
 ended v failures since asked (Ok (found.Status status)) e is = absurd cc
 ended v failures since asked (Ok (found.Buckets page)) e is = absurd cc
+ended v failures since asked (Ok (found.Events page)) e is = absurd cc
 ended v failures since asked (Err r) e is = absurd cc
 
 -- what was asked for

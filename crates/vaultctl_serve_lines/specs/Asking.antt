@@ -1,7 +1,8 @@
--- What is answered to what only the second door has: the end, how things are, or which buckets there are.
-use Rattle.std.specs.Prelude.{ℕ, ◌≡◌, ◌⊎◌, ◌-◌, nat_lt, length, take, Bool, true, false, IsTrue, List, Option, Result, Ok, Err}
+-- What is answered to what only the second door has: the end, how things are, which buckets there are, or what happened.
+use Rattle.std.specs.Prelude.{ℕ, ◌≡◌, ◌⊎◌, ◌-◌, nat_lt, if◌then◌else◌, length, take, Bool, true, false, IsTrue, List, Option, Result, Ok, Err}
 use Rattle.std.specs.Io.KnownBytes.{Appends}
 use Rattle.vault_base.specs.declared.refusal.Refusal.{Refusal}
+use Rattle.vault_base.specs.declared.refusal.Refusal.TheVariants.{InvalidArgument}
 use Rattle.vault_core_model.specs.Checks.{◌>>=◌, administrator}
 use Rattle.vault_core_model.specs.Halts.{is_device_refusal}
 use Rattle.vault_core_model.specs.Leaves.{Standing, count_after}
@@ -11,10 +12,13 @@ use Rattle.vault_core_model.specs.Vault.{Vault, next_id}
 use Rattle.vault_core_model.specs.declared.reply.Answer.TheVariants.{Nothing as NothingMore}
 use Rattle.vault_core_model.specs.declared.reply.Reply.TheVariants as reply
 use Rattle.vault_http.specs.ReplyLine.{reply_text}
+use Rattle.vault_files_events.specs.Page.{page_of}
 use Rattle.vault_http_door.specs.BucketsLine.{buckets_text}
+use Rattle.vault_http_door.specs.PageLine.{page_line_text}
 use Rattle.vault_http_door.specs.StatusLine.{status_text}
 use Rattle.vault_http_door.specs.declared.buckets_line.BucketsPage.{BucketsPage}
 use Rattle.vault_http_door.specs.declared.inquiry.About.TheVariants as about
+use Rattle.vault_http_door.specs.declared.inquiry.Part.{Part}
 use Rattle.vault_http_door.specs.declared.status_line.Status.{Status}
 use Rattle.vault_io.specs.Begins.{Begins}
 use Rattle.vaultctl_serve_lines.specs.declared.asked.Asked.{Asked}
@@ -38,16 +42,21 @@ first_names names = record { names = take 1000 names; more = nat_lt 1000 (length
 abbrev pub buckets_page : Vault → List ℕ → BucketsPage
 buckets_page v after = record { names = buckets_after v after 1000; more = nat_lt 1000 (length (buckets_after v after 1001)) }
 
-abbrev pub found_of : Vault → ℕ → Option ℕ → Wanted → Found
-found_of v failures since wanted.End = found.End
-found_of v failures since (wanted.About about.Status) = found.Status (status_of v failures since)
-found_of v failures since (wanted.About (about.Buckets after)) = found.Buckets (buckets_page v after)
+-- what happened to the entries of a part, before a moment that the vault has reached
+abbrev pub events_found : Vault → Part → Result Found Refusal
+events_found v part = if nat_lt v.last part.before then Err InvalidArgument else Ok (found.Events (page_of part.before part.after v))
+
+abbrev pub found_of : Vault → ℕ → Option ℕ → Wanted → Result Found Refusal
+found_of v failures since wanted.End = Ok found.End
+found_of v failures since (wanted.About about.Status) = Ok (found.Status (status_of v failures since))
+found_of v failures since (wanted.About (about.Buckets after)) = Ok (found.Buckets (buckets_page v after))
+found_of v failures since (wanted.About (about.Events part)) = events_found v part
 
 -- the clock, and a caller with the right to administer; then what is asked for
 abbrev pub judged : Vault → ℕ → Option ℕ → Asked → Result Found Refusal
 judged v failures since asked = do
   _ ← administrator v asked.at asked.who
-  Ok (found_of v failures since asked.what)
+  found_of v failures since asked.what
 
 -- what is answered is what was judged; or it is that memory was wanting or the device failed, at any time
 abbrev pub StatedAs : Result Found Refusal → Result Found Refusal → Type 0
@@ -64,6 +73,7 @@ abbrev pub is_end : Result Found Refusal → Bool
 is_end (Ok found.End) = true
 is_end (Ok (found.Status status)) = false
 is_end (Ok (found.Buckets page)) = false
+is_end (Ok (found.Events page)) = false
 is_end (Err r) = false
 
 -- the line of what is answered
@@ -71,6 +81,7 @@ abbrev pub stated_text : List ℕ → Result Found Refusal → List ℕ
 stated_text version (Ok found.End) = reply_text (reply.Done NothingMore)
 stated_text version (Ok (found.Status status)) = status_text version status
 stated_text version (Ok (found.Buckets page)) = buckets_text page
+stated_text version (Ok (found.Events page)) = page_line_text page.text page.next
 stated_text version (Err r) = reply_text (reply.Refused r)
 
 -- what of an answer is written where a server goes on, and where it ends

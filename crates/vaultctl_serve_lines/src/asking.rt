@@ -8,6 +8,7 @@ ghost use Rattle.vault_core_model.specs.Leaves.{LeavesSame, standing};
 ghost use Rattle.vault_core_model.specs.declared.reply.Reply.TheVariants.{Refused};
 ghost use Rattle.vault_http.specs.Left.{LeavesNoLess};
 ghost use Rattle.vault_http.specs.ReplyLine.{reply_text};
+ghost use Rattle.vault_http_door.specs.PageLine.{page_line_text};
 ghost use Rattle.vault_io.specs.Begins.{Begins};
 ghost use Rattle.vaultctl_serve_lines.specs.Asking as spec;
 ghost use Rattle.vaultctl_serve_lines.specs.Asking.{buckets_page, Given, stated_text, status_of, Written};
@@ -25,9 +26,11 @@ use vault_core_checks::caller::find_administrator;
 use vault_core_model::halt::{Fault, Halt};
 use vault_core_model::keeper::Keeper;
 use vault_core_model::reply::{Answer, Reply};
+use vault_files_events::page::{EventsPage, events_page};
 use vault_http::reply_line::reply_line;
 use vault_http_door::buckets_line::{BucketNames, BucketsPage, buckets_line};
 use vault_http_door::inquiry::{About, After};
+use vault_http_door::page_line::page_line;
 use vault_http_door::status_line::{Status, status_line};
 use vault_io::writing::write_bytes;
 use vaultctl_replay::ReplayFault;
@@ -41,6 +44,8 @@ pub enum Found {
     Status(Status),
     /// The names of some buckets.
     Buckets(BucketsPage),
+    /// What happened to some entries.
+    Events(EventsPage),
 }
 
 /// How many names of buckets one line has at most.
@@ -91,10 +96,15 @@ fn find_buckets<K: Keeper>(keeper: &mut K, after: &After) -> Result<Found, Halt>
     Ok(Found::Buckets(cut_names(names)))
 }
 
-/// What a caller asks for who may administer, of a server that began at that moment.
+/// What a caller asks for who may administer, of a server.
 ///
-/// ClockBack; AccessDenied `unknown-caller`; AccessDenied `admin`.
-fn find<K: Keeper>(keeper: &mut K, since: Option<Moment>, asked: &Asked) -> Result<Found, Halt>
+/// ClockBack; AccessDenied `unknown-caller`; AccessDenied `admin`; and the refusals of what is asked for.
+fn find<K: Keeper>(
+    alloc: Global,
+    keeper: &mut K,
+    since: Option<Moment>,
+    asked: &Asked,
+) -> Result<Found, Halt>
     ensures found { K.is_honest keeper.new → ChecksAs result (spec.judged (K.vault keeper.old) (K.count keeper.old) since asked.now) }
     ensures leaves { LeavesSame K.Kept keeper.old keeper.new (is_device result) }
 {
@@ -104,13 +114,17 @@ fn find<K: Keeper>(keeper: &mut K, since: Option<Moment>, asked: &Asked) -> Resu
         Wanted::End => Ok(Found::End),
         Wanted::About(About::Status) => find_status(keeper, failures, since),
         Wanted::About(About::Buckets(after)) => find_buckets(keeper, after),
+        Wanted::About(About::Events(part)) => {
+            let page = events_page(alloc, keeper, part.after, part.before)?;
+            Ok(Found::Events(page))
+        }
     }
 }
 
 /// What is answered, where that was found: a fault of the keeper is a refusal.
 fn stated(found: Result<Found, Halt>) -> Result<Found, Refusal>
     ensures answers { (judged : AnyResult AnyFound AnyRefusal) → ChecksAs found judged → spec.StatedAs result judged }
-    ensures device { spec.is_device_stated result ≡ is_device found }
+    ensures failed { spec.is_device_stated result ≡ is_device found }
 {
     match found {
         Ok(found) => Ok(found),
@@ -129,6 +143,16 @@ fn line_of(alloc: Global, reply: Reply) -> Result<String, AllocError>
     line
 }
 
+/// The line of a part of the text of events, which is text throughout. The error is want of memory.
+fn events_line(alloc: Global, page: &EventsPage) -> Result<String, AllocError>
+    ensures { IfOk result (λ line. string_bytes line ≡ page_line_text page.now.text page.now.next) }
+{
+    match str::from_utf8(page.text.as_slice()) {
+        Ok(text) => page_line(alloc, text, page.next),
+        Err(_) => Err(AllocError),
+    }
+}
+
 /// The line of what is answered. The error is want of memory.
 fn stated_line(
     alloc: Global,
@@ -141,6 +165,7 @@ fn stated_line(
         Ok(Found::End) => line_of(alloc, Reply::Done(Answer::Nothing)),
         Ok(Found::Status(status)) => status_line(alloc, version, status),
         Ok(Found::Buckets(page)) => buckets_line(alloc, page),
+        Ok(Found::Events(page)) => events_line(alloc, page),
         Err(refusal) => line_of(alloc, Reply::Refused(*refusal)),
     }
 }
@@ -172,6 +197,7 @@ fn is_end(stated: &Result<Found, Refusal>) -> bool
         Ok(Found::End) => true,
         Ok(Found::Status(_)) => false,
         Ok(Found::Buckets(_)) => false,
+        Ok(Found::Events(_)) => false,
         Err(_) => false,
     }
 }
@@ -189,7 +215,7 @@ pub fn give<W: Write, K: Keeper>(
     ensures end { result ≡ Ok Next.End → K.is_honest keeper.new → (asked.now.what ≡ Wanted.End) × IsOk (administrator (K.vault keeper.new) asked.now.at asked.now.who) }
     ensures leaves { LeavesNoLess K.Kept keeper.old keeper.new }
 {
-    let found = find(keeper, service.since, asked);
+    let found = find(service.alloc, keeper, service.since, asked);
     let answer = stated(found);
     let written = write_stated(service.alloc, writer, service.version, &answer);
     let ends = is_end(&answer);

@@ -9,7 +9,7 @@ returns-clause-text c =
     (all_added (record { text = c.new.result; counted = c.none.result }) c.push_all.new.rows c.args.before.now (history_by c.args.entry.now c.args.settings.now c.args.tenures.now)
     c.new.ensures.items (ap (λ (n : Counted). n.entries) c.none.ensures) (ap (λ (n : Counted). n.events) c.none.ensures) c.in_ok-push_all.ensures).0
 
-pub returns-clause-counted : goal.returns-clause-counted
-returns-clause-counted c =
+pub returns-clause-count : goal.returns-clause-count
+returns-clause-count c =
     (all_added (record { text = c.new.result; counted = c.none.result }) c.push_all.new.rows c.args.before.now (history_by c.args.entry.now c.args.settings.now c.args.tenures.now)
     c.new.ensures.items (ap (λ (n : Counted). n.entries) c.none.ensures) (ap (λ (n : Counted). n.events) c.none.ensures) c.in_ok-push_all.ensures).1

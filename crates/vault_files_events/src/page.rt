@@ -1,0 +1,164 @@
+//! A part of the text of events: the records of some entries, by rising id.
+ghost use Rattle.std.specs.Prelude.{◌≡◌, ◌≤◌, ◌-◌, ◌++◌, IfOk, OnOk, Err, length, take, drop};
+ghost use Rattle.vault_base.specs.declared.refusal.Refusal.{Refusal as AnyRefusal};
+ghost use Rattle.vault_base.specs.declared.refusal.Refusal.TheVariants.{InvalidArgument};
+ghost use Rattle.vault_core_model.specs.Halts.{is_device};
+ghost use Rattle.vault_core_model.specs.Leaves.{LeavesSame, ReadsAs};
+ghost use Rattle.vault_core_model.specs.Vault.{history_of};
+ghost use Rattle.vault_files_events.specs.EventsText.{asked_found, asked_in, event_rows};
+ghost use Rattle.vault_files_events.specs.Page as spec;
+ghost use Rattle.vault_files_events.specs.Past.{asked_past};
+
+use crate::past::{Past, count_entries, read_past};
+use crate::rows::rows_of;
+use crate::walk::HEADER;
+use std::alloc::{AllocError, Global};
+use vault_base::content::Content;
+use vault_base::moment::Moment;
+use vault_base::name::VersionId;
+use vault_base::refusal::Refusal;
+use vault_core_model::halt::{Fault, Halt};
+use vault_core_model::keeper::Keeper;
+
+/// A part of the text of events, and where the next one begins.
+#[derive(Drop)]
+pub struct EventsPage {
+    pub text: Content,
+    /// The id after which the next part begins; none after the last entry.
+    pub next: Option<u32>,
+}
+
+/// The records of how many entries one part has at most.
+pub const MOST_ENTRIES: u32 = 1_000;
+
+/// The header comes with the first part.
+fn header(alloc: Global, after: u32) -> Result<Vec<u8>, AllocError>
+    ensures { IfOk result (λ text. text.items ≡ spec.header_if_first after) }
+{
+    if after == 0 {
+        Vec::from_slice(alloc, HEADER)
+    } else {
+        Ok(Vec::new(alloc))
+    }
+}
+
+/// Adds the records of one entry, and lets go of it.
+fn push_past(
+    alloc: Global,
+    text: &mut Vec<u8>,
+    before: &Option<Moment>,
+    past: Past,
+) -> Result<(), AllocError>
+    ensures { OnOk result (text.new.items ≡ text.old.items ++ event_rows (asked_past before.now past)) }
+{
+    let Past {
+        entry,
+        settings,
+        tenures,
+    } = past;
+    let rows = rows_of(
+        alloc,
+        before,
+        &entry,
+        settings.as_slice(),
+        tenures.as_slice(),
+    )?;
+    text.extend_from_slice(rows.text.as_slice())?;
+    Ok(())
+}
+
+/// Adds the records of the entry of an id.
+fn push_found<K: Keeper>(
+    alloc: Global,
+    keeper: &mut K,
+    text: &mut Vec<u8>,
+    before: &Option<Moment>,
+    id: VersionId,
+) -> Result<(), Fault>
+    ensures ok { K.is_honest keeper.new → OnOk result (text.new.items ≡ text.old.items ++ event_rows (asked_found before.now (history_of (K.vault keeper.old) id))) }
+    ensures leaves { ReadsAs K.Kept keeper.old keeper.new result }
+{
+    let Some(past) = read_past(keeper, id)? else {
+        return Ok(());
+    };
+    push_past(alloc, text, before, past)?;
+    Ok(())
+}
+
+/// Adds the records of `most` entries after an id.
+fn push_range<K: Keeper>(
+    alloc: Global,
+    keeper: &mut K,
+    text: &mut Vec<u8>,
+    before: &Option<Moment>,
+    after: u32,
+    most: u32,
+) -> Result<(), Fault>
+    requires range { K.is_honest keeper.old → most ≤ length (K.vault keeper.old).histories - after }
+    ensures ok { K.is_honest keeper.new → OnOk result (text.new.items ≡ text.old.items ++ event_rows (asked_in before.now (take most (drop after (K.vault keeper.old).histories)))) }
+    ensures leaves { ReadsAs K.Kept keeper.old keeper.new result }
+{
+    for place in 0..most {
+        let Some(number) = after.checked_add(place + 1) else {
+            return Err(Fault::Memory);
+        };
+        let Some(id) = VersionId::new(number) else {
+            return Err(Fault::Memory);
+        };
+        push_found(alloc, keeper, text, before, id)?;
+    }
+    Ok(())
+}
+
+/// How many entries the part after an id has, of a vault that has this many.
+fn most_of(entries: u32, after: u32) -> u32
+    ensures { result ≡ spec.most_of entries after }
+{
+    let left = entries.saturating_sub(after);
+    if left > MOST_ENTRIES {
+        MOST_ENTRIES
+    } else {
+        left
+    }
+}
+
+/// The id after which the next part begins.
+fn next_of(entries: u32, after: u32) -> Option<u32>
+    ensures { result ≡ spec.next_of entries after }
+{
+    let end = after.checked_add(MOST_ENTRIES)?;
+    (end < entries).then_some(end)
+}
+
+/// A part of the text of what happened before a moment: the records of the entries after an id, 1,000 of them at most,
+/// by rising id. The part after 0 is the first, and begins with the header.
+///
+/// The parts of one moment, each after the id that the one before it names, are together the text of which the seal of
+/// that moment is made, also where the vault changes in between: what was before its last moment stays.
+///
+/// `InvalidArgument` comes where the vault hasn't reached the moment, and no other refusal. `Memory` comes where room was
+/// refused, and `Device` where the vault's device failed, and there always. The vault is never changed.
+pub fn events_page<K: Keeper>(
+    alloc: Global,
+    keeper: &mut K,
+    after: u32,
+    before: Moment,
+) -> Result<EventsPage, Halt>
+    ensures page { K.is_honest keeper.new → spec.PagesAs result before after (K.vault keeper.old) }
+    ensures leaves { LeavesSame K.Kept keeper.old keeper.new (is_device result) }
+    // Whatever the device does, nothing else is refused.
+    ensures refused { (r : AnyRefusal) → result ≡ Err (Halt.Refused r) → r ≡ InvalidArgument }
+{
+    let last = keeper.last()?;
+    if last < before {
+        return Err(Halt::Refused(Refusal::InvalidArgument));
+    }
+    let entries = count_entries(keeper)?;
+    let mut text = header(alloc, after)?;
+    let most = most_of(entries, after);
+    push_range(alloc, keeper, &mut text, &Some(before), after, most)?;
+    Ok(EventsPage {
+        text: Content::new(text),
+        next: next_of(entries, after),
+    })
+}
