@@ -3,6 +3,7 @@ use Rattle.std.proofs.Common.{◌≡◌, ℕ, List, [], ◌∷◌, IsTrue, sym, 
 use Rattle.std.proofs.Math.Logic.{∥∥₁_elim, ∥∥₁_map}
 use Rattle.sqlite_trees.specs.declared.store.Store.{Ghosts}
 use Rattle.sqlite_trees.specs.Objects.{catalog_tree}
+use Rattle.sqlite_trees.specs.Tree.{Trees}
 use Rattle.sqlite_catalog.proofs.ReadLemmas.{lists_once}
 use Rattle.sqlite.specs.Effect.{Database}
 use Rattle.sqlite.specs.Held.{state}
@@ -13,9 +14,10 @@ use Rattle.vault_core_model.specs.Vault.{Vault}
 use Rattle.vault_audit_model.specs.Spells.{AreSound}
 use Rattle.vault_audit_model.specs.Tables.{vault_schema}
 use Rattle.vault_store_apply.specs.Left.{IsFoundIn}
-use Rattle.vault_store.specs.Acknowledged.{AreSoundFor, FindsWhatIsLeft, FindsWhatIsKept, FindsTheRun}
+use Rattle.vault_store.specs.Acknowledged.{AreSoundFor, FindsItAlone, FindsWhatIsLeft, FindsWhatIsKept, FindsTheRun}
 use Rattle.vault_store.specs.Left.{IsOneFoundIn}
 use Rattle.vault_store.specs.VaultOf.{vault_of}
+use Rattle.vault_store.proofs.KeptLemmas.{kept_leaves_alone}
 
 module _ (opened : State) (is_open : IsTrue opened.is_open) (live : IsLive opened) (settled : opened.now ≡ opened.committed) where
   -- trees list one schema, so that of the opening is the one of every vault
@@ -37,6 +39,12 @@ finds_what_is_left g h left v refused opened leaves next =
 pub finds_what_is_kept : {S T : Type 0} (g : Ghosts S) (h : Ghosts T) → FindsWhatIsKept g h
 finds_what_is_kept g h k opened clean next =
     ∥∥₁_elim k.kept squash₁ (λ kept. finds_what_is_left g h k.conn (vault_of g k) k.refused.items opened (kept clean).left next)
+
+pub finds_it_alone : {S T : Type 0} (g : Ghosts S) (h : Ghosts T)
+    → ((it : S) (trees : Trees) → IsTrue (g.view it).is_open → g.recovers it trees → trees ≡ (g.view it).committed) → FindsItAlone g h
+finds_it_alone g h settled k opened clean is_open next =
+    let v = vault_of g k in
+    ∥∥₁_elim k.kept squash₁ (λ kept. finds_what_is_left g h k.conn v [] opened (kept_leaves_alone g k.conn (settled k.conn.store) v k.refused.items (kept clean) is_open) next)
 
 pub finds_the_run : {S T : Type 0} (g : Ghosts S) (h : Ghosts T) → FindsTheRun g h
 finds_the_run g h v commands replies k opened clean ran next = ∥∥₁_map (finds_what_is_kept g h k opened clean next) (λ found. (vault_of g k, ran, found))

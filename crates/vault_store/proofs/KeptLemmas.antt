@@ -5,6 +5,7 @@ use Rattle.std.specs.Coded.{Coded-set, coded_bool}
 use Rattle.sqlite_trees.specs.declared.store.Store.{Ghosts}
 use Rattle.sqlite_trees.specs.Tree.{Trees}
 use Rattle.sqlite.specs.declared.error.Error.{Error}
+use Rattle.sqlite.specs.Effect.{Database, IsDatabase}
 use Rattle.sqlite.specs.Held.{Held, state}
 use Rattle.sqlite.specs.State.{State, HasCleanDisk, Survives}
 use Rattle.vault_core_model.specs.Change.{changed}
@@ -13,7 +14,10 @@ use Rattle.vault_core_model.specs.declared.halt.Fault.{Fault}
 use Rattle.vault_core_model.specs.Halts.{is_device_fault}
 use Rattle.vault_core_model.specs.Vault.{Vault}
 use Rattle.vault_audit.specs.Health.{IsMemory}
-use Rattle.vault_store_model.specs.Keeping.{Keeps}
+use Rattle.vault_audit_model.specs.Spells.{AreSound}
+use Rattle.vault_audit_model.specs.Tables.{vault_schema}
+use Rattle.vault_store_apply.specs.Left.{LeavesAlone}
+use Rattle.vault_store_model.specs.Keeping.{AreTreesOf, Keeps}
 use Rattle.vault_store_reads.specs.Quiet.{OnlyReads}
 use Rattle.vault_store.specs.Blame.{fault_of}
 use Rattle.vault_store.specs.Kept.{after}
@@ -65,3 +69,20 @@ pub no_failure : {S : Type 0} (g : Ghosts S) (old : Held S) (v : Vault) (refused
     → ((w : Vault) → Keeps (state g old) w → IsMemory e) → f ≡ fault_of e → is_device_fault f ≡ false
 no_failure g old v refused e f kept clean memory is =
     ∥∥₁_elim kept (Coded-set coded_bool _ _) (λ kept. ap is_device_fault (is ∙ ap fault_of (memory v (kept clean).keeps)))
+
+-- whatever is found in these trees, they list the schema of every vault, and no other
+listed_in : (v : Vault) (refused : List (ℕ × Change)) (trees : Trees) → IsOneFoundIn v refused trees → IsDatabase (record { schema = vault_schema; trees = trees })
+listed_in v [] trees found = found.listed
+listed_in v (c ∷ cs) trees (inl it) = it.found.listed
+listed_in v (c ∷ cs) trees (inr more) = listed_in v cs trees more
+
+-- while the connection is open, a crash leaves the vault that is kept and nothing else: what was refused isn't there
+pub kept_leaves_alone : {S : Type 0} (g : Ghosts S) (h : Held S)
+    → ((trees : Trees) → IsTrue (g.view h.store).is_open → g.recovers h.store trees → trees ≡ (g.view h.store).committed)
+    → (v : Vault) (refused : List (ℕ × Change)) → IsKept (state g h) v refused → IsTrue (state g h).is_open → LeavesAlone (state g h) v
+kept_leaves_alone g h settled v refused kept is_open trees may =
+    let db = (state g h).now in
+    let keeps = kept.keeps is_open in
+    let same : trees ≡ db.trees = settled trees is_open may ∙ ap (λ (d : Database). d.trees) keeps.1 in
+    let sound : AreTreesOf v db.trees = subst (λ s. AreSound (record { schema = s; trees = db.trees }) v) keeps.0.spells.schema keeps.0 in
+    record { spelled = subst (AreTreesOf v) (sym same) sound; listed = listed_in v refused trees (kept.left trees may) }

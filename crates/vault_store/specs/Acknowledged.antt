@@ -45,6 +45,11 @@ abbrev pub FindsWhatIsKept : {S T : Type 0} → Ghosts S → Ghosts T → Type 0
 FindsWhatIsKept {S} {T} g h =
     (k : SqlKeeper S g) (opened : Held T) → HasCleanDisk (state g k.conn) → IsNextOpening (state g k.conn) (state h opened) → ∥ AreSoundFor (state h opened).now (vault_of g k) k.refused.items ∥₁
 
+-- While its connection is open, it finds that vault alone.
+abbrev pub FindsItAlone : {S T : Type 0} → Ghosts S → Ghosts T → Type 0
+FindsItAlone {S} {T} g h =
+    (k : SqlKeeper S g) (opened : Held T) → HasCleanDisk (state g k.conn) → IsTrue (state g k.conn).is_open → IsNextOpening (state g k.conn) (state h opened) → ∥ AreSound (state h opened).now (vault_of g k) ∥₁
+
 -- Where commands were carried out over a keeper, that is the machine's vault after them, or that with one change more.
 abbrev pub FindsTheRun : {S T : Type 0} → Ghosts S → Ghosts T → Type 0
 FindsTheRun {S} {T} g h =

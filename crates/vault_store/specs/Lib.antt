@@ -7,4 +7,5 @@ pub mod Migrated
 pub mod Tables
 pub mod Opening
 pub mod Blame
+pub mod CarriedOut
 pub use Rattle.vault_store_create.specs.Create

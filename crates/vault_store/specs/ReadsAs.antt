@@ -14,7 +14,8 @@ use Rattle.vault_store.specs.VaultOf.{vault_of}
 abbrev pub stands : {S : Type 0} (g : Ghosts S) → SqlKeeper S g → Standing
 stands g k = record { is_honest = HasCleanDisk (state g k.conn); vault = vault_of g k; count = k.blamed.faults }
 
--- it leaves what a read leaves of any keeper, and reports no failure of a store that works
+-- it leaves what a read leaves of any keeper, reports no failure of a store that works, and notes no change as refused, nor forgets one that was
 pub record ReadsAs {S X : Type 0} (g : Ghosts S) (old new : SqlKeeper S g) (result : Result X Fault) : Type 0 where
   pub leaves : IsLeftSame (stands g old) (stands g new) (is_device_given result)
   pub healthy : IsHealthy (state g new.conn) → is_device_given result ≡ false
+  pub refused : new.refused.items ≡ old.refused.items

@@ -1,18 +1,16 @@
 //! Commands carried out over a vault in tables, from tables to tables.
 
-ghost use Rattle.std.specs.Prelude.{◌≡◌, ◌≢◌, ◌⊎◌, ℕ, List, false, IfOk, IfErr};
+ghost use Rattle.std.specs.Prelude.{◌≡◌, ◌≢◌, ◌⊎◌, false, IfOk, IfErr};
 ghost use Rattle.sqlite.specs.Held.{state};
 ghost use Rattle.sqlite.specs.State.{HasCleanDisk, Survives};
 ghost use Rattle.vault_base.specs.declared.refusal.Table.{Table};
-ghost use Rattle.vault_core_model.specs.declared.change.Change.{Change};
-ghost use Rattle.vault_core_model.specs.Step.{IsRun};
 ghost use Rattle.vault_core_model.specs.Vault.{Vault};
 ghost use Rattle.vault_audit.specs.Health.{IsHealthy};
 ghost use Rattle.vault_audit.specs.Whole.{IsReported};
 ghost use Rattle.vault_audit_model.specs.Spells.{AreSound};
 ghost use Rattle.vault_store_apply.specs.Left.{LeavesAlone};
+ghost use Rattle.vault_store.specs.CarriedOut.{AreCarriedOut};
 ghost use Rattle.vault_store.specs.Kept.{StandsFor};
-ghost use Rattle.vault_store.specs.Left.{LeavesOneOf};
 
 use crate::sql_keeper::SqlKeeper;
 use sqlite::{Alter, Connection};
@@ -32,9 +30,10 @@ pub fn run_in_tables<S: Alter>(
     conn: Connection<S>,
     commands: &[Timed],
 ) -> Result<(Vec<Reply>, Connection<S>), (Refusal, Connection<S>)>
-    // The replies are those of the machine from the vault that the tables spelled, and while the connection is open they spell the vault that it comes to. A crash leaves that, or it with one change more, which was refused.
+    // The replies are those of the machine from the vault that the tables spelled. While the connection is open the tables spell the vault that it comes to, and a crash leaves that alone; where a
+    // failure has shut it, a crash leaves that, or it with one change more, which was refused after all that it has.
     ensures run { IfOk result (λ done. HasCleanDisk (state S.Store done.1) → (v : Vault) → AreSound (state S.Store conn).now v →
-        ∥ ((w : Vault) × IsRun v commands.now done.0.items w × StandsFor (state S.Store done.1) w × (refused : List (ℕ × Change)) × LeavesOneOf (state S.Store done.1) w refused) ∥₁) }
+        ∥ AreCarriedOut S.Store done.1 v commands.now done.0.items ∥₁) }
     // Commands are carried out over sound tables alone.
     ensures sound { IfOk result (λ done. HasCleanDisk (state S.Store done.1) → (v : Vault) × AreSound (state S.Store conn).now v) }
     ensures reported { IfErr result (λ e. IsReported e.0) }

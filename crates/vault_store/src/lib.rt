@@ -10,7 +10,7 @@ pub mod opening;
 mod shut;
 pub mod sql_keeper;
 
-ghost use Rattle.vault_store.specs.Acknowledged.{FindsWhatIsLeft, FindsWhatIsKept, FindsTheRun};
+ghost use Rattle.vault_store.specs.Acknowledged.{FindsItAlone, FindsWhatIsLeft, FindsWhatIsKept, FindsTheRun};
 
 use sqlite::Alter;
 pub use vault_store_create::create;
@@ -23,5 +23,7 @@ pub fn openings_find_what_was_acknowledged<S: Alter, T: Alter>()
     // Of a connection of which a crash leaves a vault, or it with one of some changes: what is handed on.
     ensures left { FindsWhatIsLeft S.Store T.Store }
     ensures kept { FindsWhatIsKept S.Store T.Store }
+    // While the connection of the keeper is open, its vault and nothing else.
+    ensures alone { FindsItAlone S.Store T.Store }
     ensures run { FindsTheRun S.Store T.Store }
 {}

@@ -85,6 +85,7 @@ impl<S: Alter> SqlKeeper<S> {
         requires alone { HasCleanDisk (state S.Store conn) → (v : Vault) → AreSound (state S.Store conn).now v → LeavesAlone (state S.Store conn) v }
         ensures same { result.conn ≡ conn }
         ensures counted { result.blamed.faults ≡ 0 }
+        ensures fresh { result.refused.items ≡ [] }
         ensures keeps { HasCleanDisk (state S.Store conn) → AreSound (state S.Store conn).now (vault_of S.Store result) }
     {
         let opening = remember(&conn);
@@ -107,6 +108,8 @@ impl<S: Alter> SqlKeeper<S> {
         ensures stands { ∥ (HasCleanDisk (state S.Store result) → StandsFor (state S.Store result) (vault_of S.Store self)) ∥₁ }
         // A crash leaves that vault, or that with one change more, which was refused after all that it has.
         ensures crash { ∥ (HasCleanDisk (state S.Store result) → LeavesOneOf (state S.Store result) (vault_of S.Store self) self.refused.items) ∥₁ }
+        // While the connection is open, a crash leaves that vault and nothing else.
+        ensures alone { ∥ (HasCleanDisk (state S.Store result) → IsTrue (state S.Store result).is_open → LeavesAlone (state S.Store result) (vault_of S.Store self)) ∥₁ }
     {
         let SqlKeeper {
             conn,
@@ -135,6 +138,8 @@ impl<S: Alter> SqlKeeper<S> {
         // A crash leaves that vault after that, and nothing else.
         ensures alone { IfOk result (λ k. HasCleanDisk (state S.Store k.conn) → LeavesAlone (state S.Store k.conn) (vault_of S.Store k)) }
         ensures counted { IfOk result (λ k. k.blamed.faults ≡ 0) }
+        // No change was refused yet.
+        ensures fresh { IfOk result (λ k. k.refused.items ≡ []) }
         ensures reported { IfErr result (λ e. IsReported e.0) }
         // A store that works, outside a transaction, is never reported as one that failed.
         ensures healthy { conn.in_transaction ≡ false → IfErr result (λ e. IsHealthy (state S.Store e.1) → e.0 ≢ Refusal.Device) }
@@ -169,6 +174,8 @@ impl<S: Alter> SqlKeeper<S> {
         // A crash leaves a new vault after that, and nothing else.
         ensures alone { IfOk result (λ k. HasCleanDisk (state S.Store k.conn) → LeavesAlone (state S.Store k.conn) opening) }
         ensures counted { IfOk result (λ k. k.blamed.faults ≡ 0) }
+        // No change was refused yet.
+        ensures fresh { IfOk result (λ k. k.refused.items ≡ []) }
         ensures taken { (state S.Store conn).now.schema ≢ no_schema → IfErr result (λ e. e.0 ≡ Refusal.NameTaken) }
         ensures free { IfErr result (λ e. e.0 ≡ Refusal.NameTaken → (state S.Store conn).now.schema ≢ no_schema) }
         ensures faults { IfErr result (λ e. e.0 ≢ Refusal.NameTaken → IsFault e.0) }
@@ -227,6 +234,7 @@ impl<S: Alter> SqlKeeper<S> {
     fn check_open(&mut self) -> Result<(), Fault>
         ensures open { HasCleanDisk (state S.Store self.new.conn) → OnOk result (IsTrue (state S.Store self.new.conn).is_open) }
         ensures same { vault_of S.Store self.new ≡ vault_of S.Store self.old }
+        ensures refused { self.new.refused.items ≡ self.old.refused.items }
         ensures honest { HasCleanDisk (state S.Store self.new.conn) → HasCleanDisk (state S.Store self.old.conn) }
         ensures counted { self.new.blamed.faults ≡ count_after self.old.blamed.faults (is_device_given result) }
         ensures healthy { IsHealthy (state S.Store self.new.conn) → is_device_given result ≡ false }

@@ -323,6 +323,7 @@ fn create_in<S: Alter>(
     ensures alone { IfOk result (λ k. HasCleanDisk (state S.Store k.conn) → LeavesAlone (state S.Store k.conn) opening) }
     ensures free { IfErr result (λ e. e.0 ≡ Refusal.NameTaken → (state S.Store conn).now.schema ≢ no_schema) }
     ensures faults { IfErr result (λ e. IsUnmade e.0) }
+    ensures healthy { conn.in_transaction ≡ false → IfErr result (λ e. IsHealthy (state S.Store e.1) → e.0 ≢ Refusal.Device) }
     ensures harmless { IfErr result (λ e. Survives (state S.Store conn) (state S.Store e.1) (trees.IsFoundIn opening)) }
     ensures tables { conn.in_transaction ≡ false → IfErr result (λ e. HasCleanDisk (state S.Store e.1) → HasTablesOf (state S.Store conn) (state S.Store e.1)) }
 {
@@ -485,7 +486,7 @@ impl<'a, A: Start, B: Start> Machine<'a, VaultStore<A>, VaultStore<B>> {
         ensures alone { IfOk result (λ vault. HasCleanDisk (file_state vault.conn) → LeavesAlone (file_state vault.conn) opening) }
         // A failure of the disk that is seen is reported as one.
         ensures reported { IfErr result (Reports IsUnmade) }
-        // A store that was opened and is reported as taken has something in it.
+        // A store that was opened and works isn't reported as a failed device; one that is reported as taken has something in it.
         ensures refused { IfErr result (λ e. LetsGo self.old.refused.items self.new.refused.items (λ conn. IsUnmadeOver (file_state conn) (refusal_of e))) }
     {
         self.looked = self.looked.saturating_add(1);

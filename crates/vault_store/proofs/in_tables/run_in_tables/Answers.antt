@@ -25,8 +25,16 @@ returns-in-Ok-run-clause-run g c clean v is =
     let same = same_vault _ _ v there.spells here.spells in
     let w = vault_of g.S.Store last in
     ∥∥₁_elim c.into_connection.ensures.stands squash₁ (λ stands.
+    ∥∥₁_elim c.into_connection.ensures.alone squash₁ (λ alone.
     ∥∥₁_map c.into_connection.ensures.crash (λ crash.
-    (w, subst (λ u. IsRun u c.args.commands.now c.in-Ok-run.replies.items w) same (c.in-Ok-run.ensures.run after), stands clean, last.refused.items, crash clean)))
+    record {
+      keeper = last;
+      same = c.into_connection.ensures.same;
+      run = subst (λ u. IsRun u c.args.commands.now c.in-Ok-run.replies.items w) same (c.in-Ok-run.ensures.run after);
+      stands = stands clean;
+      alone = alone clean;
+      crash = crash clean;
+    })))
 
 -- what was sound before an opening that changed nothing
 sound-before : (a b : Database) (v : Vault) → a ≡ b → AreSound a v → AreSound b v

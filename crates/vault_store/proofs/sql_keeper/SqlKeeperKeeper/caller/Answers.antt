@@ -29,10 +29,11 @@ returns-in_err-check_open-clause-read g c = record {
   healthy = λ well.
       let none : is_device_fault c.in_err-check_open.field-0.0 ≡ false = c.in_err-check_open.ensures.healthy well in
       search rules;
+  refused = c.in_err-check_open.ensures.refused;
 }
 
 pub returns-in-Ok-clause-read : goal.returns-in-Ok-clause-read
-returns-in-Ok-clause-read g c = record { leaves = search rules; healthy = λ well. refl }
+returns-in-Ok-clause-read g c = record { leaves = search rules; healthy = λ well. refl; refused = c.in_ok-check_open.ensures.refused }
 
 pub returns-in-Err-clause-read : goal.returns-in-Err-clause-read
-returns-in-Err-clause-read g c = record { leaves = search rules; healthy = λ well. no_failure g.S.Store c.check_open.new.self.conn _ _ _ _ c.check_open.new.self.kept (c.read_caller.ensures.read.honest well.clean) (λ w keeps. c.in-Err.ensures.memory well w keeps) c.blame.ensures.reported }
+returns-in-Err-clause-read g c = record { leaves = search rules; healthy = λ well. no_failure g.S.Store c.check_open.new.self.conn _ _ _ _ c.check_open.new.self.kept (c.read_caller.ensures.read.honest well.clean) (λ w keeps. c.in-Err.ensures.memory well w keeps) c.blame.ensures.reported; refused = c.in_ok-check_open.ensures.refused }
