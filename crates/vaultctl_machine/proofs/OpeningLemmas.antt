@@ -49,7 +49,7 @@ module _ (opened : State) (is_open : IsTrue opened.is_open) (live : IsLive opene
   read_all v (c ∷ cs) (inr more) = inr (read_all v cs more)
 
 -- while the connection of a vault is open, a crash leaves that alone
-abbrev IsLeftAlone : {D : Type 0} {g : Ghosts D} → SqlKeeper (FileStore D g) over_files → Type 0
+abbrev pub IsLeftAlone : {D : Type 0} {g : Ghosts D} → SqlKeeper (FileStore D g) over_files → Type 0
 IsLeftAlone k = ∥ (HasCleanDisk (file_state k.conn) → IsTrue (file_state k.conn).is_open → LeavesAlone (file_state k.conn) (vault_of over_files k)) ∥₁
 
 module _ {D : Type 0} {g : Ghosts D} (k : SqlKeeper (FileStore D g) over_files) (alone : IsLeftAlone k) (clean : HasCleanDisk (file_state k.conn)) (numbered : IsTrue (store.view k.conn.store).is_numbered) where
