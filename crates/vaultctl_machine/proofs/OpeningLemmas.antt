@@ -20,7 +20,7 @@ use Rattle.vault_core_model.specs.declared.change.Change.{Change}
 use Rattle.vault_core_model.specs.Vault.{Vault}
 use Rattle.vault_audit_model.specs.Spells.{AreSound}
 use Rattle.vault_audit_model.specs.Tables.{vault_schema}
-use Rattle.vault_store_apply.specs.Left.{IsFoundIn}
+use Rattle.vault_store_apply.specs.Left.{IsFoundIn, LeavesAlone}
 use Rattle.vault_store.specs.Acknowledged.{AreSoundFor}
 use Rattle.vault_store.specs.Left.{IsOneFoundIn}
 use Rattle.vault_store.specs.VaultOf.{vault_of}
@@ -48,7 +48,11 @@ module _ (opened : State) (is_open : IsTrue opened.is_open) (live : IsLive opene
   read_all v (c ∷ cs) (inl it) = inl record { in_time = it.in_time; allowed = it.allowed; sound = read_again (changed v c.0 c.1) it.found }
   read_all v (c ∷ cs) (inr more) = inr (read_all v cs more)
 
-module _ {D : Type 0} {g : Ghosts D} (k : SqlKeeper (FileStore D g) over_files) (clean : HasCleanDisk (file_state k.conn)) (numbered : IsTrue (store.view k.conn.store).is_numbered) where
+-- while the connection of a vault is open, a crash leaves that alone
+abbrev pub IsLeftAlone : {D : Type 0} {g : Ghosts D} → SqlKeeper (FileStore D g) over_files → Type 0
+IsLeftAlone k = ∥ (HasCleanDisk (file_state k.conn) → IsTrue (file_state k.conn).is_open → LeavesAlone (file_state k.conn) (vault_of over_files k)) ∥₁
+
+module _ {D : Type 0} {g : Ghosts D} (k : SqlKeeper (FileStore D g) over_files) (alone : IsLeftAlone k) (clean : HasCleanDisk (file_state k.conn)) (numbered : IsTrue (store.view k.conn.store).is_numbered) where
   -- what is found in the files that a crash leaves at this moment is what the connection might leave
   found_again : (left : Image) → MayLeaveFiles k left → (opened : State) → IsOpenedFrom left opened → IsFoundAgain k opened
   found_again left may opened is =
@@ -57,13 +61,14 @@ module _ {D : Type 0} {g : Ghosts D} (k : SqlKeeper (FileStore D g) over_files) 
       record {
         next = record { is_open = is.is_open; settled = is.settled; live = is.live; found = found };
         sound = ∥∥₁_elim k.kept squash₁ (λ kept. ∥∥₁_map found (λ it. read_all opened is.is_open is.live is.settled (vault_of over_files k) k.refused.items ((kept clean).left opened.committed.trees it)));
+        alone = λ was_open. ∥∥₁_elim alone squash₁ (λ alone. ∥∥₁_map found (λ it. read_again opened is.is_open is.live is.settled (vault_of over_files k) (alone clean was_open opened.committed.trees it)));
       }
 
 -- by what the store that was let go of says
-pub finds_what_was_left : {D E : Type 0} {g : Ghosts D} (h : Ghosts E) (k : SqlKeeper (FileStore D g) over_files) (it : FileStore D g) → IsRolledBack (store.view k.conn.store) (store.view it)
+pub finds_what_was_left : {D E : Type 0} {g : Ghosts D} (h : Ghosts E) (k : SqlKeeper (FileStore D g) over_files) (it : FileStore D g) → IsLeftAlone k → IsRolledBack (store.view k.conn.store) (store.view it)
     → IsQuiet store.view store.faults store.recovers store.is_shielded k.conn.store it → (IsClean (store.view it) → IsTrue (store.view it).is_numbered) → FindsWhatWasLeft k h it
-finds_what_was_left h k it undone quiet numbered clean left may opened is =
-    found_again k (omega (arith, quiet.clean, clean)) (subst IsTrue undone.numbered (numbered clean)) left may (file_state opened) is
+finds_what_was_left h k it alone undone quiet numbered clean left may opened is =
+    found_again k alone (omega (arith, quiet.clean, clean)) (subst IsTrue undone.numbered (numbered clean)) left may (file_state opened) is
 
 -- a connection that was only read is as it was opened
 pub opened_still : (image : Image) (old new : State) → Opens old → IsLive old → FindsIn image old → IsUnchanged old new → IsOpenedFrom image new

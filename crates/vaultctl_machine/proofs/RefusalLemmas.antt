@@ -92,10 +92,11 @@ undamaged r unmade t is =
 pub uncopied_unmade : (image : Image) (s : State) (r : Refusal) → IsUnmade r → IsUncopiedFrom image s r
 uncopied_unmade image s r unmade = record { damaged = λ clean t is v whole. undamaged r unmade t is }
 
--- a store that is refused as taken has something in it still
-pub unmade_over : (old new : State) (r : Refusal) (Commits : Trees → Type 0) → (HasCleanDisk old → Opens old × IsLive old) → Survives old new Commits → (r ≡ NameTaken → old.now.schema ≢ no_schema)
-    → (old.in_transaction ≡ false → HasCleanDisk new → HasTablesOf old new) → IsUnmadeOver new r
-unmade_over old new r Commits opened survives taken tables = record {
+-- a store that works isn't refused as a failed device, and one that is refused as taken has something in it still
+pub unmade_over : (old new : State) (r : Refusal) (Commits : Trees → Type 0) → (HasCleanDisk old → Opens old × IsLive old) → Survives old new Commits → (old.in_transaction ≡ false → IsHealthy new → r ≢ Device)
+    → (r ≡ NameTaken → old.now.schema ≢ no_schema) → (old.in_transaction ≡ false → HasCleanDisk new → HasTablesOf old new) → IsUnmadeOver new r
+unmade_over old new r Commits opened survives healthy taken tables = record {
+  healthy = λ works. healthy (opened (was_clean old new Commits survives works.clean)).0.autocommit works;
   taken = λ clean is_open is none.
       let it = (opened (was_clean old new Commits survives clean)).0 in
       let same = (tables it.autocommit clean it.is_open is_open).0 in

@@ -9,6 +9,7 @@ use Rattle.sqlite.specs.Files.{file_state, over_files}
 use Rattle.sqlite.specs.Held.{Held}
 use Rattle.sqlite.specs.Start.{FindsIn}
 use Rattle.sqlite.specs.State.{State, IsLive}
+use Rattle.vault_audit_model.specs.Spells.{AreSound}
 use Rattle.vault_store.specs.Acknowledged.{AreSoundFor, IsNextOpening}
 use Rattle.vault_store.specs.VaultOf.{vault_of}
 use Rattle.vault_store.specs.declared.sql_keeper.SqlKeeper.{SqlKeeper}
@@ -29,6 +30,8 @@ module _ {D : Type 0} {g : Ghosts D} (k : SqlKeeper (FileStore D g) over_files) 
   pub record IsFoundAgain (opened : State) : Type 0 where
     pub next : IsNextOpening (file_state k.conn) opened
     pub sound : ∥ AreSoundFor opened.now (vault_of over_files k) k.refused.items ∥₁
+    -- while the vault's connection was open, for the vault alone
+    pub alone : IsTrue (file_state k.conn).is_open → ∥ AreSound opened.now (vault_of over_files k) ∥₁
 
   -- From one run to the next: whatever a crash may leave of the two files, a connection that an opening of files which hold that gives finds the vault again. This is said of a disk that has returned what was written by the time that the store is let go of.
   abbrev pub FindsWhatWasLeft : {E : Type 0} → Ghosts E → FileStore D g → Type 0

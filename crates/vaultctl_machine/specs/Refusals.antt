@@ -45,6 +45,9 @@ pub record IsRefusedOver (image : Image) (s : State) (r : Refusal) : Type 0 wher
 pub record IsUncopiedFrom (image : Image) (s : State) (r : Refusal) : Type 0 where
   pub damaged : HasCleanDisk s → (t : Table) → r ≡ Damaged t → (v : Vault) → ¬ (IsWholeAs First image v ⊎ IsWholeAs Second image v)
 
--- no vault was made in the store of a connection: where something is there already, it has a table, an index or a view
+-- no vault was made in the store of a connection
 pub record IsUnmadeOver (s : State) (r : Refusal) : Type 0 where
+  -- a store that works is never reported as one that failed
+  pub healthy : IsHealthy s → r ≢ Device
+  -- where something is there already, it has a table, an index or a view
   pub taken : HasCleanDisk s → IsTrue s.is_open → r ≡ NameTaken → s.now.schema ≢ no_schema

@@ -277,6 +277,7 @@ fn open_in<S: Alter>(
     ensures same { IfOk result (λ k. HasCleanDisk (state S.Store k.conn) → IsUnchanged (state S.Store conn) (state S.Store k.conn)) }
     ensures crash { IfOk result (λ k. Survives (state S.Store conn) (state S.Store k.conn) (λ _. ⊥)) }
     ensures alone { IfOk result (λ k. HasCleanDisk (state S.Store k.conn) → LeavesAlone (state S.Store k.conn) (vault_of S.Store k)) }
+    ensures fresh { IfOk result (λ k. k.refused.items ≡ []) }
     ensures reported { IfErr result (λ e. IsReported e.0) }
     ensures healthy { conn.in_transaction ≡ false → IfErr result (λ e. IsHealthy (state S.Store e.1) → e.0 ≢ Refusal.Device) }
     ensures damaged { IfErr result (λ e. HasCleanDisk (state S.Store e.1) → (t : AnyTable) → e.0 ≡ Refusal.Damaged t → (v : Vault) → ¬ AreSound (state S.Store conn).now v) }
@@ -298,6 +299,7 @@ fn found_in<S: Start>(
     ensures held { (v : Vault) → IsHeldIn (image_at S.Start) v → IfOk result (λ vault. HasCleanDisk (file_state vault.conn) → vault_of over_files vault ≡ v) }
     ensures opened { IfOk result (λ vault. HasCleanDisk (file_state vault.conn) → IsOpenedFrom (image_at S.Start) (file_state vault.conn)) }
     ensures alone { IfOk result (λ vault. HasCleanDisk (file_state vault.conn) → LeavesAlone (file_state vault.conn) (vault_of over_files vault)) }
+    ensures fresh { IfOk result (λ vault. vault.refused.items ≡ []) }
     ensures reported { IfErr result (Reports IsReported) }
     ensures lost { IfErr result (λ e. Closes lost.old.items lost.new.items (λ conn. IsRefusedOver (image_at S.Start) (file_state conn) (refusal_of e))) }
     ensures kept { OnOk result (lost.new ≡ lost.old) }
@@ -321,8 +323,10 @@ fn create_in<S: Alter>(
     ensures opening { IfOk result (λ k. HasCleanDisk (state S.Store k.conn) → vault_of S.Store k ≡ opening) }
     ensures sound { IfOk result (λ k. HasCleanDisk (state S.Store k.conn) → AreSound (state S.Store k.conn).now opening) }
     ensures alone { IfOk result (λ k. HasCleanDisk (state S.Store k.conn) → LeavesAlone (state S.Store k.conn) opening) }
+    ensures fresh { IfOk result (λ k. k.refused.items ≡ []) }
     ensures free { IfErr result (λ e. e.0 ≡ Refusal.NameTaken → (state S.Store conn).now.schema ≢ no_schema) }
     ensures faults { IfErr result (λ e. IsUnmade e.0) }
+    ensures healthy { conn.in_transaction ≡ false → IfErr result (λ e. IsHealthy (state S.Store e.1) → e.0 ≢ Refusal.Device) }
     ensures harmless { IfErr result (λ e. Survives (state S.Store conn) (state S.Store e.1) (trees.IsFoundIn opening)) }
     ensures tables { conn.in_transaction ≡ false → IfErr result (λ e. HasCleanDisk (state S.Store e.1) → HasTablesOf (state S.Store conn) (state S.Store e.1)) }
 {
@@ -339,6 +343,7 @@ fn made_in<S: Start>(
     ensures opening { IfOk result (λ vault. HasCleanDisk (file_state vault.conn) → vault_of over_files vault ≡ opening) }
     ensures sound { IfOk result (λ vault. HasCleanDisk (file_state vault.conn) → AreSound (file_state vault.conn).now opening) }
     ensures alone { IfOk result (λ vault. HasCleanDisk (file_state vault.conn) → LeavesAlone (file_state vault.conn) opening) }
+    ensures fresh { IfOk result (λ vault. vault.refused.items ≡ []) }
     ensures reported { IfErr result (Reports IsUnmade) }
     ensures lost { IfErr result (λ e. Closes lost.old.items lost.new.items (λ conn. IsUnmadeOver (file_state conn) (refusal_of e))) }
     ensures kept { OnOk result (lost.new ≡ lost.old) }
@@ -367,6 +372,7 @@ fn opened_at<S: Start>(
     ensures held { (v : Vault) → IsHeldIn (image_at S.Start) v → IfOk result (λ vault. HasCleanDisk (file_state vault.conn) → vault_of over_files vault ≡ v) }
     ensures opened { IfOk result (λ vault. HasCleanDisk (file_state vault.conn) → IsOpenedFrom (image_at S.Start) (file_state vault.conn)) }
     ensures alone { IfOk result (λ vault. HasCleanDisk (file_state vault.conn) → LeavesAlone (file_state vault.conn) (vault_of over_files vault)) }
+    ensures fresh { IfOk result (λ vault. vault.refused.items ≡ []) }
     ensures reported { IfErr result (Reports IsReported) }
     ensures lost { IfErr result (λ e. LetsGo lost.old.items lost.new.items (λ conn. IsRefusedOver (image_at S.Start) (file_state conn) (refusal_of e))) }
     ensures kept { OnOk result (lost.new ≡ lost.old) }
@@ -393,6 +399,7 @@ fn made_at<S: Start>(
     ensures opening { IfOk result (λ vault. HasCleanDisk (file_state vault.conn) → vault_of over_files vault ≡ opening) }
     ensures sound { IfOk result (λ vault. HasCleanDisk (file_state vault.conn) → AreSound (file_state vault.conn).now opening) }
     ensures alone { IfOk result (λ vault. HasCleanDisk (file_state vault.conn) → LeavesAlone (file_state vault.conn) opening) }
+    ensures fresh { IfOk result (λ vault. vault.refused.items ≡ []) }
     ensures reported { IfErr result (Reports IsUnmade) }
     ensures lost { IfErr result (λ e. LetsGo lost.old.items lost.new.items (λ conn. IsUnmadeOver (file_state conn) (refusal_of e))) }
     ensures kept { OnOk result (lost.new ≡ lost.old) }
@@ -454,6 +461,8 @@ impl<'a, A: Start, B: Start> Machine<'a, VaultStore<A>, VaultStore<B>> {
         ensures opened { IfOk result (λ vault. HasCleanDisk (file_state vault.conn) → IsOpenedFrom (image_at A.Start) (file_state vault.conn)) }
         // A crash leaves that vault after that, and nothing else.
         ensures alone { IfOk result (λ vault. HasCleanDisk (file_state vault.conn) → LeavesAlone (file_state vault.conn) (vault_of over_files vault)) }
+        // No change was refused yet.
+        ensures fresh { IfOk result (λ vault. vault.refused.items ≡ []) }
         // A failure of the disk that is seen is reported as one.
         ensures reported { IfErr result (Reports IsReported) }
         // A store that was opened and works isn't reported as a failed device, nor one that holds a sound vault as damaged.
@@ -483,9 +492,11 @@ impl<'a, A: Start, B: Start> Machine<'a, VaultStore<A>, VaultStore<B>> {
         ensures sound { IfOk result (λ vault. HasCleanDisk (file_state vault.conn) → AreSound (file_state vault.conn).now opening) }
         // A crash leaves a new vault after that, and nothing else.
         ensures alone { IfOk result (λ vault. HasCleanDisk (file_state vault.conn) → LeavesAlone (file_state vault.conn) opening) }
+        // No change was refused yet.
+        ensures fresh { IfOk result (λ vault. vault.refused.items ≡ []) }
         // A failure of the disk that is seen is reported as one.
         ensures reported { IfErr result (Reports IsUnmade) }
-        // A store that was opened and is reported as taken has something in it.
+        // A store that was opened and works isn't reported as a failed device; one that is reported as taken has something in it.
         ensures refused { IfErr result (λ e. LetsGo self.old.refused.items self.new.refused.items (λ conn. IsUnmadeOver (file_state conn) (refusal_of e))) }
     {
         self.looked = self.looked.saturating_add(1);

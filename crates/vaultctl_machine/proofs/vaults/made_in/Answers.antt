@@ -10,4 +10,4 @@ pub returns-clause-lost : goal.returns-clause-lost
 returns-clause-lost g c =
     let store = c.in-Err.ensures in
     closes_as _ _ c.in-Err.conn (λ conn r. IsUnmadeOver (file_state conn) r) _ c.in-Err.refusal c.refused.ensures.refusal c.let_go-had_no_room.ensures
-    (unmade_over (file_state c.args.empty.conn) (file_state c.in-Err.conn) c.in-Err.refusal _ c.requires.opened store.harmless store.free store.tables)
+    (unmade_over (file_state c.args.empty.conn) (file_state c.in-Err.conn) c.in-Err.refusal _ c.requires.opened store.harmless store.healthy store.free store.tables)
