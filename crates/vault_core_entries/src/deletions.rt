@@ -1,5 +1,5 @@
 //! Delete markers, and entries that are removed for good.
-ghost use Rattle.std.specs.Prelude.{◌≡◌, ◌≤◌, IfOk, OnOk, None};
+ghost use Rattle.std.specs.Prelude.{◌≡◌, ◌≤◌, IfOk, OnOk};
 ghost use Rattle.vault_core_model.specs.Leaves.{Leaves, LeavesSame};
 ghost use Rattle.vault_core_model.specs.Halts.{ChecksAs, AnswersAs, is_device};
 ghost use Rattle.vault_core_model.specs.declared.records.Author.TheVariants as author;

@@ -1,5 +1,5 @@
 //! A line of an intake batch.
-ghost use Rattle.std.specs.Prelude.{◌≡◌, ◌≤◌, ◌+◌, length, IsTrue, IfOk, IfErr, OnOk, Some, None, false};
+ghost use Rattle.std.specs.Prelude.{◌≡◌, ◌≤◌, length, IsTrue, IfOk, IfErr, OnOk, Some, None, false};
 ghost use Rattle.sha2.specs.Sha256.{sha256};
 ghost use Rattle.vault_core_model.specs.Leaves.{Leaves, LeavesSame};
 ghost use Rattle.vault_core_model.specs.Halts.{ChecksAs, AnswersAs, is_device, is_device_refusal};

@@ -1,13 +1,12 @@
 //! Listings of a bucket's versions: keys by their bytes, within a key newest first.
-ghost use Rattle.std.specs.Prelude.{◌≡◌, ◌&&◌, IfOk, Err, None, Some, is_some, flat_map, false};
+ghost use Rattle.std.specs.Prelude.{◌≡◌, ◌&&◌, IfOk, Err, is_some, flat_map, false};
 ghost use Rattle.vault_core_model.specs.Leaves.{Leaves, ReadsAs};
 ghost use Rattle.vault_core_model.specs.Halts.{ChecksAs, AnswersAs, is_device};
 ghost use Rattle.vault_core_model.specs.Checks.{check};
-ghost use Rattle.vault_core_model.specs.Reads.{entry_of};
 ghost use Rattle.std.specs.Str.{bytes_eq};
 ghost use Rattle.vault_core_model.specs.Places.{is_behind};
 ghost use Rattle.vault_core_model.specs.ListingOutcome as outcome;
-ghost use Rattle.vault_core_listing.specs.Walk.{EndsOrAdvances, GrowsBy, IsFirstAsked, asked_at, asked_first, beginning, completed, filled, grown, has_first, has_prefix, ids_read, is_key_asked, is_past, is_prefix_later, newest_id, older_than, page_of};
+ghost use Rattle.vault_core_listing.specs.Walk.{EndsOrAdvances, GrowsBy, IsFirstAsked, asked_at, asked_first, beginning, completed, filled, has_first, has_prefix, ids_read, is_key_asked, is_past, is_prefix_later, newest_id, older_than, page_of};
 
 use std::alloc::{AllocError, Global};
 use vault_base::moment::Moment;
