@@ -213,7 +213,7 @@ impl<S: Alter> SqlKeeper<S> {
         ensures alone { HasCleanDisk (state S.Store self.new.conn) → OnOk result (∥ LeavesAlone (state S.Store self.new.conn) (vault_of S.Store self.new) ∥₁) }
         ensures open { HasCleanDisk (state S.Store self.new.conn) → OnOk result (IsTrue (state S.Store self.new.conn).is_open) }
     {
-        match apply_change(&mut self.conn, at, change) {
+        match apply_change(&mut self.conn, self.alloc, at, change) {
             Ok(()) => {
                 self.made = self.made.and(&at, change);
                 self.refused = Log::new();
@@ -509,7 +509,7 @@ impl<S: Alter> Keeper for SqlKeeper<S> {
         ensures read { ReadsAs S.Store self.old self.new result }
     {
         self.check_open()?;
-        match read_bucket_held(&mut self.conn, bucket) {
+        match read_bucket_held(&mut self.conn, self.alloc, bucket) {
             Ok(found) => Ok(found),
             Err(error) => Err(self.blamed.blame(error)),
         }

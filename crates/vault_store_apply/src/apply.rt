@@ -19,11 +19,17 @@ use crate::records::{
     add_bucket, add_caller, add_department, close_caller, set_default, set_rules,
 };
 use sqlite::{Alter, Connection, Error};
+use std::alloc::Global;
 use vault_base::moment::Moment;
 use vault_core_model::change::Change;
 
 /// Makes a change, where the connection is open.
-fn make<S: Alter>(conn: &mut Connection<S>, at: Moment, change: &Change) -> Result<(), Error>
+fn make<S: Alter>(
+    conn: &mut Connection<S>,
+    alloc: Global,
+    at: Moment,
+    change: &Change,
+) -> Result<(), Error>
     requires { conn.old.in_transaction ≡ false }
     ensures mode { conn.new.in_transaction ≡ false }
     ensures open { IsOpenIfOk S.Store conn.new result }
@@ -37,7 +43,7 @@ fn make<S: Alter>(conn: &mut Connection<S>, at: Moment, change: &Change) -> Resu
         Change::AddCaller(caller) => add_caller(conn, at, caller),
         Change::CloseCaller(name) => close_caller(conn, at, name),
         Change::AddBucket(name, dept) => add_bucket(conn, at, name, dept),
-        Change::MoveBucket(name, dept) => move_bucket(conn, at, name, dept),
+        Change::MoveBucket(name, dept) => move_bucket(conn, alloc, at, name, dept),
         Change::SetDefault(name, default) => set_default(conn, at, name, *default),
         Change::SetRules(name, rules) => set_rules(conn, at, name, rules),
         Change::Admit(admission) => admit(conn, at, admission),
@@ -64,6 +70,7 @@ fn check_open<S: Alter>(conn: &mut Connection<S>) -> Result<(), Error>
 /// Want of memory is `OutOfMemory`.
 pub fn apply_change<S: Alter>(
     conn: &mut Connection<S>,
+    alloc: Global,
     at: Moment,
     change: &Change,
 ) -> Result<(), Error>
@@ -79,5 +86,5 @@ pub fn apply_change<S: Alter>(
 {
     // What a read of a connection that a failure has shut leaves is reported by no clause.
     check_open(conn)?;
-    make(conn, at, change)
+    make(conn, alloc, at, change)
 }

@@ -9,9 +9,6 @@ pub mod HeadLemmas
 pub mod CountLemmas
 pub mod OrderedEntryLemmas
 pub mod HoldingLemmas
-pub mod HoldingSums
-pub mod LeastLemmas
-pub mod StreamLemmas
 pub mod KeyLemmas
 pub mod KeySetLemmas
 pub mod OrderedListLemmas

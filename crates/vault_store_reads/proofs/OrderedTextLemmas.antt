@@ -1,5 +1,5 @@
 -- What the statements mean.
-use Rattle.std.proofs.Common.{◌≡◌, ℕ, pos, negsuc, List, [], ◌∷◌, codes, true, false, None, refl}
+use Rattle.std.proofs.Common.{◌≡◌, ℕ, pos, negsuc, List, [], ◌∷◌, codes, true, refl}
 use Rattle.sqlite_tied.specs.Compute.{everything}
 use Rattle.sqlite_value.specs.declared.value.Value.TheVariants.{Null, Int}
 use Rattle.sqlite_value.specs.declared.keys.Collation.TheVariants.{Binary}
@@ -9,7 +9,6 @@ use Rattle.sqlite_sql.specs.declared.ops.BinaryOp.TheVariants.{Compare, Is}
 use Rattle.sqlite_sql.specs.declared.ops.UnaryOp.TheVariants.{Not}
 use Rattle.sqlite_sql.specs.declared.ops.CompareOp.TheVariants.{Eq, Ne, Gt, Lt}
 use Rattle.sqlite_sql.specs.Term.{Term, lit, col, op1, op2}
-use Rattle.sqlite_sql.specs.Query.{Query, inner, first, end}
 use Rattle.sqlite_schema.specs.declared.command.Command.TheVariants.{Select}
 use Rattle.sqlite.specs.Listing.{understood}
 use Rattle.sqlite.proofs.Callers.{IsPlain, command_of}
@@ -126,46 +125,20 @@ pub entries_is : Selects entries_text (select_of entries_tree entries_tests entr
 unfolding understood everything
 entries_is = record { names = codes "id" ∷ codes "marker" ∷ codes "size" ∷ codes "admitted" ∷ []; is = refl; plain = (refl, refl); unlisted = refl }
 
--- ---- the held entries of a bucket
+-- ---- the held versions of a bucket
 
 abbrev pub sized_text : List ℕ
-sized_text = codes "SELECT (SELECT e.size FROM entries AS e WHERE e.id = h.id) AS size, (SELECT t.moment FROM tenures AS t WHERE t.id = h.id ORDER BY t.n DESC) AS since FROM entries AS h WHERE h.bucket = ?1 AND h.removed IS NULL"
+sized_text = codes "SELECT id, size FROM entries WHERE bucket = ?1 AND marker = 0 AND removed IS NULL ORDER BY id"
 
 abbrev pub sized_tests : List Term
-sized_tests = op2 (Compare Eq Binary) (col 1 2) (col 0 0) ∷ op2 (Is Binary) (col 1 10) (lit Null) ∷ []
+sized_tests = op2 (Compare Eq Binary) (col 1 2) (col 0 0) ∷ op2 (Compare Eq Binary) (col 1 4) (lit (Int (pos 0))) ∷ op2 (Is Binary) (col 1 10) (lit Null) ∷ []
 
--- the entry of that id, and its tenures, the last first
-abbrev pub size_tests : List Term
-size_tests = op2 (Compare Eq Binary) (col 2 0) (col 1 0) ∷ []
+abbrev pub sized_shown : List Term
+sized_shown = col 1 0 ∷ col 1 5 ∷ []
 
-abbrev pub size_shown : List Term
-size_shown = col 2 5 ∷ []
-
-abbrev pub since_tests : List Term
-since_tests = op2 (Compare Eq Binary) (col 3 1) (col 1 0) ∷ []
-
-abbrev pub since_shown : List Term
-since_shown = col 3 4 ∷ []
-
-abbrev pub since_order : List (Term × Key)
-since_order = (col 3 2, descending) ∷ []
-
-abbrev pub sized_query : Query
-sized_query = record {
-  from = inner entries_tree (first (inner entries_tree end) size_tests [] size_shown (first (inner tenures_tree end) since_tests since_order since_shown end));
-  filter = sized_tests;
-  group = None;
-  project = col 2 0 ∷ col 3 0 ∷ [];
-  distinct = false;
-  collations = [];
-  order = [];
-  limit = no_limit;
-  offset = lit (Int (pos 0));
-}
-
-pub sized_is : Selects sized_text sized_query
+pub sized_is : Selects sized_text (select_of entries_tree sized_tests sized_shown entries_order no_limit)
 unfolding understood everything
-sized_is = record { names = codes "size" ∷ codes "since" ∷ []; is = refl; plain = (refl, refl); unlisted = refl }
+sized_is = record { names = codes "id" ∷ codes "size" ∷ []; is = refl; plain = (refl, refl); unlisted = refl }
 
 -- ---- the newest of them besides one
 

@@ -2,18 +2,17 @@
 use Rattle.std.specs.Prelude.{ℕ, ◌*◌, ◌==◌, not, List, [], ◌∷◌, map, filter, reverse, Option, None, Some, option_map}
 use Rattle.sqlite_value.specs.declared.value.Value.TheVariants.{Text}
 use Rattle.sqlite_value.specs.Order.{Row}
-use Rattle.vault_base.specs.Days.{day}
 use Rattle.vault_rules.specs.declared.plan.Held.{Held}
 use Rattle.vault_rules.specs.declared.rule.Rule.{Rule}
 use Rattle.vault_core_model.specs.declared.records.History.{History}
 use Rattle.vault_core_model.specs.declared.records.LastSetting.{LastSetting}
-use Rattle.vault_core_model.specs.Places.{held_at, is_held_in}
-use Rattle.vault_core_model.specs.Reads.{head_over, lock_of}
-use Rattle.vault_core_model.specs.Sound.{last_tenure}
+use Rattle.vault_core_model.specs.Places.{held_at}
+use Rattle.vault_core_model.specs.Reads.{head_over, lock_of, tenures_of}
+use Rattle.vault_core_model.specs.Totals.{last_day_from}
 use Rattle.vault_core_model.specs.Vault.{Vault}
 use Rattle.vault_audit_model.specs.declared.rows.RuleRow.{RuleRow}
 use Rattle.vault_audit_model.specs.Rows.{retention_mode, retention_until}
-use Rattle.vault_audit_model.specs.Values.{number, number_or_null, flag}
+use Rattle.vault_audit_model.specs.Values.{number, flag}
 use Rattle.vault_store_reads.specs.declared.rows_in_order.shown.HeldRow.{HeldRow}
 use Rattle.vault_store_reads.specs.declared.rows_in_order.shown.SizedRow.{SizedRow}
 
@@ -44,25 +43,16 @@ id_row id = number id ∷ []
 abbrev pub ids_at : Vault → List ℕ → List ℕ → List ℕ
 ids_at v bucket key = reverse (map (λ h. h.entry.id) (held_at v bucket key))
 
--- the size of an entry, and since when its department has it
+-- a version and its size
 abbrev pub sized_row : SizedRow → Row
-sized_row x = number x.size ∷ number_or_null x.from ∷ []
+sized_row x = number x.id ∷ number x.size ∷ []
 
 abbrev pub sized_of : History → SizedRow
-sized_of h = record { size = h.entry.size; from = option_map (λ t. t.from) (last_tenure h.tenures) }
-
--- the day of a moment, if there is one
-abbrev pub day_if_given : Option ℕ → ℕ
-day_if_given None = 0
-day_if_given (Some at) = day at
+sized_of h = record { id = h.entry.id; size = h.entry.size }
 
 -- its size times the day from which its department has it
-abbrev pub weight_of : SizedRow → ℕ
-weight_of x = x.size * day_if_given x.from
-
--- the held entries of a bucket
-abbrev pub held_in : Vault → List ℕ → List History
-held_in v bucket = filter (λ h. is_held_in bucket h.entry) v.histories
+abbrev pub weight_in : Vault → SizedRow → ℕ
+weight_in v x = x.size * last_day_from (tenures_of v x.id)
 
 -- the rules of these rows; no rule is no set of rules
 abbrev pub set_of : List RuleRow → Option (List Rule)

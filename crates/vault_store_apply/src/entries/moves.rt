@@ -16,6 +16,7 @@ use crate::commit::commit_part;
 use crate::entries::place::read_config;
 use crate::parts::moves::MovedBucket;
 use sqlite::{Alter, Connection, Error, ErrorCode};
+use std::alloc::Global;
 use vault_base::moment::Moment;
 use vault_base::name::{BucketName, DeptName};
 use vault_core_model::records::BucketConfig;
@@ -53,13 +54,17 @@ struct Load {
 }
 
 /// Reads that.
-fn read_load<S: Alter>(conn: &mut Connection<S>, bucket: &BucketName) -> Result<Load, Error>
+fn read_load<S: Alter>(
+    conn: &mut Connection<S>,
+    alloc: Global,
+    bucket: &BucketName,
+) -> Result<Load, Error>
     ensures value { HasCleanDisk (state S.Store conn.new) → IfOk result (λ load. (v : Vault) → Keeps (state S.Store conn.old) v
         → (load.bytes ≡ bucket_bytes v bucket.now) × (load.weight ≡ bucket_weight v bucket.now) × (load.number ≡ v.moves + 1)) }
     ensures open { IsOpenIfOk S.Store conn.new result }
     ensures read { OnlyReads S.Store conn.old conn.new }
 {
-    let held = read_bucket_held(conn, bucket)?;
+    let held = read_bucket_held(conn, alloc, bucket)?;
     let number = find_number(conn)?;
     Ok(Load {
         bytes: held.0,
@@ -118,6 +123,7 @@ fn with_load(sums: Row, load: Load, at: Moment) -> Row
 /// Moves a bucket to another department: its held versions get a tenure, and both departments their sums.
 pub fn move_bucket<S: Alter>(
     conn: &mut Connection<S>,
+    alloc: Global,
     at: Moment,
     name: &BucketName,
     dept: &DeptName,
@@ -130,7 +136,7 @@ pub fn move_bucket<S: Alter>(
     ensures honest { HasCleanDisk (state S.Store conn.new) → HasCleanDisk (state S.Store conn.old) }
     ensures crash { (v : Vault) → Keeps (state S.Store conn.old) v → Survives (state S.Store conn.old) (state S.Store conn.new) (IsChanged (state S.Store conn.old) v at (change.MoveBucket name.now dept.now)) }
 {
-    let load = read_load(conn, name)?;
+    let load = read_load(conn, alloc, name)?;
     let hands = read_hands(conn, name, dept)?;
     let handed = without_load(hands.giver, load, at);
     let received = with_load(hands.taker, load, at);

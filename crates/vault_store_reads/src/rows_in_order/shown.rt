@@ -9,7 +9,7 @@ ghost use Rattle.vault_store_reads.specs.declared.rows_in_order.shown.HeldRow.{H
 ghost use Rattle.vault_store_reads.specs.declared.rows_in_order.shown.SizedRow.{SizedRow as Sized};
 
 use sqlite::{Error, ErrorCode, Row};
-use vault_audit_rows::cell::{flag, moment, moment_or_null, number_within, version_id};
+use vault_audit_rows::cell::{flag, moment, number_within, version_id};
 use vault_audit_rows::misread::Misread;
 use vault_audit_rows::name::{bucket_name, object_key};
 use vault_audit_rows::several_columns::retention;
@@ -66,27 +66,26 @@ pub fn read_held(row: &Row) -> Option<HeldRow>
     })
 }
 
-/// The size of an entry, and since when its department has it.
+/// A version and its size.
 #[derive(Clone, Copy)]
 pub struct SizedRow {
-    /// In bytes; a marker has 0.
+    pub id: VersionId,
+    /// In bytes.
     pub size: u64,
-    /// When its last tenure began; a marker has none.
-    pub from: Option<Moment>,
 }
 
-/// The size of an entry, and since when its department has it.
+/// A version and its size.
 pub fn read_sized(row: &Row) -> Option<SizedRow>
     ensures { MatchOption result ((x : Sized) → IsSizedRow x → row.now ≢ sized_row x) (λ x. row.now ≡ sized_row x) }
 {
     if row.column_count() != 2 {
         return None;
     }
-    let size = number_within(row, 0, 0, 1_048_576)?;
-    let from = moment_or_null(row, 1)?;
+    let id = version_id(row, 0)?;
+    let size = number_within(row, 1, 0, 1_048_576)?;
     Some(SizedRow {
+        id,
         size: u64::from(size),
-        from,
     })
 }
 
