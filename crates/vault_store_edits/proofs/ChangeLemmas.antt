@@ -73,7 +73,7 @@ module _ {S : Type 0} (g : Ghosts S) (old mid new : Held S) (t : Table) (tests :
       → IsEdit g old new r (without t test)
   deletes_apart test does =
       let left = λ (clean : HasCleanDisk (state g new)) (has : (state g old).now.schema ≡ vault_schema) (count : ℕ) (h : Executes text params (state g mid) (state g new) (Ok count)).
-          leaves (without t test) clean has (λ alone known. does count alone known h) in
+      leaves (without t test) clean has (λ alone known. does count alone known h) in
       record {
         edits = λ clean was. edits_after text params (state g old) (state g mid) (state g new) (without t test) r (without_ignores t test) (kept (early clean) was) (λ count has h. left clean has count h) (ran clean was);
         sound = λ clean was has. sound_after text params (state g mid) (state g new) r (λ count h. (left clean has count h).sound) (ran clean was);
@@ -86,7 +86,7 @@ module _ {S : Type 0} (g : Ghosts S) (old mid new : Held S) (t : Table) (tests :
       → IsEditOfSound g old new r (with_changed t test change)
   updates_apart test change does =
       let left = λ (clean : HasCleanDisk (state g new)) (live : IsDatabase (state g old).now) (has : (state g old).now.schema ≡ vault_schema) (count : ℕ) (h : Executes text params (state g mid) (state g new) (Ok count)).
-          leaves (with_changed t test change) clean has (λ alone known. does count alone (subst IsDatabase (sym (apart (early clean) has).0.0.now_is) live) known h) in
+      leaves (with_changed t test change) clean has (λ alone known. does count alone (subst IsDatabase (sym (apart (early clean) has).0.0.now_is) live) known h) in
       record {
         edits = λ clean was live. edits_after text params (state g old) (state g mid) (state g new) (with_changed t test change) r (with_changed_ignores t test change) (kept (early clean) was) (λ count has h. left clean live has count h) (ran clean was);
         sound = λ clean was live has. sound_after text params (state g mid) (state g new) r (λ count h. (left clean live has count h).sound) (ran clean was);
