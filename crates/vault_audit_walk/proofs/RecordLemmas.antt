@@ -22,10 +22,6 @@ use Rattle.vault_audit_walk.proofs.ScanLemmas.{shows, matched_in, goes_on_to}
 
 -- ---- lists
 
-pub all_and_one : {A : Type 0} (P : A → Type 0) (xs : List A) (x : A) → AllByRecursion P xs → P x → AllByRecursion P (xs ++ x ∷ [])
-all_and_one P [] x all one = (one, tt)
-all_and_one P (y ∷ ys) x all one = (all.0, all_and_one P ys x all.1 one)
-
 -- the item between these holds it
 pub between : {A : Type 0} (P : A → Type 0) (xs : List A) (x : A) (ys : List A) → AllByRecursion P (xs ++ x ∷ ys) → P x
 between P [] x ys all = all.0

@@ -1,5 +1,6 @@
 -- Queries that change nothing, and the rows that a running check has gone over.
-use Rattle.std.proofs.Common.{◌≡◌, ℕ, List, [], ◌∷◌, ◌++◌, Ok, refl, sym, subst, arith}
+use Rattle.std.proofs.Common.{◌≡◌, ℕ, List, [], ◌∷◌, ◌++◌, Bool, true, false, Ok, refl, sym, subst, arith}
+use Rattle.std.specs.List.{AllByRecursion}
 use Rattle.sqlite_value.specs.Order.{Row}
 use Rattle.sqlite.specs.Effect.{Database}
 use Rattle.sqlite.specs.Listing.{understood, reads_listing, IsSourceOf}
@@ -7,7 +8,8 @@ use Rattle.sqlite.specs.Clock.{timed}
 use Rattle.sqlite.specs.State.{State, HasCleanDisk, IsUnchanged, Survives, Shown, ShowsRows, CommitsShowing}
 use Rattle.sqlite.proofs.StateLemmas.{survives_weaker}
 use Rattle.sqlite.proofs.Callers.{IsPlain, never_commits, unchanged_then}
-use Rattle.vault_audit_walk.specs.Walk.{Goes}
+use Rattle.vault_audit_walk.specs.Records.{Checked}
+use Rattle.vault_audit_walk.specs.Walk.{Goes, Walked}
 
 pub commits_nothing : (sql : List ℕ) (params : Row) (old new : State) → (HasCleanDisk old → IsPlain (understood old.now.schema sql)) → Survives old new (CommitsShowing sql params old) → Survives old new (λ _. ⊥)
 commits_nothing sql params old new plain s = survives_weaker old new _ _ (λ late db. let early : HasCleanDisk old = omega (arith, s.clean) in never_commits sql params old db (plain early)) s
@@ -29,3 +31,18 @@ shown_from sql params first old new rows plain same h =
 pub goes_on : {P : Type 0} (step : P → Row → P → Type 0) (p m q : P) (rows : List Row) (row : Row) → Goes step p rows m → step m row q → Goes step p (rows ++ row ∷ []) q
 goes_on step p m q [] row same one = (q, subst (λ x. step x row q) (sym same) one, refl)
 goes_on step p m q (r ∷ rows) row h one = (h.0, h.1, goes_on step h.0 m q rows row h.2 one)
+
+-- a check that stays as it is takes each row by itself
+module _ {P : Type 0} (takes : P → Row → Type 0) where
+  abbrev alone : P → Row → P → Type 0
+  alone p row q = (q ≡ p) × takes p row
+
+  stays : (p q : P) (rows : List Row) → Goes alone p rows q → (q ≡ p) × AllByRecursion (takes p) rows
+  stays p q [] same = (sym same, tt)
+  stays p q (row ∷ rows) h =
+      let rest = subst (λ m. (q ≡ m) × AllByRecursion (takes m) rows) h.1.0 (stays h.0 q rows h.2) in
+      (rest.0, h.1.1, rest.1)
+
+  pub checked : (sql : List ℕ) (old new : State) (p q : P) (b : Bool) → Walked alone (λ m row. ¬ takes m row) sql old new p q b → Checked (takes p) sql old new b
+  checked sql old new p q true h = (h.0, h.1, (stays p q h.0 h.2).1)
+  checked sql old new p q false h = (h.0, h.1, h.3, subst (λ m. ¬ takes m h.1) (stays p h.2 h.0 h.4).0 h.5)

@@ -1,6 +1,6 @@
 //! A query each of whose rows is looked at by itself.
 
-ghost use Rattle.std.specs.Prelude.{[], IfOk, IfErr};
+ghost use Rattle.std.specs.Prelude.{IfOk, IfErr};
 ghost use Rattle.sqlite.specs.State.{HasCleanDisk};
 ghost use Rattle.sqlite.specs.Held.{state};
 ghost use Rattle.sqlite.specs.Given.{IsPlain};
@@ -8,7 +8,8 @@ ghost use Rattle.sqlite.specs.Listing.{understood};
 ghost use Rattle.vault_audit_walk.specs.Health.{IsHealthy, IsMemory, Asks, OnlyLooks};
 ghost use Rattle.vault_audit_walk.specs.Records.{Checked};
 
-use sqlite::{Alter, Connection, Error, ErrorCode, Row};
+use crate::walk::{Pass, walk};
+use sqlite::{Alter, Connection, Error, Row};
 
 /// A check that looks at each row by itself. An error is want of memory.
 pub trait Check {
@@ -25,6 +26,23 @@ pub trait Check {
         ensures err { IfErr result IsMemory };
 }
 
+/// A walk whose check of a row doesn't depend on the rows before it.
+struct EachRow<'a, C> {
+    check: &'a C,
+}
+
+impl<'a, C: Check> Pass for EachRow<'a, C> {
+    ghost use Rattle.std.specs.Prelude.{◌≡◌, ◌×◌};
+
+    ghost goes = { λ old row new. (new ≡ old) × C.takes old.check.now row };
+
+    ghost stops = { λ old row. ¬ C.takes old.check.now row };
+
+    fn take(&mut self, row: &Row) -> Result<bool, Error> {
+        self.check.is_passed_by(row)
+    }
+}
+
 /// Whether each row of the answer passes. Nothing is changed.
 pub fn check_rows<S: Alter, C: Check>(
     conn: &mut Connection<S>,
@@ -37,14 +55,5 @@ pub fn check_rows<S: Alter, C: Check>(
     // A store that works answers such a text, or wants memory.
     ensures err { IsHealthy (state S.Store conn.new) → (HasCleanDisk (state S.Store conn.old) → Asks conn.old.schema sql.now) → IfErr result IsMemory }
 {
-    let mut rows = conn.query(sql, &[])?;
-    'rows: for _ in 0..u64::MAX {
-        let Some(row) = rows.next()? else {
-            return Ok(true);
-        };
-        if !check.is_passed_by(row)? {
-            return Ok(false);
-        }
-    }
-    Err(Error::SqliteFailure(ErrorCode::OutOfMemory))
+    walk(conn, sql, &mut EachRow { check })
 }

@@ -24,7 +24,7 @@ use Rattle.sqlite.specs.Does.{Tally, Does, OnRows}
 use Rattle.sqlite.specs.Effect.{Database}
 use Rattle.sqlite.specs.Listing.{understood}
 use Rattle.sqlite.specs.State.{State, Executes, mode_of}
-use Rattle.sqlite.proofs.Callers.{IsPlain, command_of, statement_of, runs_as}
+use Rattle.sqlite.proofs.Callers.{statement_of, runs_as}
 use Rattle.vault_base.specs.declared.refusal.Table.{Table}
 use Rattle.vault_audit_model.specs.Tables.{vault_schema}
 use Rattle.vault_store_model.specs.Copies.{with_copies}
@@ -33,7 +33,7 @@ use Rattle.vault_store_model.specs.Scans.{scan_as, passes, shows}
 use Rattle.vault_store_model.proofs.ScanLemmas.{scanned_as}
 use Rattle.vault_store_edits.specs.Trees.{tree_of, columns_of}
 use Rattle.vault_store_edits.proofs.ListLemmas.{put_all_permutes}
-use Rattle.vault_store_edits.proofs.StatementLemmas.{Leaves, task_on, added}
+use Rattle.vault_store_edits.proofs.StatementLemmas.{Leaves, Means, task_on, added}
 use Rattle.vault_store_edits.proofs.TableLemmas.{edited_alone, rows_are}
 
 -- the rows that are put in, stated by their columns, which a rowid that is chosen doesn't touch
@@ -48,7 +48,7 @@ abbrev pub copying : Table → ℕ → List Term → List Term → List Collatio
 copying from at tests project collations = Insert at (source.Query (record { lets = []; body = scan_as collations (tree_of from) tests project }))
 
 module _ (t from : Table) (at : ℕ) (base : Columns) (sql : List ℕ) (params : Row) (tests project : List Term) (collations : List Collation) (test : Row → Bool) (made : Row → Row)
-    (is : command_of (understood vault_schema sql) ≡ copying from at tests project collations) (plain : IsPlain (understood vault_schema sql))
+    (is : Means sql (copying from at tests project collations))
     (places : (limit : Option ℕ) (mode : Mode) (text : List ℕ) (db : Trees) (out : Result (Tally × Database) (Option Error))
     → Does limit mode params (record { schema = vault_schema; trees = db }) text None (copying from at tests project collations) out
     → OnRows (task_on limit mode base params) mode None (copying from at tests project collations) db out)
@@ -60,7 +60,7 @@ module _ (t from : Table) (at : ℕ) (base : Columns) (sql : List ℕ) (params :
   copies old new count has h =
       let q : Program = record { lets = []; body = scan_as collations (tree_of from) tests project } in
       let command = Insert at (source.Query q) in
-      let w = runs_as sql params old new vault_schema has command is plain count h in
+      let w = runs_as sql params old new vault_schema has command is.command is.plain count h in
       let text = statement_of sql (understood vault_schema sql) in
       let did = subst (λ s. Does old.step_limit (mode_of old) params (record old.now { schema = s }) text None command (Ok (w.tally, new.now))) has w.changed in
       let it = added old.step_limit (mode_of old) base params at (source.Query q) old.now.trees w.tally new.now (places old.step_limit (mode_of old) text old.now.trees _ did) in

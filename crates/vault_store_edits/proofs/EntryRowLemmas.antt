@@ -29,7 +29,7 @@ use Rattle.vault_store_edits.proofs.StatementLemmas.{Leaves, updates, deletes}
 use Rattle.vault_store_edits.proofs.TestLemmas.{text_test, number_test}
 use Rattle.vault_store_edits.proofs.TypeLemmas.{column_taken}
 use Rattle.sqlite_tied.proofs.RuleLemmas.{and_true}
-use Rattle.vault_store_edits.proofs.EntryTextLemmas.{by_id, removed_text, removed_project, removed_is, removed_plain, no_content_text, no_content_is, no_content_plain, moved_text, moved_tests, moved_project, moved_collations, moved_is, moved_plain, by_key, newer_text, newer_project, newer_is, newer_plain, no_head_text, no_head_is, no_head_plain}
+use Rattle.vault_store_edits.proofs.EntryTextLemmas.{by_id, removed_text, removed_project, removed_is, no_content_text, no_content_is, moved_text, moved_tests, moved_project, moved_collations, moved_is, by_key, newer_text, newer_project, newer_is, no_head_text, no_head_is}
 
 -- the id in the first column is the first parameter
 identified : (id : ℕ) (rest r : Row) → (passes by_id (number id ∷ rest) r ≡ true → (n : ℤ) × (rowid r ≡ Int n)) → passes by_id (number id ∷ rest) r ≡ is_number id (column r 0)
@@ -47,7 +47,7 @@ removal_params id r = number id ∷ removal_at (Some r) ∷ removal_cause (Some 
 pub removes_entry : (id : ℕ) (r : Removal) (old new : State) (count : ℕ) → IsApart (passes by_id (removal_params id r)) (old.now.trees entries_tree) → IsDatabase old.now → old.now.schema ≡ vault_schema
     → Executes removed_text (removal_params id r) old new (Ok count) → Leaves old new (with_changed table.Entries (is_numbered id) (removed_row r))
 removes_entry id r =
-    updates table.Entries 5 entries removed_text (removal_params id r) by_id (is_numbered id) refl removed_plain (λ row whole. identified id (removal_at (Some r) ∷ removal_cause (Some r) ∷ removal_by (Some r) ∷ []) row whole)
+    updates table.Entries 5 entries removed_text (removal_params id r) by_id (is_numbered id) refl (λ row whole. identified id (removal_at (Some r) ∷ removal_cause (Some r) ∷ removal_by (Some r) ∷ []) row whole)
     removed_project (removed_row r) removed_is (λ limit mode text db out h. h) (λ db k. k.1.1.1.1.1.0)
     (λ row typed n is.
     let own : cast kind.Integer (column row 0) ≡ column row 0 = subst (λ v. cast kind.Integer v ≡ v) (sym is) (cast_int n) in
@@ -66,7 +66,7 @@ removes_entry id r =
 
 pub drops_content : (id : ℕ) (old new : State) (count : ℕ) → IsApart (passes by_id (number id ∷ [])) (old.now.trees contents_tree) → old.now.schema ≡ vault_schema → Executes no_content_text (number id ∷ []) old new (Ok count)
     → Leaves old new (without table.Contents (is_numbered id))
-drops_content id = deletes table.Contents 6 contents no_content_text (number id ∷ []) by_id (is_numbered id) refl no_content_plain (λ row whole. identified id [] row whole) no_content_is (λ limit mode text db out h. h)
+drops_content id = deletes table.Contents 6 contents no_content_text (number id ∷ []) by_id (is_numbered id) refl (λ row whole. identified id [] row whole) no_content_is (λ limit mode text db out h. h)
 
 -- ---- settings, tenures and intake
 
@@ -81,7 +81,7 @@ moved_params bucket n dept at = Text bucket ∷ number n ∷ Text dept ∷ numbe
 pub puts_tenures : (bucket : List ℕ) (n : ℕ) (dept : List ℕ) (moment : ℕ) (old new : State) (count : ℕ) → old.now.schema ≡ vault_schema → Executes moved_text (moved_params bucket n dept moment) old new (Ok count)
     → Leaves old new (with_tenures bucket n dept moment)
 puts_tenures bucket n dept moment =
-    copies table.Tenures table.Entries 10 tenures moved_text (moved_params bucket n dept moment) moved_tests moved_project moved_collations (is_held_version bucket) (moved_row n dept moment) moved_is moved_plain
+    copies table.Tenures table.Entries 10 tenures moved_text (moved_params bucket n dept moment) moved_tests moved_project moved_collations (is_held_version bucket) (moved_row n dept moment) moved_is
     (λ limit mode text db out h. h) refl refl (λ r. refl) (λ rows s. spared (cast kind.Integer (column s 0)) (cast_all tenures.columns (drop 1 s)) rows)
     (λ r. rw (cast_number n, cast_number moment) refl)
 
@@ -93,7 +93,7 @@ head_params h = head_row h
 pub sets_head : (h : HeadRow) (old new : State) (count : ℕ) → IsApart (passes by_key (head_params h)) (old.now.trees heads_tree) → IsDatabase old.now → old.now.schema ≡ vault_schema → Executes newer_text (head_params h) old new (Ok count)
     → Leaves old new (with_changed table.Heads (is_of_key h.bucket h.key) (with_head_columns h.head))
 sets_head h =
-    updates table.Heads 9 heads newer_text (head_params h) by_key (is_of_key h.bucket h.key) refl newer_plain (λ r whole. keyed h.bucket h.key (number h.head.newest ∷ number h.head.count ∷ []) r)
+    updates table.Heads 9 heads newer_text (head_params h) by_key (is_of_key h.bucket h.key) refl (λ r whole. keyed h.bucket h.key (number h.head.newest ∷ number h.head.count ∷ []) r)
     newer_project (with_head_columns h.head) newer_is (λ limit mode text db out h. h) (λ db k. k.1.1.1.1.1.1.1.1.1.0)
     (λ r typed n is.
     let bucket : cast kind.Text (column r 1) ≡ column r 1 = column_taken heads r refl typed 0 _ refl in
@@ -103,4 +103,4 @@ sets_head h =
 pub drops_head : (bucket key : List ℕ) (old new : State) (count : ℕ) → IsApart (passes by_key (Text bucket ∷ Text key ∷ [])) (old.now.trees heads_tree) → old.now.schema ≡ vault_schema
     → Executes no_head_text (Text bucket ∷ Text key ∷ []) old new (Ok count) → Leaves old new (without table.Heads (is_of_key bucket key))
 drops_head bucket key =
-    deletes table.Heads 9 heads no_head_text (Text bucket ∷ Text key ∷ []) by_key (is_of_key bucket key) refl no_head_plain (λ r whole. keyed bucket key [] r) no_head_is (λ limit mode text db out h. h)
+    deletes table.Heads 9 heads no_head_text (Text bucket ∷ Text key ∷ []) by_key (is_of_key bucket key) refl (λ r whole. keyed bucket key [] r) no_head_is (λ limit mode text db out h. h)

@@ -1,5 +1,5 @@
 -- What the statements on entries, contents, settings, tenures, intake and heads mean.
-use Rattle.std.proofs.Common.{◌≡◌, ℕ, pos, List, [], ◌∷◌, codes, refl}
+use Rattle.std.proofs.Common.{ℕ, pos, List, [], ◌∷◌, codes, refl}
 use Rattle.sqlite_tied.specs.Compute.{everything}
 use Rattle.sqlite_value.specs.declared.keys.Collation.{Collation}
 use Rattle.sqlite_value.specs.declared.keys.Collation.TheVariants.{Binary}
@@ -11,11 +11,11 @@ use Rattle.sqlite.specs.Term.{Term, lit, col}
 use Rattle.sqlite.specs.Source.TheVariants.{Query}
 use Rattle.sqlite.specs.Command.TheVariants.{Insert, Update, Delete}
 use Rattle.sqlite.specs.Listing.{understood}
-use Rattle.sqlite.proofs.Callers.{IsPlain, command_of}
-use Rattle.vault_audit_model.specs.Tables.{vault_schema, entries_tree, contents_tree, heads_tree, tenures}
+use Rattle.vault_audit_model.specs.Tables.{entries_tree, contents_tree, heads_tree, tenures}
 use Rattle.vault_audit_schema.specs.Texts.{insert_into_text}
 use Rattle.vault_store_model.specs.Scans.{table_scan, scan_as}
 use Rattle.vault_store_edits.specs.Queries.{equals, FindsWhere}
+use Rattle.vault_store_edits.proofs.StatementLemmas.{Means}
 
 -- ---- entries
 
@@ -30,13 +30,9 @@ abbrev pub removed_project : List Term
 removed_project =
     col 1 0 ∷ lit Null ∷ col 1 2 ∷ col 1 3 ∷ col 1 4 ∷ col 1 5 ∷ col 1 6 ∷ col 1 7 ∷ col 1 8 ∷ col 1 9 ∷ col 0 1 ∷ col 0 2 ∷ col 0 3 ∷ []
 
-pub removed_is : command_of (understood vault_schema removed_text) ≡ Update 5 (record { lets = []; body = table_scan entries_tree by_id (col 1 0 ∷ removed_project) })
+pub removed_is : Means removed_text (Update 5 (record { lets = []; body = table_scan entries_tree by_id (col 1 0 ∷ removed_project) }))
 unfolding understood everything
-removed_is = refl
-
-pub removed_plain : IsPlain (understood vault_schema removed_text)
-unfolding understood everything
-removed_plain = (refl, refl)
+removed_is = record { command = refl; plain = (refl, refl) }
 
 pub finds_entry : FindsWhere (codes "SELECT id FROM entries WHERE id = ?1") entries_tree by_id
 unfolding understood everything
@@ -47,13 +43,9 @@ finds_entry = record { names = codes "id" ∷ []; command = refl; unlisted = ref
 abbrev pub no_content_text : List ℕ
 no_content_text = codes "DELETE FROM contents WHERE id = ?1"
 
-pub no_content_is : command_of (understood vault_schema no_content_text) ≡ Delete 6 (record { lets = []; body = table_scan contents_tree by_id (col 1 0 ∷ []) })
+pub no_content_is : Means no_content_text (Delete 6 (record { lets = []; body = table_scan contents_tree by_id (col 1 0 ∷ []) }))
 unfolding understood everything
-no_content_is = refl
-
-pub no_content_plain : IsPlain (understood vault_schema no_content_text)
-unfolding understood everything
-no_content_plain = (refl, refl)
+no_content_is = record { command = refl; plain = (refl, refl) }
 
 pub finds_content : FindsWhere (codes "SELECT id FROM contents WHERE id = ?1") contents_tree by_id
 unfolding understood everything
@@ -74,13 +66,9 @@ moved_project = lit Null ∷ col 1 0 ∷ col 0 1 ∷ col 0 2 ∷ col 0 3 ∷ []
 abbrev pub moved_collations : List Collation
 moved_collations = Binary ∷ Binary ∷ Binary ∷ Binary ∷ Binary ∷ []
 
-pub moved_is : command_of (understood vault_schema moved_text) ≡ Insert 10 (Query (record { lets = []; body = scan_as moved_collations entries_tree moved_tests moved_project }))
+pub moved_is : Means moved_text (Insert 10 (Query (record { lets = []; body = scan_as moved_collations entries_tree moved_tests moved_project })))
 unfolding understood everything
-moved_is = refl
-
-pub moved_plain : IsPlain (understood vault_schema moved_text)
-unfolding understood everything
-moved_plain = (refl, refl)
+moved_is = record { command = refl; plain = (refl, refl) }
 
 -- ---- heads
 
@@ -94,24 +82,16 @@ newer_text = codes "UPDATE heads SET newest = ?3, count = ?4 WHERE bucket = ?1 A
 abbrev pub newer_project : List Term
 newer_project = col 1 0 ∷ col 1 1 ∷ col 1 2 ∷ col 0 2 ∷ col 0 3 ∷ []
 
-pub newer_is : command_of (understood vault_schema newer_text) ≡ Update 9 (record { lets = []; body = table_scan heads_tree by_key (col 1 0 ∷ newer_project) })
+pub newer_is : Means newer_text (Update 9 (record { lets = []; body = table_scan heads_tree by_key (col 1 0 ∷ newer_project) }))
 unfolding understood everything
-newer_is = refl
-
-pub newer_plain : IsPlain (understood vault_schema newer_text)
-unfolding understood everything
-newer_plain = (refl, refl)
+newer_is = record { command = refl; plain = (refl, refl) }
 
 abbrev pub no_head_text : List ℕ
 no_head_text = codes "DELETE FROM heads WHERE bucket = ?1 AND key = ?2"
 
-pub no_head_is : command_of (understood vault_schema no_head_text) ≡ Delete 9 (record { lets = []; body = table_scan heads_tree by_key (col 1 0 ∷ []) })
+pub no_head_is : Means no_head_text (Delete 9 (record { lets = []; body = table_scan heads_tree by_key (col 1 0 ∷ []) }))
 unfolding understood everything
-no_head_is = refl
-
-pub no_head_plain : IsPlain (understood vault_schema no_head_text)
-unfolding understood everything
-no_head_plain = (refl, refl)
+no_head_is = record { command = refl; plain = (refl, refl) }
 
 pub finds_head : FindsWhere (codes "SELECT rowid FROM heads WHERE bucket = ?1 AND key = ?2") heads_tree by_key
 unfolding understood everything

@@ -1,5 +1,6 @@
 pub mod BoundLemmas
 pub mod CastLemmas
+mod ChangeLemmas
 pub mod CopyLemmas
 mod EntryRowLemmas
 mod EntryTextLemmas

@@ -21,7 +21,7 @@ use Rattle.vault_audit_model.proofs.ValueLemmas.{cast_int}
 use Rattle.vault_store_edits.proofs.CastLemmas.{cast_number, cast_number_or_null}
 use Rattle.vault_store_edits.proofs.StatementLemmas.{Leaves, updates, deletes}
 use Rattle.vault_store_edits.proofs.TestLemmas.{text_test}
-use Rattle.vault_store_edits.proofs.RecordTextLemmas.{by_name, sums_text, sums_project, sums_is, sums_plain, closed_text, closed_project, closed_is, closed_plain, default_text, default_project, default_is, default_plain, owner_text, owner_project, owner_is, owner_plain, no_rules_text, no_rules_is, no_rules_plain, last_text, last_project, last_is, last_plain, next_text, next_project, next_is, next_plain, moves_text, moves_project, moves_is, moves_plain}
+use Rattle.vault_store_edits.proofs.RecordTextLemmas.{by_name, sums_text, sums_project, sums_is, closed_text, closed_project, closed_is, default_text, default_project, default_is, owner_text, owner_project, owner_is, no_rules_text, no_rules_is, last_text, last_project, last_is, next_text, next_project, next_is, moves_text, moves_project, moves_is}
 use Rattle.vault_store_edits.proofs.TypeLemmas.{column_taken}
 
 -- the name in the first column is the first parameter
@@ -34,7 +34,7 @@ module _ (last : ℕ) where
   pub sets_last : (old new : State) (count : ℕ) → IsApart (passes [] (number last ∷ [])) (old.now.trees meta_tree) → IsDatabase old.now → old.now.schema ≡ vault_schema
       → Executes last_text (number last ∷ []) old new (Ok count) → Leaves old new (with_changed table.Meta every (with_last last))
   sets_last =
-      updates table.Meta 0 meta last_text (number last ∷ []) [] every refl last_plain (λ r whole. refl) last_project (with_last last) last_is (λ limit mode text db out h. h) (λ db k. k.0)
+      updates table.Meta 0 meta last_text (number last ∷ []) [] every refl (λ r whole. refl) last_project (with_last last) last_is (λ limit mode text db out h. h) (λ db k. k.0)
       (λ r typed id is.
       let one : cast kind.Integer (column r 0) ≡ column r 0 = subst (λ v. cast kind.Integer v ≡ v) (sym is) (cast_int id) in
       let schema : cast kind.Integer (column r 2) ≡ column r 2 = column_taken meta r refl typed 1 _ refl in
@@ -45,7 +45,7 @@ module _ (last : ℕ) where
   pub sets_next : (next : ℕ) (old new : State) (count : ℕ) → IsApart (passes [] (number last ∷ number next ∷ [])) (old.now.trees meta_tree) → IsDatabase old.now → old.now.schema ≡ vault_schema
       → Executes next_text (number last ∷ number next ∷ []) old new (Ok count) → Leaves old new (with_changed table.Meta every (with_last_and_next last next))
   sets_next next =
-      updates table.Meta 0 meta next_text (number last ∷ number next ∷ []) [] every refl next_plain (λ r whole. refl) next_project (with_last_and_next last next) next_is (λ limit mode text db out h. h) (λ db k. k.0)
+      updates table.Meta 0 meta next_text (number last ∷ number next ∷ []) [] every refl (λ r whole. refl) next_project (with_last_and_next last next) next_is (λ limit mode text db out h. h) (λ db k. k.0)
       (λ r typed id is.
       let one : cast kind.Integer (column r 0) ≡ column r 0 = subst (λ v. cast kind.Integer v ≡ v) (sym is) (cast_int id) in
       let schema : cast kind.Integer (column r 2) ≡ column r 2 = column_taken meta r refl typed 1 _ refl in
@@ -55,7 +55,7 @@ module _ (last : ℕ) where
   pub sets_moves : (moves : ℕ) (old new : State) (count : ℕ) → IsApart (passes [] (number last ∷ number moves ∷ [])) (old.now.trees meta_tree) → IsDatabase old.now → old.now.schema ≡ vault_schema
       → Executes moves_text (number last ∷ number moves ∷ []) old new (Ok count) → Leaves old new (with_changed table.Meta every (with_last_and_moves last moves))
   sets_moves moves =
-      updates table.Meta 0 meta moves_text (number last ∷ number moves ∷ []) [] every refl moves_plain (λ r whole. refl) moves_project (with_last_and_moves last moves) moves_is (λ limit mode text db out h. h) (λ db k. k.0)
+      updates table.Meta 0 meta moves_text (number last ∷ number moves ∷ []) [] every refl (λ r whole. refl) moves_project (with_last_and_moves last moves) moves_is (λ limit mode text db out h. h) (λ db k. k.0)
       (λ r typed id is.
       let one : cast kind.Integer (column r 0) ≡ column r 0 = subst (λ v. cast kind.Integer v ≡ v) (sym is) (cast_int id) in
       let schema : cast kind.Integer (column r 2) ≡ column r 2 = column_taken meta r refl typed 1 _ refl in
@@ -70,7 +70,7 @@ sums_params name sums = Text name ∷ number sums.admitted ∷ number sums.held 
 pub sets_sums : (name : List ℕ) (sums : Sums) (old new : State) (count : ℕ) → IsApart (passes by_name (sums_params name sums)) (old.now.trees departments_tree) → IsDatabase old.now → old.now.schema ≡ vault_schema
     → Executes sums_text (sums_params name sums) old new (Ok count) → Leaves old new (with_changed table.Departments (is_named name) (with_sums sums))
 sets_sums name sums =
-    updates table.Departments 1 departments sums_text (sums_params name sums) by_name (is_named name) refl sums_plain (λ r whole. named name (number sums.admitted ∷ number sums.held ∷ number sums.removed ∷ number sums.weighted ∷ number sums.closed ∷ number sums.received ∷ number sums.handed ∷ []) r) sums_project (with_sums sums) sums_is (λ limit mode text db out h. h) (λ db k. k.1.0)
+    updates table.Departments 1 departments sums_text (sums_params name sums) by_name (is_named name) refl (λ r whole. named name (number sums.admitted ∷ number sums.held ∷ number sums.removed ∷ number sums.weighted ∷ number sums.closed ∷ number sums.received ∷ number sums.handed ∷ []) r) sums_project (with_sums sums) sums_is (λ limit mode text db out h. h) (λ db k. k.1.0)
     (λ r typed id is.
     let first : cast kind.Text (column r 1) ≡ column r 1 = column_taken departments r refl typed 0 _ refl in
     rw (first, cast_number sums.admitted, cast_number sums.held, cast_number sums.removed, cast_number sums.weighted, cast_number sums.closed, cast_number sums.received, cast_number sums.handed) refl)
@@ -80,7 +80,7 @@ sets_sums name sums =
 pub closes_caller : (name : List ℕ) (old new : State) (count : ℕ) → IsApart (passes by_name (Text name ∷ [])) (old.now.trees callers_tree) → IsDatabase old.now → old.now.schema ≡ vault_schema
     → Executes closed_text (Text name ∷ []) old new (Ok count) → Leaves old new (with_changed table.Callers (is_named name) closed_row)
 closes_caller name =
-    updates table.Callers 2 callers closed_text (Text name ∷ []) by_name (is_named name) refl closed_plain (λ r whole. named name [] r) closed_project closed_row closed_is (λ limit mode text db out h. h) (λ db k. k.1.1.0)
+    updates table.Callers 2 callers closed_text (Text name ∷ []) by_name (is_named name) refl (λ r whole. named name [] r) closed_project closed_row closed_is (λ limit mode text db out h. h) (λ db k. k.1.1.0)
     (λ r typed id is.
     let first : cast kind.Text (column r 1) ≡ column r 1 = column_taken callers r refl typed 0 _ refl in
     let dept : cast kind.Text (column r 2) ≡ column r 2 = column_taken callers r refl typed 1 _ refl in
@@ -95,7 +95,7 @@ default_params name default = Text name ∷ default_mode default ∷ default_day
 pub sets_default : (name : List ℕ) (default : Option Default) (old new : State) (count : ℕ) → IsApart (passes by_name (default_params name default)) (old.now.trees buckets_tree) → IsDatabase old.now → old.now.schema ≡ vault_schema
     → Executes default_text (default_params name default) old new (Ok count) → Leaves old new (with_changed table.Buckets (is_named name) (with_default_columns default))
 sets_default name default =
-    updates table.Buckets 3 buckets default_text (default_params name default) by_name (is_named name) refl default_plain (λ r whole. named name (default_mode default ∷ default_days default ∷ default_years default ∷ []) r) default_project (with_default_columns default) default_is (λ limit mode text db out h. h) (λ db k. k.1.1.1.0)
+    updates table.Buckets 3 buckets default_text (default_params name default) by_name (is_named name) refl (λ r whole. named name (default_mode default ∷ default_days default ∷ default_years default ∷ []) r) default_project (with_default_columns default) default_is (λ limit mode text db out h. h) (λ db k. k.1.1.1.0)
     (λ r typed id is.
     let first : cast kind.Text (column r 1) ≡ column r 1 = column_taken buckets r refl typed 0 _ refl in
     let dept : cast kind.Text (column r 2) ≡ column r 2 = column_taken buckets r refl typed 1 _ refl in
@@ -110,7 +110,7 @@ owner_params name dept = Text name ∷ Text dept ∷ []
 pub sets_owner : (name dept : List ℕ) (old new : State) (count : ℕ) → IsApart (passes by_name (owner_params name dept)) (old.now.trees buckets_tree) → IsDatabase old.now → old.now.schema ≡ vault_schema
     → Executes owner_text (owner_params name dept) old new (Ok count) → Leaves old new (with_changed table.Buckets (is_named name) (with_owner dept))
 sets_owner name dept =
-    updates table.Buckets 3 buckets owner_text (owner_params name dept) by_name (is_named name) refl owner_plain (λ r whole. named name (Text dept ∷ []) r) owner_project (with_owner dept) owner_is (λ limit mode text db out h. h) (λ db k. k.1.1.1.0)
+    updates table.Buckets 3 buckets owner_text (owner_params name dept) by_name (is_named name) refl (λ r whole. named name (Text dept ∷ []) r) owner_project (with_owner dept) owner_is (λ limit mode text db out h. h) (λ db k. k.1.1.1.0)
     (λ r typed id is.
     let first : cast kind.Text (column r 1) ≡ column r 1 = column_taken buckets r refl typed 0 _ refl in
     let mode : cast kind.Integer (column r 3) ≡ column r 3 = column_taken buckets r refl typed 2 _ refl in
@@ -122,4 +122,4 @@ sets_owner name dept =
 
 pub drops_rules : (bucket : List ℕ) (old new : State) (count : ℕ) → IsApart (passes by_name (Text bucket ∷ [])) (old.now.trees rules_tree) → old.now.schema ≡ vault_schema → Executes no_rules_text (Text bucket ∷ []) old new (Ok count)
     → Leaves old new (without table.Rules (is_named bucket))
-drops_rules bucket = deletes table.Rules 4 rules no_rules_text (Text bucket ∷ []) by_name (is_named bucket) refl no_rules_plain (λ r whole. named bucket [] r) no_rules_is (λ limit mode text db out h. h)
+drops_rules bucket = deletes table.Rules 4 rules no_rules_text (Text bucket ∷ []) by_name (is_named bucket) refl (λ r whole. named bucket [] r) no_rules_is (λ limit mode text db out h. h)

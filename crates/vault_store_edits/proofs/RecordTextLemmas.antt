@@ -1,14 +1,14 @@
 -- What the statements on meta, departments, callers, buckets and rules mean.
-use Rattle.std.proofs.Common.{◌≡◌, ℕ, pos, List, [], ◌∷◌, codes, refl}
+use Rattle.std.proofs.Common.{ℕ, pos, List, [], ◌∷◌, codes, refl}
 use Rattle.sqlite_tied.specs.Compute.{everything}
 use Rattle.sqlite.specs.declared.types.Value.TheVariants.{Null, Int}
 use Rattle.sqlite.specs.Term.{Term, lit, col}
 use Rattle.sqlite.specs.Command.TheVariants.{Update, Delete}
 use Rattle.sqlite.specs.Listing.{understood}
-use Rattle.sqlite.proofs.Callers.{IsPlain, command_of}
-use Rattle.vault_audit_model.specs.Tables.{vault_schema, meta_tree, departments_tree, callers_tree, buckets_tree, rules_tree}
+use Rattle.vault_audit_model.specs.Tables.{meta_tree, departments_tree, callers_tree, buckets_tree, rules_tree}
 use Rattle.vault_store_model.specs.Scans.{table_scan}
 use Rattle.vault_store_edits.specs.Queries.{equals, FindsWhere}
+use Rattle.vault_store_edits.proofs.StatementLemmas.{Means}
 
 -- ---- departments
 
@@ -22,13 +22,9 @@ sums_project = col 1 0 ∷ col 1 1 ∷ col 0 1 ∷ col 0 2 ∷ col 0 3 ∷ col 0
 abbrev pub by_name : List Term
 by_name = equals 1 0 ∷ []
 
-pub sums_is : command_of (understood vault_schema sums_text) ≡ Update 1 (record { lets = []; body = table_scan departments_tree by_name (col 1 0 ∷ sums_project) })
+pub sums_is : Means sums_text (Update 1 (record { lets = []; body = table_scan departments_tree by_name (col 1 0 ∷ sums_project) }))
 unfolding understood everything
-sums_is = refl
-
-pub sums_plain : IsPlain (understood vault_schema sums_text)
-unfolding understood everything
-sums_plain = (refl, refl)
+sums_is = record { command = refl; plain = (refl, refl) }
 
 pub finds_department : FindsWhere (codes "SELECT rowid FROM departments WHERE name = ?1") departments_tree by_name
 unfolding understood everything
@@ -42,13 +38,9 @@ closed_text = codes "UPDATE callers SET closed = 1 WHERE name = ?1"
 abbrev pub closed_project : List Term
 closed_project = col 1 0 ∷ col 1 1 ∷ col 1 2 ∷ col 1 3 ∷ lit (Int (pos 1)) ∷ []
 
-pub closed_is : command_of (understood vault_schema closed_text) ≡ Update 2 (record { lets = []; body = table_scan callers_tree by_name (col 1 0 ∷ closed_project) })
+pub closed_is : Means closed_text (Update 2 (record { lets = []; body = table_scan callers_tree by_name (col 1 0 ∷ closed_project) }))
 unfolding understood everything
-closed_is = refl
-
-pub closed_plain : IsPlain (understood vault_schema closed_text)
-unfolding understood everything
-closed_plain = (refl, refl)
+closed_is = record { command = refl; plain = (refl, refl) }
 
 pub finds_caller : FindsWhere (codes "SELECT rowid FROM callers WHERE name = ?1") callers_tree by_name
 unfolding understood everything
@@ -62,13 +54,9 @@ default_text = codes "UPDATE buckets SET mode = ?2, days = ?3, years = ?4 WHERE 
 abbrev pub default_project : List Term
 default_project = col 1 0 ∷ col 1 1 ∷ col 1 2 ∷ col 0 1 ∷ col 0 2 ∷ col 0 3 ∷ []
 
-pub default_is : command_of (understood vault_schema default_text) ≡ Update 3 (record { lets = []; body = table_scan buckets_tree by_name (col 1 0 ∷ default_project) })
+pub default_is : Means default_text (Update 3 (record { lets = []; body = table_scan buckets_tree by_name (col 1 0 ∷ default_project) }))
 unfolding understood everything
-default_is = refl
-
-pub default_plain : IsPlain (understood vault_schema default_text)
-unfolding understood everything
-default_plain = (refl, refl)
+default_is = record { command = refl; plain = (refl, refl) }
 
 abbrev pub owner_text : List ℕ
 owner_text = codes "UPDATE buckets SET dept = ?2 WHERE name = ?1"
@@ -76,13 +64,9 @@ owner_text = codes "UPDATE buckets SET dept = ?2 WHERE name = ?1"
 abbrev pub owner_project : List Term
 owner_project = col 1 0 ∷ col 1 1 ∷ col 0 1 ∷ col 1 3 ∷ col 1 4 ∷ col 1 5 ∷ []
 
-pub owner_is : command_of (understood vault_schema owner_text) ≡ Update 3 (record { lets = []; body = table_scan buckets_tree by_name (col 1 0 ∷ owner_project) })
+pub owner_is : Means owner_text (Update 3 (record { lets = []; body = table_scan buckets_tree by_name (col 1 0 ∷ owner_project) }))
 unfolding understood everything
-owner_is = refl
-
-pub owner_plain : IsPlain (understood vault_schema owner_text)
-unfolding understood everything
-owner_plain = (refl, refl)
+owner_is = record { command = refl; plain = (refl, refl) }
 
 pub finds_bucket : FindsWhere (codes "SELECT rowid FROM buckets WHERE name = ?1") buckets_tree by_name
 unfolding understood everything
@@ -93,13 +77,9 @@ finds_bucket = record { names = codes "rowid" ∷ []; command = refl; unlisted =
 abbrev pub no_rules_text : List ℕ
 no_rules_text = codes "DELETE FROM rules WHERE bucket = ?1"
 
-pub no_rules_is : command_of (understood vault_schema no_rules_text) ≡ Delete 4 (record { lets = []; body = table_scan rules_tree by_name (col 1 0 ∷ []) })
+pub no_rules_is : Means no_rules_text (Delete 4 (record { lets = []; body = table_scan rules_tree by_name (col 1 0 ∷ []) }))
 unfolding understood everything
-no_rules_is = refl
-
-pub no_rules_plain : IsPlain (understood vault_schema no_rules_text)
-unfolding understood everything
-no_rules_plain = (refl, refl)
+no_rules_is = record { command = refl; plain = (refl, refl) }
 
 pub finds_rules : FindsWhere (codes "SELECT rowid FROM rules WHERE bucket = ?1") rules_tree by_name
 unfolding understood everything
@@ -113,13 +93,9 @@ last_text = codes "UPDATE meta SET last = ?1"
 abbrev pub last_project : List Term
 last_project = col 1 0 ∷ lit Null ∷ col 1 2 ∷ col 0 0 ∷ col 1 4 ∷ col 1 5 ∷ []
 
-pub last_is : command_of (understood vault_schema last_text) ≡ Update 0 (record { lets = []; body = table_scan meta_tree [] (col 1 0 ∷ last_project) })
+pub last_is : Means last_text (Update 0 (record { lets = []; body = table_scan meta_tree [] (col 1 0 ∷ last_project) }))
 unfolding understood everything
-last_is = refl
-
-pub last_plain : IsPlain (understood vault_schema last_text)
-unfolding understood everything
-last_plain = (refl, refl)
+last_is = record { command = refl; plain = (refl, refl) }
 
 abbrev pub next_text : List ℕ
 next_text = codes "UPDATE meta SET last = ?1, next = ?2"
@@ -127,13 +103,9 @@ next_text = codes "UPDATE meta SET last = ?1, next = ?2"
 abbrev pub next_project : List Term
 next_project = col 1 0 ∷ lit Null ∷ col 1 2 ∷ col 0 0 ∷ col 0 1 ∷ col 1 5 ∷ []
 
-pub next_is : command_of (understood vault_schema next_text) ≡ Update 0 (record { lets = []; body = table_scan meta_tree [] (col 1 0 ∷ next_project) })
+pub next_is : Means next_text (Update 0 (record { lets = []; body = table_scan meta_tree [] (col 1 0 ∷ next_project) }))
 unfolding understood everything
-next_is = refl
-
-pub next_plain : IsPlain (understood vault_schema next_text)
-unfolding understood everything
-next_plain = (refl, refl)
+next_is = record { command = refl; plain = (refl, refl) }
 
 abbrev pub moves_text : List ℕ
 moves_text = codes "UPDATE meta SET last = ?1, moves = ?2"
@@ -141,13 +113,9 @@ moves_text = codes "UPDATE meta SET last = ?1, moves = ?2"
 abbrev pub moves_project : List Term
 moves_project = col 1 0 ∷ lit Null ∷ col 1 2 ∷ col 0 0 ∷ col 1 4 ∷ col 0 1 ∷ []
 
-pub moves_is : command_of (understood vault_schema moves_text) ≡ Update 0 (record { lets = []; body = table_scan meta_tree [] (col 1 0 ∷ moves_project) })
+pub moves_is : Means moves_text (Update 0 (record { lets = []; body = table_scan meta_tree [] (col 1 0 ∷ moves_project) }))
 unfolding understood everything
-moves_is = refl
-
-pub moves_plain : IsPlain (understood vault_schema moves_text)
-unfolding understood everything
-moves_plain = (refl, refl)
+moves_is = record { command = refl; plain = (refl, refl) }
 
 pub finds_meta : FindsWhere (codes "SELECT rowid FROM meta") meta_tree []
 unfolding understood everything

@@ -1,5 +1,5 @@
 -- What a statement does to the rows of its table, and that it does nothing to those of the others.
-use Rattle.std.proofs.Common.{◌≡◌, ◌≢◌, ◌==◌, ℕ, ℤ, ◌/◌, List, [], ◌∷◌, ◌++◌, length, map, filter, flat_map, drop, not, Bool, true, false, None, Option, Ok, Err, Result, OnOk, OnErr, refl, sym, ap, subst, subst₂, ◌∙◌}
+use Rattle.std.proofs.Common.{◌≡◌, ◌≢◌, ◌==◌, ℕ, ℤ, ◌/◌, List, [], ◌∷◌, ◌++◌, length, map, filter, flat_map, drop, not, Bool, true, false, None, Option, Ok, Err, Result, OnOk, refl, sym, ap, subst, subst₂, ◌∙◌}
 use Rattle.std.specs.Prelude.{IsPermutation}
 use Rattle.std.specs.List.{AllByRecursion, filter_map}
 use Rattle.std.proofs.lemmas.Bool.{and_parts, not-true}
@@ -13,6 +13,7 @@ use Rattle.sqlite_sql.specs.Term.{Term, col}
 use Rattle.sqlite_schema.specs.declared.schema.Constraint.TheVariants.{Datatype}
 use Rattle.sqlite_schema.specs.declared.schema.Keys.TheVariants.{Enforced}
 use Rattle.sqlite_schema.specs.declared.schema.Table.{Table as Columns}
+use Rattle.sqlite_schema.specs.declared.command.Command.{Command}
 use Rattle.sqlite_schema.specs.declared.command.Command.TheVariants.{Insert, Update, Delete}
 use Rattle.sqlite_schema.specs.declared.command.Source.{Source}
 use Rattle.sqlite_schema.specs.declared.command.Source.TheVariants.{Values}
@@ -33,7 +34,7 @@ use Rattle.sqlite.specs.Effect.{Database, IsDatabase, Answers, value_rows}
 use Rattle.sqlite.specs.Rows.{Written, Sourced, stamped}
 use Rattle.sqlite.specs.Does.{Tally, Does, OnRows}
 use Rattle.sqlite.specs.Listing.{understood}
-use Rattle.sqlite.specs.State.{State, Executes, ExecutesInside, KeepsCommit, IsUnchanged, mode_of}
+use Rattle.sqlite.specs.State.{State, Executes, ExecutesInside, KeepsCommit, mode_of}
 use Rattle.sqlite.proofs.Callers.{IsPlain, command_of, statement_of, runs_as, one_step}
 use Rattle.vault_base.specs.declared.refusal.Table.{Table}
 use Rattle.vault_audit_model.specs.Tables.{vault_schema}
@@ -47,6 +48,11 @@ use Rattle.vault_store_model.specs.Scans.{table_scan, passes, shows}
 use Rattle.vault_store_edits.proofs.TableLemmas.{edited_alone}
 use Rattle.vault_store_edits.proofs.ListLemmas.{put_permutes, put_all_permutes, filter_alike, left_is, changed_apart}
 use Rattle.vault_store_model.proofs.ScanLemmas.{scanned}
+
+-- over the tables of a vault the text is understood as this command
+pub record Means (sql : List ℕ) (what : Command) : Type 0 where
+  pub command : command_of (understood vault_schema sql) ≡ what
+  pub plain : IsPlain (understood vault_schema sql)
 
 -- ---- parts of a transaction
 
@@ -75,51 +81,8 @@ pub sound_if : (text : List ℕ) (params : Row) (old new : State) (edit : Rows �
 sound_if text params old new edit (Err e) has does h = tt
 sound_if text params old new edit (Ok count) has does (h, _, _) = (does count has h).sound
 
--- the same after a look that changes nothing
-pub edits_checked : (text : List ℕ) (params : Row) (old mid new : State) (edit : Rows → Rows) (r : Result ℕ Error) → IgnoresOrder edit → KeepsCommit old mid
-    → ((count : ℕ) → old.now.schema ≡ vault_schema → Executes text params mid new (Ok count) → Leaves old new edit) → ExecutesInside 0 text params mid new r → OnOk r (Edits old new edit)
-edits_checked text params old mid new edit (Err e) ignores kept does h = tt
-edits_checked text params old mid new edit (Ok count) ignores kept does (h, shown, _) = record {
-  was_open = kept.was_open shown.was_open;
-  is_open = shown.is_open;
-  inside = shown.mode;
-  committed = shown.committed_is ∙ kept.committed shown.was_open;
-  schema = λ has. (does count has h).schema;
-  rows = λ has. (does count has h).rows;
-  ignores = ignores;
-}
-
-pub sound_checked : (text : List ℕ) (params : Row) (old mid new : State) (edit : Rows → Rows) (r : Result ℕ Error) → old.now.schema ≡ vault_schema
-    → ((count : ℕ) → old.now.schema ≡ vault_schema → Executes text params mid new (Ok count) → Leaves old new edit) → ExecutesInside 0 text params mid new r → OnOk r (IsDatabase new.now)
-sound_checked text params old mid new edit (Err e) has does h = tt
-sound_checked text params old mid new edit (Ok count) has does (h, _, _) = (does count has h).sound
-
-pub leaves_from : (old mid new : State) (edit : Rows → Rows) → mid.now ≡ old.now → Leaves mid new edit → Leaves old new edit
-leaves_from old mid new edit same it =
-    record { schema = it.schema; rows = subst (λ db. AreSameRows (edit (rows_in db)) (rows_in new.now)) same it.rows; sound = it.sound }
-
--- what a statement leaves where a look before it changed nothing and found rows that stand alone
-module _ (t : Table) (test : Row → Bool) (old mid new : State) (edit : Rows → Rows) (look : IsUnchanged old mid × IsApart test (old.now.trees (tree_of t))) (has : old.now.schema ≡ vault_schema) where
-  abbrev now_is : old.now ≡ mid.now
-  now_is = sym look.0.0.now_is
-
-  pub deletes_after : (IsApart test (mid.now.trees (tree_of t)) → mid.now.schema ≡ vault_schema → Leaves mid new edit) → Leaves old new edit
-  deletes_after does =
-      leaves_from old mid new edit look.0.0.now_is (does (subst (λ (db : Database). IsApart test (db.trees (tree_of t))) now_is look.1) (subst (λ (db : Database). db.schema ≡ vault_schema) now_is has))
-
-  pub updates_after : IsDatabase old.now → (IsApart test (mid.now.trees (tree_of t)) → IsDatabase mid.now → mid.now.schema ≡ vault_schema → Leaves mid new edit) → Leaves old new edit
-  updates_after live does = deletes_after (λ apart known. does apart (subst IsDatabase now_is live) known)
-
-pub on_err : {A E : Type 0} {Q : Type 0} (r : Result A E) → Q → OnErr r Q
-on_err (Ok a) q = tt
-on_err (Err e) q = q
-
 pub kept_then : (old mid new : State) → KeepsCommit old mid → KeepsCommit mid new → KeepsCommit old new
 kept_then old mid new one two = record { was_open = λ h. one.was_open (two.was_open h); committed = λ h. two.committed h ∙ one.committed (two.was_open h) }
-
-pub refused_after : (old mid new : State) (r : Result ℕ Error) → KeepsCommit old mid → OnErr r (KeepsCommit mid new) → OnErr r (KeepsCommit old new)
-refused_after old mid new (Ok count) one two = tt
-refused_after old mid new (Err e) one two = kept_then old mid new one two
 
 -- ---- INSERT
 
@@ -203,13 +166,13 @@ module _ (limit : Option ℕ) (mode : Mode) (base : Columns) (params : Row) (at 
       (given.0, given.1, subst (λ t. Applies vault_schema mode.keys db edit t) (sym (ap (λ (d : Database). d.trees) now ∙ trees)) step, ap (λ (d : Database). d.schema) now)
 
 -- The rows of a table that pass tests go, or are changed. Each of them has a rowid of its own.
-module _ (t : Table) (at : ℕ) (base : Columns) (sql : List ℕ) (params : Row) (tests : List Term) (test : Row → Bool) (here : base.tree ≡ tree_of t) (plain : IsPlain (understood vault_schema sql))
+module _ (t : Table) (at : ℕ) (base : Columns) (sql : List ℕ) (params : Row) (tests : List Term) (test : Row → Bool) (here : base.tree ≡ tree_of t)
     (agrees : (r : Row) → (passes tests params r ≡ true → (id : ℤ) × (rowid r ≡ Int id)) → passes tests params r ≡ test (columns_of t r)) where
   -- the rows whose rowid is whole where they pass pass both tests or none
   both_tests : (rows : List Row) → IsApart (passes tests params) rows → (r : Row) → Has rows r → passes tests params r ≡ test (columns_of t r)
   both_tests rows apart r there = agrees r (λ passed. let it = apart r there passed in (it.0, it.1))
 
-  module _ (is : command_of (understood vault_schema sql) ≡ Delete at (record { lets = []; body = table_scan base.tree tests (col 1 0 ∷ []) }))
+  module _ (is : Means sql (Delete at (record { lets = []; body = table_scan base.tree tests (col 1 0 ∷ []) })))
       (places : (limit : Option ℕ) (mode : Mode) (text : List ℕ) (db : Trees) (out : Result (Tally × Database) (Option Error))
       → Does limit mode params (record { schema = vault_schema; trees = db }) text None (Delete at (record { lets = []; body = table_scan base.tree tests (col 1 0 ∷ []) })) out
       → OnRows (task_on limit mode base params) mode None (Delete at (record { lets = []; body = table_scan base.tree tests (col 1 0 ∷ []) })) db out) where
@@ -217,7 +180,7 @@ module _ (t : Table) (at : ℕ) (base : Columns) (sql : List ℕ) (params : Row)
     deletes old new count apart_here has h =
         let q : Program = record { lets = []; body = table_scan base.tree tests (col 1 0 ∷ []) } in
         let command = Delete at q in
-        let w = runs_as sql params old new vault_schema has command is plain count h in
+        let w = runs_as sql params old new vault_schema has command is.command is.plain count h in
         let text = statement_of sql (understood vault_schema sql) in
         let did = subst (λ s. Does old.step_limit (mode_of old) params (record old.now { schema = s }) text None command (Ok (w.tally, new.now))) has w.changed in
         let it = deleted old.step_limit (mode_of old) base params at q old.now.trees w.tally new.now (idle base.tree) (places old.step_limit (mode_of old) text old.now.trees _ did) in
@@ -236,7 +199,7 @@ module _ (t : Table) (at : ℕ) (base : Columns) (sql : List ℕ) (params : Row)
           sound = w.sound;
         }
 
-  module _ (project : List Term) (change : Row → Row) (is : command_of (understood vault_schema sql) ≡ Update at (record { lets = []; body = table_scan base.tree tests (col 1 0 ∷ project) }))
+  module _ (project : List Term) (change : Row → Row) (is : Means sql (Update at (record { lets = []; body = table_scan base.tree tests (col 1 0 ∷ project) })))
       (places : (limit : Option ℕ) (mode : Mode) (text : List ℕ) (db : Trees) (out : Result (Tally × Database) (Option Error))
       → Does limit mode params (record { schema = vault_schema; trees = db }) text None (Update at (record { lets = []; body = table_scan base.tree tests (col 1 0 ∷ project) })) out
       → OnRows (task_on limit mode base params) mode None (Update at (record { lets = []; body = table_scan base.tree tests (col 1 0 ∷ project) })) db out)
@@ -247,7 +210,7 @@ module _ (t : Table) (at : ℕ) (base : Columns) (sql : List ℕ) (params : Row)
     updates old new count apart_here sound has h =
         let q : Program = record { lets = []; body = table_scan base.tree tests (col 1 0 ∷ project) } in
         let command = Update at q in
-        let w = runs_as sql params old new vault_schema has command is plain count h in
+        let w = runs_as sql params old new vault_schema has command is.command is.plain count h in
         let text = statement_of sql (understood vault_schema sql) in
         let did = subst (λ s. Does old.step_limit (mode_of old) params (record old.now { schema = s }) text None command (Ok (w.tally, new.now))) has w.changed in
         let it = updated old.step_limit (mode_of old) base params at q old.now.trees w.tally new.now (idle base.tree) (places old.step_limit (mode_of old) text old.now.trees _ did) in

@@ -1,10 +1,24 @@
--- Where the rows of each table are kept, and how a row as it is kept states its columns.
+-- The columns of each table, where its rows are kept, and how a row as it is kept states its columns.
 use Rattle.std.specs.Prelude.{ℕ}
 use Rattle.sqlite_value.specs.Order.{Row}
+use Rattle.sqlite_schema.specs.declared.schema.Table.{Table as Columns}
 use Rattle.vault_base.specs.declared.refusal.Table.{Table}
 use Rattle.vault_base.specs.declared.refusal.Table.TheVariants as table
-use Rattle.vault_audit_model.specs.Tables.{meta_tree, departments_tree, callers_tree, buckets_tree, rules_tree, entries_tree, contents_tree, settings_tree, intake_tree, heads_tree, tenures_tree}
+use Rattle.vault_audit_model.specs.Tables.{meta, departments, callers, buckets, rules, entries, contents, settings, intake, heads, tenures, meta_tree, departments_tree, callers_tree, buckets_tree, rules_tree, entries_tree, contents_tree, settings_tree, intake_tree, heads_tree, tenures_tree}
 use Rattle.vault_audit_model.specs.Rows.{meta_columns, department_columns, caller_columns, bucket_columns, rule_columns, entry_columns, content_columns, setting_columns, note_columns, head_columns, tenure_columns}
+
+abbrev pub made_as : Table → Columns
+made_as table.Meta = meta
+made_as table.Departments = departments
+made_as table.Callers = callers
+made_as table.Buckets = buckets
+made_as table.Rules = rules
+made_as table.Entries = entries
+made_as table.Contents = contents
+made_as table.Settings = settings
+made_as table.Intake = intake
+made_as table.Heads = heads
+made_as table.Tenures = tenures
 
 abbrev pub tree_of : Table → ℕ
 tree_of table.Meta = meta_tree

@@ -26,14 +26,11 @@ struct NewBucket<'a> {
 impl<'a> Put for NewBucket<'a> {
     ghost use Rattle.vault_base.specs.declared.refusal.Table.TheVariants as table;
     ghost use Rattle.vault_audit_model.specs.Rows.{bucket_row};
-    ghost use Rattle.vault_audit_model.specs.Tables.{buckets};
     ghost use Rattle.vault_store_edits.specs.BucketLaws.{bucket_inserts};
     ghost use Rattle.vault_audit_model.specs.Limits.{IsBucketName, IsPlainName};
     ghost use Rattle.vault_store_edits.specs.NewRows.{new_bucket};
 
     ghost table = { table.Buckets };
-
-    ghost made = { buckets };
 
     ghost as_row = { λ x. bucket_row (new_bucket x.name.now x.dept.now) };
 

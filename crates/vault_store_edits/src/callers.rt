@@ -19,13 +19,10 @@ use vault_core_model::records::Caller;
 impl Put for Caller {
     ghost use Rattle.vault_base.specs.declared.refusal.Table.TheVariants as table;
     ghost use Rattle.vault_audit_model.specs.Rows.{caller_row};
-    ghost use Rattle.vault_audit_model.specs.Tables.{callers};
     ghost use Rattle.vault_store_edits.specs.CallerLaws.{caller_inserts};
     ghost use Rattle.vault_audit_model.specs.Limits.{IsCaller};
 
     ghost table = { table.Callers };
-
-    ghost made = { callers };
 
     ghost as_row = { caller_row };
 

@@ -6,7 +6,7 @@ ghost use Rattle.vault_store_model.specs.Edits.{with_row, without};
 ghost use Rattle.vault_store_model.specs.Tests.{is_numbered};
 ghost use Rattle.vault_store_edits.specs.Inside.{IsEdit};
 
-use crate::by_id::check_id;
+use crate::apart::check_id;
 use crate::put::{Put, put_row};
 use sqlite::{Alter, Error, Transaction, params};
 use vault_audit_schema::{contents_columns, insert_text};
@@ -25,12 +25,9 @@ impl<'a> Put for NewContent<'a> {
     ghost use Rattle.std.specs.Prelude.{⊤};
     ghost use Rattle.vault_base.specs.declared.refusal.Table.TheVariants as table;
     ghost use Rattle.vault_audit_model.specs.Rows.{content_row};
-    ghost use Rattle.vault_audit_model.specs.Tables.{contents};
     ghost use Rattle.vault_store_edits.specs.ContentLaws.{content_inserts};
 
     ghost table = { table.Contents };
-
-    ghost made = { contents };
 
     ghost as_row = { λ x. content_row (record { id = x.id; content = x.content.now }) };
 

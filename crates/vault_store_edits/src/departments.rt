@@ -25,14 +25,11 @@ struct NewDepartment<'a> {
 impl<'a> Put for NewDepartment<'a> {
     ghost use Rattle.vault_base.specs.declared.refusal.Table.TheVariants as table;
     ghost use Rattle.vault_audit_model.specs.Rows.{department_row};
-    ghost use Rattle.vault_audit_model.specs.Tables.{departments};
     ghost use Rattle.vault_store_edits.specs.DepartmentLaws.{department_inserts};
     ghost use Rattle.vault_audit_model.specs.Limits.{IsPlainName};
     ghost use Rattle.vault_store_edits.specs.NewRows.{new_department};
 
     ghost table = { table.Departments };
-
-    ghost made = { departments };
 
     ghost as_row = { λ x. department_row (new_department x.name.now) };
 

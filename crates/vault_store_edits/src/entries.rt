@@ -8,7 +8,7 @@ ghost use Rattle.vault_store_model.specs.Tests.{is_numbered, removed_row};
 ghost use Rattle.vault_store_edits.specs.Inside.{IsEdit, IsEditOfSound};
 ghost use Rattle.vault_store_edits.specs.Typed.{IsTypedEntry};
 
-use crate::by_id::check_id;
+use crate::apart::check_id;
 use crate::entry_parameters::{
     author_text, cause_number, cause_text, digest_bytes, is_rule, removal_at, removal_by,
     removal_cause,
@@ -25,13 +25,10 @@ impl Put for Entry {
     ghost use Rattle.std.specs.Prelude.{OnOk};
     ghost use Rattle.vault_base.specs.declared.refusal.Table.TheVariants as table;
     ghost use Rattle.vault_audit_model.specs.Rows.{entry_row};
-    ghost use Rattle.vault_audit_model.specs.Tables.{entries};
     ghost use Rattle.vault_store_edits.specs.EntryLaws.{entry_inserts};
     ghost use Rattle.vault_store_edits.specs.Typed.{IsTypedEntry};
 
     ghost table = { table.Entries };
-
-    ghost made = { entries };
 
     ghost as_row = { entry_row };
 

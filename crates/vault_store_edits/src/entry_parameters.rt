@@ -26,10 +26,7 @@ pub fn digest_bytes(digest: &Option<Digest>) -> Option<&[u8]>
 pub fn is_rule(author: &Author) -> bool
     ensures { flag result ≡ author_kind author.now }
 {
-    match author {
-        Author::Caller(_) => false,
-        Author::Rule(_) => true,
-    }
+    matches!(author, Author::Rule(_))
 }
 
 /// The caller's name or the rule's id.

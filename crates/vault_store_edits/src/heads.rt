@@ -27,12 +27,9 @@ impl<'a> Put for NewHead<'a> {
     ghost use Rattle.std.specs.Prelude.{⊤};
     ghost use Rattle.vault_base.specs.declared.refusal.Table.TheVariants as table;
     ghost use Rattle.vault_audit_model.specs.Rows.{head_row};
-    ghost use Rattle.vault_audit_model.specs.Tables.{heads};
     ghost use Rattle.vault_store_edits.specs.HeadLaws.{head_inserts};
 
     ghost table = { table.Heads };
-
-    ghost made = { heads };
 
     ghost as_row = { λ x. head_row (record { bucket = x.bucket.now; key = x.key.now; head = x.head.now }) };
 

@@ -16,13 +16,10 @@ impl Put for Note {
     ghost use Rattle.std.specs.Prelude.{OnOk};
     ghost use Rattle.vault_base.specs.declared.refusal.Table.TheVariants as table;
     ghost use Rattle.vault_audit_model.specs.Rows.{note_row};
-    ghost use Rattle.vault_audit_model.specs.Tables.{intake};
     ghost use Rattle.vault_store_edits.specs.NoteLaws.{note_inserts};
     ghost use Rattle.vault_store_edits.specs.Typed.{IsTypedNote};
 
     ghost table = { table.Intake };
-
-    ghost made = { intake };
 
     ghost as_row = { note_row };
 

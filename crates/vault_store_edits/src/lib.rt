@@ -7,7 +7,6 @@
 
 pub mod apart;
 pub mod buckets;
-mod by_id;
 pub mod callers;
 pub mod contents;
 pub mod departments;

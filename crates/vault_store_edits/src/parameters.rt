@@ -47,10 +47,7 @@ pub fn until(retention: Option<Retention>) -> Option<i64>
     ensures value { result ≡ option_map (λ r. pos r.until) retention }
     ensures limits { IfSome retention IsRetention }
 {
-    match retention {
-        Some(retention) => Some(seconds(retention.until)),
-        None => None,
-    }
+    Some(seconds(retention?.until))
 }
 
 /// The number of a mode; none is 0.
@@ -153,10 +150,7 @@ pub fn rights_number(rights: Rights) -> u32
 pub fn noncurrent_days(noncurrent: Option<Noncurrent>) -> Option<u32>
     ensures { result ≡ option_map (λ n. n.days) noncurrent }
 {
-    match noncurrent {
-        Some(noncurrent) => Some(noncurrent.days),
-        None => None,
-    }
+    Some(noncurrent?.days)
 }
 
 /// How many newer entries an action on noncurrent entries keeps.

@@ -7,8 +7,7 @@ use sqlite::{Alter, Error, Transaction};
 
 /// What is put in as one row of a table.
 pub(crate) trait Put {
-    ghost use Rattle.std.specs.Prelude.{◌≡◌, ℕ, List, Result, Ok, IsTrue, IfOk};
-    ghost use Rattle.sqlite_schema.specs.declared.schema.Table.{Table as Columns};
+    ghost use Rattle.std.specs.Prelude.{◌≡◌, ℕ, Result, Ok, IsTrue, IfOk};
     ghost use Rattle.sqlite_value.specs.Order.{Row as Values};
     ghost use Rattle.sqlite.specs.State.{HasCleanDisk, ExecutesInside, Survives};
     ghost use Rattle.sqlite.specs.Held.{state};
@@ -16,12 +15,11 @@ pub(crate) trait Put {
     ghost use Rattle.vault_base.specs.declared.refusal.Table.{Table};
     ghost use Rattle.vault_audit_schema.specs.Texts.{insert_text};
     ghost use Rattle.vault_store_edits.specs.Inserts.{Inserts};
+    ghost use Rattle.vault_store_edits.specs.Trees.{made_as};
     ghost use Rattle.vault_store_edits.specs.Inside.{CommitsNothing};
 
-    // The table, its columns, and what is in each of them.
+    // The table, and what is in each of its columns.
     ghost table: { Table };
-
-    ghost made: { Columns };
 
     ghost as_row: { Self → Values };
 
@@ -32,13 +30,13 @@ pub(crate) trait Put {
     fn insert<S: Alter>(&self, tx: &mut Transaction<'_, S>) -> Result<usize, Error>
         ensures same_reference { tx.new.conn.ghost_name ≡ tx.old.conn.ghost_name }
         ensures ran { HasCleanDisk (state S.Store tx.new.conn.now) → IsTrue tx.old.conn.now.in_transaction
-            → IfOk result (λ count. ExecutesInside 0 (insert_text made) (as_row self.now) (state S.Store tx.old.conn.now) (state S.Store tx.new.conn.now) (Ok count)) }
+            → IfOk result (λ count. ExecutesInside 0 (insert_text (made_as table)) (as_row self.now) (state S.Store tx.old.conn.now) (state S.Store tx.new.conn.now) (Ok count)) }
         ensures kept { CommitsNothing S.Store tx.old.conn.now tx.new.conn.now result }
         ensures survives { Survives (state S.Store tx.old.conn.now) (state S.Store tx.new.conn.now) (λ _. ⊥) }
         ensures limits { typed self.now result };
 
     // The statement puts that row into that table.
-    ghost inserts: { (x : Self) → Inserts table made (as_row x) };
+    ghost inserts: { (x : Self) → Inserts table (made_as table) (as_row x) };
 }
 
 /// Puts one row in.

@@ -54,13 +54,10 @@ impl<'a> Put for NewRule<'a> {
     ghost use Rattle.std.specs.Prelude.{OnOk};
     ghost use Rattle.vault_base.specs.declared.refusal.Table.TheVariants as table;
     ghost use Rattle.vault_audit_model.specs.Rows.{rule_row};
-    ghost use Rattle.vault_audit_model.specs.Tables.{rules};
     ghost use Rattle.vault_store_edits.specs.RuleLaws.{rule_inserts};
     ghost use Rattle.vault_store_edits.specs.Typed.{IsTypedRule};
 
     ghost table = { table.Rules };
-
-    ghost made = { rules };
 
     ghost as_row = { λ x. rule_row (record { bucket = x.bucket.now; place = x.place; rule = x.rule.now }) };
 

@@ -24,13 +24,10 @@ struct NewSetting<'a> {
 impl<'a> Put for NewSetting<'a> {
     ghost use Rattle.vault_base.specs.declared.refusal.Table.TheVariants as table;
     ghost use Rattle.vault_audit_model.specs.Rows.{setting_row};
-    ghost use Rattle.vault_audit_model.specs.Tables.{settings};
     ghost use Rattle.vault_store_edits.specs.SettingLaws.{setting_inserts};
     ghost use Rattle.vault_store_edits.specs.Typed.{IsTypedSetting};
 
     ghost table = { table.Settings };
-
-    ghost made = { settings };
 
     ghost as_row = { λ x. setting_row (record { id = x.id; place = x.place; setting = x.setting.now }) };
 

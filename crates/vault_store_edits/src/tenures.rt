@@ -26,12 +26,9 @@ impl<'a> Put for NewTenure<'a> {
     ghost use Rattle.std.specs.Prelude.{⊤};
     ghost use Rattle.vault_base.specs.declared.refusal.Table.TheVariants as table;
     ghost use Rattle.vault_audit_model.specs.Rows.{tenure_row};
-    ghost use Rattle.vault_audit_model.specs.Tables.{tenures};
     ghost use Rattle.vault_store_edits.specs.TenureLaws.{tenure_inserts};
 
     ghost table = { table.Tenures };
-
-    ghost made = { tenures };
 
     ghost as_row = { λ x. tenure_row (record { id = x.id; tenure = x.tenure.now }) };
 

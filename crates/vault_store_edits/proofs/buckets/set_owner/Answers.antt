@@ -1,44 +1,14 @@
-use Rattle.std.proofs.Common.{arith}
-use Rattle.sqlite.specs.State.{HasCleanDisk}
-use Rattle.sqlite.specs.Held.{state}
 use Rattle.vault_base.specs.declared.refusal.Table.TheVariants as table
-use Rattle.vault_store_model.specs.Edits.{with_changed}
-use Rattle.vault_store_model.proofs.EditLemmas.{with_changed_ignores}
-use Rattle.vault_store_model.specs.Scans.{passes}
-use Rattle.vault_audit_model.proofs.OutcomeLemmas.{kept_if_refused}
-use Rattle.vault_store_edits.proofs.StatementLemmas.{edits_checked, sound_checked, refused_after, updates_after}
 use Rattle.vault_store_model.specs.Tests.{is_named, with_owner}
-use Rattle.vault_store_edits.proofs.RecordTextLemmas.{by_name, finds_bucket}
+use Rattle.vault_store_edits.proofs.ChangeLemmas.{updates_apart}
+use Rattle.vault_store_edits.proofs.RecordTextLemmas.{by_name, finds_bucket, owner_text}
 use Rattle.vault_store_edits.proofs.RecordRowLemmas.{owner_params, sets_owner}
-use Rattle.vault_store_edits.proofs.QueryLemmas.{survives_more}
 use Rattle.vault_store_edits.proofs.buckets.set_owner.Goals as goal
 
 pub returns-clause-edit : goal.returns-clause-edit
-returns-clause-edit g c = record {
-  edits = λ clean inside live.
-      let old = state g.S.Store c.args.tx.now.conn.now in
-      let mid = state g.S.Store c.check_apart.new.tx.conn.now in
-      let new = state g.S.Store c.execute.new.self.conn.now in
-      let early : HasCleanDisk mid = omega (arith, clean, c.execute.ensures.survives.clean) in
-      let look = c.in_ok-check_apart.ensures in
-      edits_checked _ _ old mid new (with_changed table.Buckets (is_named c.args.name.now) (with_owner c.args.dept.now)) c.execute.result (with_changed_ignores table.Buckets (is_named c.args.name.now) (with_owner c.args.dept.now)) (look.kept early inside) (λ count has ran.
-      updates_after table.Buckets (passes by_name (owner_params c.args.name.now c.args.dept.now)) old mid new (with_changed table.Buckets (is_named c.args.name.now) (with_owner c.args.dept.now)) (rw (c.params-to_sql.ensures, c.as_str.ensures.text) at (look.apart early has by_name finds_bucket)) has live (λ apart sound known. sets_owner c.args.name.now c.args.dept.now mid new count apart sound known ran))
-      (rw (c.params-to_sql-2.ensures, c.as_str-2.ensures.text, c.params-to_sql-3.ensures, c.as_str-3.ensures.text) at (c.execute.ensures.runs clean (look.inside early inside)));
-  sound = λ clean inside live has.
-      let old = state g.S.Store c.args.tx.now.conn.now in
-      let mid = state g.S.Store c.check_apart.new.tx.conn.now in
-      let new = state g.S.Store c.execute.new.self.conn.now in
-      let early : HasCleanDisk mid = omega (arith, clean, c.execute.ensures.survives.clean) in
-      let look = c.in_ok-check_apart.ensures in
-      sound_checked _ _ old mid new (with_changed table.Buckets (is_named c.args.name.now) (with_owner c.args.dept.now)) c.execute.result has (λ count has ran.
-      updates_after table.Buckets (passes by_name (owner_params c.args.name.now c.args.dept.now)) old mid new (with_changed table.Buckets (is_named c.args.name.now) (with_owner c.args.dept.now)) (rw (c.params-to_sql.ensures, c.as_str.ensures.text) at (look.apart early has by_name finds_bucket)) has live (λ apart sound known. sets_owner c.args.name.now c.args.dept.now mid new count apart sound known ran))
-      (rw (c.params-to_sql-2.ensures, c.as_str-2.ensures.text, c.params-to_sql-3.ensures, c.as_str-3.ensures.text) at (c.execute.ensures.runs clean (look.inside early inside)));
-  kept = λ clean inside.
-      let old = state g.S.Store c.args.tx.now.conn.now in
-      let mid = state g.S.Store c.check_apart.new.tx.conn.now in
-      let new = state g.S.Store c.execute.new.self.conn.now in
-      let early : HasCleanDisk mid = omega (arith, clean, c.execute.ensures.survives.clean) in
-      let look = c.in_ok-check_apart.ensures in
-      refused_after old mid new c.execute.result (look.kept early inside) (kept_if_refused _ _ mid new c.execute.result (c.execute.ensures.runs clean (look.inside early inside)));
-  survives = survives_more (state g.S.Store c.args.tx.now.conn.now) (state g.S.Store c.check_apart.new.tx.conn.now) (state g.S.Store c.execute.new.self.conn.now) c.in_ok-check_apart.ensures.survives c.execute.ensures.survives;
-}
+returns-clause-edit g c =
+    let look = c.in_ok-check_apart.ensures in
+    updates_apart g.S.Store c.args.tx.now.conn.now c.check_apart.new.tx.conn.now c.execute.new.self.conn.now table.Buckets by_name (owner_params c.args.name.now c.args.dept.now) owner_text c.execute.result
+    (λ clean has. rw (c.params-to_sql.ensures, c.as_str.ensures.text) at (look.apart clean has by_name finds_bucket)) look.kept look.inside look.survives
+    (λ clean inside. rw (c.params-to_sql-2.ensures, c.as_str-2.ensures.text, c.params-to_sql-3.ensures, c.as_str-3.ensures.text) at (c.execute.ensures.runs clean inside)) c.execute.ensures.survives
+    (is_named c.args.name.now) (with_owner c.args.dept.now) (sets_owner c.args.name.now c.args.dept.now _ _)

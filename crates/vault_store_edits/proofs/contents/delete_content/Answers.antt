@@ -1,45 +1,16 @@
-use Rattle.std.proofs.Common.{[], ◌∷◌, arith}
-use Rattle.sqlite.specs.State.{HasCleanDisk}
-use Rattle.sqlite.specs.Held.{state}
+use Rattle.std.proofs.Common.{[], ◌∷◌}
 use Rattle.vault_base.specs.declared.refusal.Table.TheVariants as table
-use Rattle.vault_store_model.specs.Edits.{without}
-use Rattle.vault_store_model.proofs.EditLemmas.{without_ignores}
-use Rattle.vault_store_model.specs.Scans.{passes}
-use Rattle.vault_audit_model.proofs.OutcomeLemmas.{kept_if_refused}
-use Rattle.vault_store_edits.proofs.StatementLemmas.{edits_checked, sound_checked, refused_after, deletes_after}
 use Rattle.vault_audit_model.specs.Values.{number}
 use Rattle.vault_store_model.specs.Tests.{is_numbered}
-use Rattle.vault_store_edits.proofs.EntryTextLemmas.{by_id, finds_content}
+use Rattle.vault_store_edits.proofs.ChangeLemmas.{deletes_apart}
+use Rattle.vault_store_edits.proofs.EntryTextLemmas.{by_id, finds_content, no_content_text}
 use Rattle.vault_store_edits.proofs.EntryRowLemmas.{drops_content}
-use Rattle.vault_store_edits.proofs.QueryLemmas.{survives_more}
 use Rattle.vault_store_edits.proofs.contents.delete_content.Goals as goal
 
 pub returns-clause-edit : goal.returns-clause-edit
-returns-clause-edit g c = record {
-  edits = λ clean inside.
-      let old = state g.S.Store c.args.tx.now.conn.now in
-      let mid = state g.S.Store c.check_id.new.tx.conn.now in
-      let new = state g.S.Store c.execute.new.self.conn.now in
-      let early : HasCleanDisk mid = omega (arith, clean, c.execute.ensures.survives.clean) in
-      let look = c.in_ok-check_id.ensures in
-      edits_checked _ _ old mid new (without table.Contents (is_numbered c.args.id)) c.execute.result (without_ignores table.Contents (is_numbered c.args.id)) (look.kept early inside) (λ count has ran.
-      deletes_after table.Contents (passes by_id (number c.args.id ∷ [])) old mid new (without table.Contents (is_numbered c.args.id)) (look.apart early has by_id finds_content) has (λ apart known. drops_content c.args.id mid new count apart known ran))
-      (rw (c.params-to_sql.ensures, c.number.ensures.value) at (c.execute.ensures.runs clean (look.inside early inside)));
-  sound = λ clean inside has.
-      let old = state g.S.Store c.args.tx.now.conn.now in
-      let mid = state g.S.Store c.check_id.new.tx.conn.now in
-      let new = state g.S.Store c.execute.new.self.conn.now in
-      let early : HasCleanDisk mid = omega (arith, clean, c.execute.ensures.survives.clean) in
-      let look = c.in_ok-check_id.ensures in
-      sound_checked _ _ old mid new (without table.Contents (is_numbered c.args.id)) c.execute.result has (λ count has ran.
-      deletes_after table.Contents (passes by_id (number c.args.id ∷ [])) old mid new (without table.Contents (is_numbered c.args.id)) (look.apart early has by_id finds_content) has (λ apart known. drops_content c.args.id mid new count apart known ran))
-      (rw (c.params-to_sql.ensures, c.number.ensures.value) at (c.execute.ensures.runs clean (look.inside early inside)));
-  kept = λ clean inside.
-      let old = state g.S.Store c.args.tx.now.conn.now in
-      let mid = state g.S.Store c.check_id.new.tx.conn.now in
-      let new = state g.S.Store c.execute.new.self.conn.now in
-      let early : HasCleanDisk mid = omega (arith, clean, c.execute.ensures.survives.clean) in
-      let look = c.in_ok-check_id.ensures in
-      refused_after old mid new c.execute.result (look.kept early inside) (kept_if_refused _ _ mid new c.execute.result (c.execute.ensures.runs clean (look.inside early inside)));
-  survives = survives_more (state g.S.Store c.args.tx.now.conn.now) (state g.S.Store c.check_id.new.tx.conn.now) (state g.S.Store c.execute.new.self.conn.now) c.in_ok-check_id.ensures.survives c.execute.ensures.survives;
-}
+returns-clause-edit g c =
+    let look = c.in_ok-check_id.ensures in
+    deletes_apart g.S.Store c.args.tx.now.conn.now c.check_id.new.tx.conn.now c.execute.new.self.conn.now table.Contents by_id (number c.args.id ∷ []) no_content_text c.execute.result
+    (λ clean has. look.apart clean has by_id finds_content) look.kept look.inside look.survives
+    (λ clean inside. rw (c.params-to_sql.ensures, c.number.ensures.value) at (c.execute.ensures.runs clean inside)) c.execute.ensures.survives
+    (is_numbered c.args.id) (drops_content c.args.id _ _)

@@ -11,7 +11,8 @@ use Rattle.vault_audit_model.specs.Spells.{rules_from}
 use Rattle.vault_store_model.specs.Edits.{with_row, Edits, with_each}
 use Rattle.vault_store_model.proofs.EditLemmas.{edits_then}
 use Rattle.vault_store_edits.proofs.QueryLemmas.{kept_itself, survives_itself}
-use Rattle.vault_store_edits.proofs.StatementLemmas.{kept_then, on_err}
+use Rattle.vault_store_edits.proofs.StatementLemmas.{kept_then}
+use Rattle.vault_store_edits.proofs.TransactionLemmas.{on_err_here}
 use Rattle.vault_store_edits.specs.Typed.{IsTypedRule}
 use Rattle.vault_store_edits.proofs.RulesLemmas.{no_rows, with_first, one_rule_more, one_typed_more, kept_edit}
 use Rattle.vault_store_edits.proofs.rules.put_rules.Goals as goal
@@ -77,4 +78,4 @@ returns-in_err-put_rule-clause-kept g c clean inside =
     let new = state g.S.Store c.put_rule.new.tx.conn.now in
     let early : HasCleanDisk mid = omega (arith, clean, c.put_rule.ensures.edit.survives.clean) in
     let before = c.loop-rule.invariant.3 early inside in
-    on_err _ (kept_then old mid new before.0 (c.in_err-put_rule.ensures.edit.kept clean before.1))
+    on_err_here _ (kept_then old mid new before.0 (c.in_err-put_rule.ensures.edit.kept clean before.1))
