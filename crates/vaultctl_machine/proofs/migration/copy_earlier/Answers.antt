@@ -1,4 +1,4 @@
-use Rattle.std.proofs.Common.{◌≡◌, ◌∙◌}
+use Rattle.std.proofs.Common.{◌∙◌}
 use Rattle.vaultctl_machine.proofs.MigrationLemmas.{kept_is_earlier, never_damaged, refused_earlier, sound_as_stated}
 use Rattle.vaultctl_machine.proofs.migration.copy_earlier.Goals as goal
 
