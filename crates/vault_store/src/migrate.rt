@@ -1,5 +1,5 @@
 //! The vault of a file of an earlier edition, copied into an empty store.
-ghost use Rattle.std.specs.Prelude.{◌≡◌, ◌≢◌, ◌↔◌, false, IsTrue, IfOk, IfErr, IsErrAnd, OnOk, OnErr};
+ghost use Rattle.std.specs.Prelude.{◌≡◌, ◌≢◌, ◌↔◌, [], false, IsTrue, IfOk, IfErr, IsErrAnd, OnOk, OnErr};
 ghost use Rattle.sqlite.specs.Effect.{IsDatabase};
 ghost use Rattle.sqlite.specs.Held.{state};
 ghost use Rattle.sqlite.specs.State.{HasCleanDisk, IsRolledBack, IsUnchanged, Shows, Survives};
@@ -229,6 +229,7 @@ impl<S: Alter> SqlKeeper<S> {
         // A crash leaves that vault after that, and nothing else.
         ensures alone { IfOk result (λ k. HasCleanDisk (state S.Store k.conn) → LeavesAlone (state S.Store k.conn) (vault_of S.Store k)) }
         ensures counted { IfOk result (λ k. k.blamed.faults ≡ 0) }
+        ensures fresh { IfOk result (λ k. k.refused.items ≡ []) }
         ensures reported { IfErr result (λ e. e.0 ≢ Refusal.NameTaken → IsReported e.0) }
         ensures damaged { IfErr result (λ e. HasCleanDisk (state O.Store old.new) → (t : Table) → e.0 ≡ Refusal.Damaged t → (v : Vault) → ¬ AreSoundAs edition (state O.Store old.old).now v) }
         ensures free { OnOk result ((state S.Store new).now.schema ≡ no_schema) }
