@@ -83,6 +83,18 @@ class Server:
         """Kills the server if it runs, and returns what it wrote on standard error since it listened."""
         return ended(self.serving) if self.serving else ""
 
+    def says(self, wanted):
+        """That is what the server writes on standard error since it listened, and it comes at once."""
+        said, end = b"", time.monotonic() + self.slack
+        while len(said) < len(wanted):
+            ready, _, _ = select.select([self.serving.stderr], [], [], max(0, end - time.monotonic()))
+            part = os.read(self.serving.stderr.fileno(), 65_536) if ready else b""
+            if not part:
+                raise Late(f"of what the server says {said!r} came within {self.slack:.1f} s, wanted {wanted!r}")
+            said += part
+        if said.decode() != wanted:
+            wrong(f"the server says {said!r}, wanted {wanted!r}")
+
     def measure(self):
         """Waits as long for what has to come at once as an honest client's time allows."""
         began = time.monotonic()
@@ -450,7 +462,8 @@ FAILED = "serve: the vault's file failed: where requests are answered 500, start
 
 def lose(server, away):
     """Answers a put, and then takes away a file of the server: each later put is refused, and a get is answered as
-    before. Returns the key of the first put, and its content."""
+    before. What failed is said once, after the first of them and before the next request comes. Returns the key of the
+    first put, and its content."""
     server.puts += 1
     key, content = f"before-{server.puts}", f"content {server.puts}".encode()
     server.wants(server.ask(put(key, content)), 200, b"x-amz-version-id", "a put")
@@ -458,6 +471,8 @@ def lose(server, away):
     for number in range(2):
         answer = server.ask(put(f"{key}-{number}", b"lost"))
         server.wants(answer, 500, b"Device", f"put {number} of a server that lost its files")
+        if number == 0:
+            server.says(LOST + FAILED)
     if content_of(server.ask(get(key))) != content:
         wrong("a server that lost its files doesn't read them")
     return key, content
@@ -466,8 +481,8 @@ def lose(server, away):
 def is_there(server, kept, how):
     """Kills a server that lost its files, and starts it again: what was answered is there, and nothing else."""
     said = server.kill()
-    if said != LOST + FAILED:
-        wrong(f"{how}: the server says {said!r}")
+    if said:
+        wrong(f"{how}: the server goes on to say {said!r}")
     if printed("verify", server.file) != "sound\n":
         wrong(f"{how}: the vault isn't sound")
     server.start()

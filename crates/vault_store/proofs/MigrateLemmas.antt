@@ -1,10 +1,15 @@
 -- A copy that is taken, looked at, and committed.
-use Rattle.std.proofs.Common.{◌≡◌, ap, ◌∙◌, arith}
+use Rattle.std.proofs.Common.{◌≡◌, ◌≢◌, ◌↔◌, inl, inr, IsTrue, sym, ap, ◌∙◌, arith}
 use Rattle.sqlite_trees.specs.Tree.{Trees}
 use Rattle.sqlite.specs.Effect.{Database, IsDatabase}
 use Rattle.sqlite.specs.State.{State, HasCleanDisk, IsUnchanged, Survives}
 use Rattle.sqlite.proofs.StateLemmas.{survives_then, survives_weaker}
+use Rattle.vault_base.specs.declared.refusal.Refusal.{Refusal}
+use Rattle.vault_base.specs.declared.refusal.Refusal.TheVariants.{Memory, Device, Damaged}
+use Rattle.vault_base.specs.declared.refusal.Table.{Table}
 use Rattle.vault_core_model.specs.Vault.{Vault}
+use Rattle.vault_audit.specs.Health.{IsHealthy}
+use Rattle.vault_audit.specs.Whole.{IsReported}
 use Rattle.vault_audit_model.specs.declared.schema.Edition.{Edition}
 use Rattle.vault_audit_model.specs.Spells.{AreSound, AreSoundAs}
 use Rattle.vault_store_apply.proofs.ApplyLemmas.{found_again}
@@ -39,3 +44,18 @@ copy_survives start taken looked end n from Clean one two three same spelled cop
     let there : HasCleanDisk taken = omega (arith, here, two.clean) in
     migrated n from taken.now trees (spelled read) (copied read there) (is ∙ ap (λ (d : Database). d.trees) (same here)))
     (survives_more start taken looked one two) three
+
+-- a store that works after calls that commit nothing worked before them
+pub worked : (old new : State) → Survives old new (λ _. ⊥) → (HasCleanDisk new → IsTrue new.is_open → IsTrue old.is_open) → IsHealthy new → IsHealthy old
+worked old new kept was_open well = record {
+  clean = omega (arith, well.clean, kept.clean);
+  unfailed = omega (arith, well.unfailed, kept.counts);
+  is_open = was_open well.clean well.is_open;
+  unlimited = sym kept.limit ∙ well.unlimited;
+}
+
+-- a look at tables that are sound, over a store that works, is never reported as a failure
+pub never_failed : (r stated : Refusal) → IsReported r → (stated ≡ Memory) ↔ (r ≡ Memory) → r ≢ Device → ((t : Table) → r ≢ Damaged t) → stated ≢ Device
+never_failed r stated (inl memory) both working whole is = absurd (let no : Memory ≡ Device = sym (both.1 memory) ∙ is in cc no)
+never_failed r stated (inr (inl device)) both working whole is = working device
+never_failed r stated (inr (inr (t, damaged))) both working whole is = whole t damaged

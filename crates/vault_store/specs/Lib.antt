@@ -9,3 +9,4 @@ pub mod Opening
 pub mod Blame
 pub mod CarriedOut
 pub use Rattle.vault_store_create.specs.Create
+pub use Rattle.vault_store_create.specs.Copied

@@ -1,5 +1,5 @@
 //! The vault of a file of an earlier edition, copied into an empty store.
-ghost use Rattle.std.specs.Prelude.{◌≡◌, ◌≢◌, ◌↔◌, false, IsTrue, IfOk, IfErr, IsErrAnd, OnOk, OnErr};
+ghost use Rattle.std.specs.Prelude.{◌≡◌, ◌≢◌, ◌↔◌, [], false, IsTrue, IfOk, IfErr, IsErrAnd, OnOk, OnErr};
 ghost use Rattle.sqlite.specs.Effect.{IsDatabase};
 ghost use Rattle.sqlite.specs.Held.{state};
 ghost use Rattle.sqlite.specs.State.{HasCleanDisk, IsRolledBack, IsUnchanged, Shows, Survives};
@@ -7,12 +7,13 @@ ghost use Rattle.vault_base.specs.declared.refusal.Table.{Table};
 ghost use Rattle.vault_core_model.specs.Vault.{Vault};
 ghost use Rattle.vault_audit.specs.Health.{IsHealthy};
 ghost use Rattle.vault_audit.specs.Whole.{IsReported};
+ghost use Rattle.vault_audit_model.specs.Faults.{refusal_of};
 ghost use Rattle.vault_audit_model.specs.Spells.{AreSound, AreSoundAs};
 ghost use Rattle.vault_audit_model.specs.Tables.{no_schema};
 ghost use Rattle.vault_store_apply.specs.Left.{LeavesAlone};
 ghost use Rattle.vault_store_create.specs.Create.{IsFault};
 ghost use Rattle.vault_store.specs.Kept.{IsSettled};
-ghost use Rattle.vault_store.specs.Migrated.{IsMigrated};
+ghost use Rattle.vault_store.specs.Migrated.{IsMigrated, RefusesItsRow};
 ghost use Rattle.vault_store.specs.Tables.{HasTablesOf, IsAtRest, IsUndone};
 ghost use Rattle.vault_store.specs.VaultOf.{vault_of};
 
@@ -30,6 +31,7 @@ use vault_store_create::copy::begin::begin_copy;
 fn settle<S: Alter>(conn: &mut Connection<S>)
     ensures outside { HasCleanDisk (state S.Store conn.new) → conn.new.in_transaction ≡ false }
     ensures rest { HasCleanDisk (state S.Store conn.new) → IsAtRest (state S.Store conn.new) }
+    ensures was_open { HasCleanDisk (state S.Store conn.new) → IsTrue (state S.Store conn.new).is_open → IsTrue (state S.Store conn.old).is_open }
     ensures crash { Survives (state S.Store conn.old) (state S.Store conn.new) (λ _. ⊥) }
 {
     end_transaction(conn);
@@ -57,6 +59,8 @@ fn take_copy<O: Alter, S: Alter>(
     ensures taken { IfErr result (λ r. r ≡ Refusal.NameTaken → (state S.Store new.old).now.schema ≢ no_schema) }
     ensures named { (state S.Store new.old).now.schema ≢ no_schema → IfErr result (λ r. IsHealthy (state O.Store old.new) → r ≢ Refusal.Device) }
     ensures unsound { ((v : Vault) → ¬ AreSoundAs edition (state O.Store old.old).now v) → IfErr result (λ r. IsHealthy (state O.Store old.new) → r ≢ Refusal.Device) }
+    ensures refused { IfErr result (λ r. IsHealthy (state O.Store old.new) → IsHealthy (state S.Store new.new) → r ≡ Refusal.Device → RefusesItsRow edition (state O.Store old.old).now) }
+    ensures inside { HasCleanDisk (state O.Store old.new) → HasCleanDisk (state S.Store new.new) → OnOk result (IsTrue new.new.in_transaction) }
     ensures outside { OnErr result (HasCleanDisk (state S.Store new.new) → new.new.in_transaction ≡ false) }
     ensures crash { Survives (state S.Store new.old) (state S.Store new.new) (λ _. ⊥) }
     ensures old_outside { HasCleanDisk (state O.Store old.new) → old.new.in_transaction ≡ false }
@@ -97,6 +101,7 @@ fn look_at_copy<S: Alter>(alloc: Global, new: &mut Connection<S>) -> Result<(), 
     ensures sound { HasCleanDisk (state S.Store new.new) → OnOk result ((v : Vault) × AreSound (state S.Store new.new).now v) }
     ensures same { HasCleanDisk (state S.Store new.new) → OnOk result (IsUnchanged (state S.Store new.old) (state S.Store new.new)) }
     ensures faults { IfErr result IsFault }
+    ensures healthy { (v : Vault) → AreSound (state S.Store new.old).now v → IfErr result (λ r. IsHealthy (state S.Store new.new) → r ≢ Refusal.Device) }
     ensures outside { OnErr result (HasCleanDisk (state S.Store new.new) → new.new.in_transaction ≡ false) }
     ensures crash { Survives (state S.Store new.old) (state S.Store new.new) (λ _. ⊥) }
 {
@@ -114,6 +119,7 @@ fn send_commit<S: Alter>(conn: &mut Connection<S>) -> Result<usize, Error>
     requires { IsTrue conn.old.in_transaction }
     ensures committed { HasCleanDisk (state S.Store conn.new) → OnOk result (Shows (state S.Store conn.old) (state S.Store conn.new) (state S.Store conn.old).now (state S.Store conn.old).now false) }
     ensures undone { HasCleanDisk (state S.Store conn.new) → OnErr result (IsRolledBack (state S.Store conn.old) (state S.Store conn.new)) }
+    ensures memory { IfErr result (λ e. IsHealthy (state S.Store conn.new) → refusal_of e ≢ Refusal.Device) }
     ensures crash { Survives (state S.Store conn.old) (state S.Store conn.new) (λ trees. trees ≡ (state S.Store conn.old).now.trees) }
 {
     conn.execute("COMMIT", &[])
@@ -127,6 +133,7 @@ fn commit<S: Alter>(conn: &mut Connection<S>) -> Result<(), Refusal>
         × ((state S.Store conn.new).now ≡ (state S.Store conn.old).now) × ((state S.Store conn.new).committed ≡ (state S.Store conn.new).now)) }
     ensures settled { OnOk result (conn.new.in_transaction ≡ false) }
     ensures faults { IfErr result IsFault }
+    ensures healthy { IsTrue conn.old.in_transaction → IfErr result (λ r. IsHealthy (state S.Store conn.new) → r ≢ Refusal.Device) }
     ensures undone { HasCleanDisk (state S.Store conn.new) → OnErr result (IsUndone (state S.Store conn.old) (state S.Store conn.new)) }
     ensures crash { Survives (state S.Store conn.old) (state S.Store conn.new) (λ trees. trees ≡ (state S.Store conn.old).now.trees) }
 {
@@ -167,6 +174,7 @@ fn copy_vault<O: Alter, S: Alter>(
     ensures taken { IfErr result (λ r. r ≡ Refusal.NameTaken → (state S.Store new.old).now.schema ≢ no_schema) }
     ensures named { (state S.Store new.old).now.schema ≢ no_schema → IfErr result (λ r. IsHealthy (state O.Store old.new) → r ≢ Refusal.Device) }
     ensures unsound { ((v : Vault) → ¬ AreSoundAs edition (state O.Store old.old).now v) → IfErr result (λ r. IsHealthy (state O.Store old.new) → r ≢ Refusal.Device) }
+    ensures refused { IfErr result (λ r. IsHealthy (state O.Store old.new) → IsHealthy (state S.Store new.new) → r ≡ Refusal.Device → RefusesItsRow edition (state O.Store old.old).now) }
     ensures outside { OnErr result (HasCleanDisk (state S.Store new.new) → new.new.in_transaction ≡ false) }
     ensures tables { OnErr result (HasCleanDisk (state S.Store new.new) → HasTablesOf (state S.Store new.old) (state S.Store new.new)) }
     ensures crash { Survives (state S.Store new.old) (state S.Store new.new) (λ trees. HasCleanDisk (state O.Store old.new) → IsMigrated edition (state O.Store old.old).now trees) }
@@ -221,6 +229,7 @@ impl<S: Alter> SqlKeeper<S> {
         // A crash leaves that vault after that, and nothing else.
         ensures alone { IfOk result (λ k. HasCleanDisk (state S.Store k.conn) → LeavesAlone (state S.Store k.conn) (vault_of S.Store k)) }
         ensures counted { IfOk result (λ k. k.blamed.faults ≡ 0) }
+        ensures fresh { IfOk result (λ k. k.refused.items ≡ []) }
         ensures reported { IfErr result (λ e. e.0 ≢ Refusal.NameTaken → IsReported e.0) }
         ensures damaged { IfErr result (λ e. HasCleanDisk (state O.Store old.new) → (t : Table) → e.0 ≡ Refusal.Damaged t → (v : Vault) → ¬ AreSoundAs edition (state O.Store old.old).now v) }
         ensures free { OnOk result ((state S.Store new).now.schema ≡ no_schema) }
@@ -231,6 +240,9 @@ impl<S: Alter> SqlKeeper<S> {
         // Nor is an old file whose tables state no vault.
         ensures unsound { old.old.in_transaction ≡ false → new.in_transaction ≡ false → ((v : Vault) → ¬ AreSoundAs edition (state O.Store old.old).now v)
             → IfErr result (λ e. IsHealthy (state O.Store old.new) → e.0 ≢ Refusal.Device) }
+        // Nor are stores that work, unless the tables of the copy refuse a row of the old vault.
+        ensures healthy { old.old.in_transaction ≡ false → new.in_transaction ≡ false
+            → IfErr result (λ e. IsHealthy (state O.Store old.new) → IsHealthy (state S.Store e.1) → e.0 ≡ Refusal.Device → RefusesItsRow edition (state O.Store old.old).now) }
         // Inside a transaction it is refused, and that is left as it was; else none is open behind it, and no table was changed.
         ensures inside { IsTrue new.in_transaction → IsErrAnd result (λ e. (e.0 ≡ Refusal.Device) × (e.1 ≡ new)) }
         ensures outside { new.in_transaction ≡ false → IfErr result (λ e. HasCleanDisk (state S.Store e.1) → e.1.in_transaction ≡ false) }

@@ -176,7 +176,7 @@ impl<S: Alter> SqlKeeper<S> {
         ensures counted { IfOk result (λ k. k.blamed.faults ≡ 0) }
         // No change was refused yet.
         ensures fresh { IfOk result (λ k. k.refused.items ≡ []) }
-        ensures taken { (state S.Store conn).now.schema ≢ no_schema → IfErr result (λ e. e.0 ≡ Refusal.NameTaken) }
+        ensures taken { (state S.Store conn).now.schema ≢ no_schema → IsErrAnd result (λ e. (e.0 ≡ Refusal.NameTaken) × (e.1 ≡ conn)) }
         ensures free { IfErr result (λ e. e.0 ≡ Refusal.NameTaken → (state S.Store conn).now.schema ≢ no_schema) }
         ensures faults { IfErr result (λ e. e.0 ≢ Refusal.NameTaken → IsFault e.0) }
         // A store that works, outside a transaction, is never reported as one that failed.

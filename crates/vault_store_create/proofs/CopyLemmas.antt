@@ -1,5 +1,5 @@
 -- Rows that are put into a table one after another, and tables one after another.
-use Rattle.std.proofs.Common.{◌≡◌, ◌⊎◌, inl, inr, ◌==◌, ◌+◌, ◌<◌, ◌≤◌, ℕ, nat_lt, List, [], ◌∷◌, ◌++◌, length, map, true, false, cond, lit≤, append-nil, refl, sym, subst, ◌∙◌, arith}
+use Rattle.std.proofs.Common.{◌≡◌, ◌⊎◌, inl, inr, ◌==◌, ◌+◌, ◌<◌, ◌≤◌, ℕ, nat_lt, List, [], ◌∷◌, ◌++◌, length, map, true, false, cond, lit≤, append-nil, Result, OnOk, IfErr, IsTrue, refl, sym, subst, ◌∙◌, arith}
 use Rattle.std.specs.Prelude.{IsPermutation}
 use Rattle.std.specs.List.{AllByRecursion}
 use Rattle.std.proofs.lemmas.Bool.{cases_Bool}
@@ -8,7 +8,8 @@ use Rattle.std.proofs.lemmas.List.Elements.{All-from_recursion, recursion_from_A
 use Rattle.std.proofs.lemmas.List.Sorted.{IsPermutation-refl, IsPermutation-sym, IsPermutation-trans, IsPermutation-middle, IsPermutation-append_right, All-permutation, length_permutation}
 use Rattle.sqlite_value.specs.Order.{Row}
 use Rattle.sqlite.specs.Effect.{Database, IsDatabase}
-use Rattle.sqlite.specs.State.{State}
+use Rattle.sqlite.specs.declared.error.Error.{Error}
+use Rattle.sqlite.specs.State.{State, HasCleanDisk, IsUnchanged, Survives}
 use Rattle.vault_base.specs.declared.refusal.Table.{Table}
 use Rattle.vault_base.specs.declared.refusal.Table.TheVariants as table
 use Rattle.vault_core_model.specs.Vault.{Vault}
@@ -17,12 +18,13 @@ use Rattle.vault_audit_model.specs.Order.{place_of}
 use Rattle.vault_audit_model.specs.Rows.{department_row, caller_row, bucket_row, rule_row, entry_row, content_row, setting_row, note_row, head_row, tenure_row}
 use Rattle.vault_audit_model.specs.Spells.{AreSoundAs, meta_of, department_in, bucket_of, heads_in}
 use Rattle.vault_audit_model.specs.Tables.{vault_schema}
+use Rattle.vault_audit_model.proofs.OutcomeLemmas.{on_ok_then}
 use Rattle.vault_audit_model.proofs.PlaceLemmas.{one_table}
 use Rattle.vault_audit_walk.specs.Walk.{Goes}
 use Rattle.vault_store_create.specs.Create.{Moves}
 use Rattle.vault_store_model.specs.Edits.{with_row}
 use Rattle.vault_store_model.specs.Rows.{Rows, AreSameRows, rows_in, rows_of}
-use Rattle.vault_store_create.specs.Copied.{PutsRow, HasFirstRows, HasCopied, first_rows}
+use Rattle.vault_store_create.specs.Copied.{PutsRow, HasFirstRows, HasCopied, FailsForARow, IsRefusedFor, first_rows}
 use Rattle.vault_store_create.specs.RowsOf.{IsOf, IsRowOf}
 
 -- ---- the rows of a vault state records
@@ -45,7 +47,7 @@ all_stated v table.Heads = all_of head_row (λ h. h) (heads_in v)
 all_stated v table.Tenures = all_of tenure_row (λ t. t) _
 
 -- in any order
-rows_stated : (v : Vault) (t : Table) (rows : List Row) → IsPermutation (rows_of v t) rows → AllByRecursion (IsRowOf t) rows
+pub rows_stated : (v : Vault) (t : Table) (rows : List Row) → IsPermutation (rows_of v t) rows → AllByRecursion (IsRowOf t) rows
 rows_stated v t rows same =
     recursion_from_All (IsRowOf t) rows (All-permutation (IsRowOf t) (rows_of v t) rows same (All-from_recursion (IsRowOf t) (rows_of v t) (all_stated v t)))
 
@@ -68,7 +70,7 @@ module _ (t : Table) where
   row_beside : (r : Row) (xs ys : Rows) (s : Table) → (place_of t == place_of s) ≡ false → AreSameRows (with_row t r xs) ys → IsPermutation (xs s) (ys s)
   row_beside r xs ys s other same = subst (λ b. IsPermutation (cond b (r ∷ xs s) (xs s)) (ys s)) other (same s)
 
-  adds : (rows : List Row) (x y : Database) → AllByRecursion (IsRowOf t) rows → Goes (λ a row b. PutsRow t row a b) x rows y → x.schema ≡ vault_schema → Adds rows x y
+  pub adds : (rows : List Row) (x y : Database) → AllByRecursion (IsRowOf t) rows → Goes (λ a row b. PutsRow t row a b) x rows y → x.schema ≡ vault_schema → Adds rows x y
   adds [] x y all same has =
       subst (Adds [] x) same (record {
         schema = has;
@@ -107,7 +109,7 @@ below_next a b low other = grind (arith, nat_tests, low, other)
 below_more : (n : ℕ) → nat_lt n (n + 1) ≡ true
 below_more n = if_below n (n + 1) (omega arith)
 
-not_below : (n : ℕ) → nat_lt n n ≡ false
+pub not_below : (n : ℕ) → nat_lt n n ≡ false
 not_below n = unless_low n n (omega arith)
 
 below_as_before : (n m : ℕ) → (m == n) ≡ false → nat_lt n (m + 1) ≡ nat_lt n m
@@ -173,3 +175,53 @@ copies_on n from later old mid new From b c same one two = record {
   committed = two.committed ∙ one.committed;
   goes = λ was. subst (λ d. HasCopied n d c new.now) same (two.goes (subst (λ d. HasCopied n d b mid.now) (sym same) (one.goes was)));
 }
+
+-- a part of the copy that was made: the old tables are as they were, and more of the new ones have their rows
+pub record Made (n : Edition) (first old start new : State) (b c : ℕ) : Type 0 where
+  pub read : HasCleanDisk old → HasCleanDisk first × (old.now ≡ first.now)
+  pub written : HasCleanDisk new → HasCleanDisk start
+  pub copied : HasCleanDisk old → HasCleanDisk new → IsTrue start.in_transaction → IsTrue start.is_open → Moves start new (HasCopied n first.now b) (HasCopied n first.now c)
+
+-- one after the other
+pub made_then : {n : Edition} {b c d : ℕ} {o0 o1 o2 t0 t1 t2 : State} → Made n o0 o1 t0 t1 b c → Made n o1 o2 t1 t2 c d → Made n o0 o2 t0 t2 b d
+made_then {n} {b} {c} {d} {o0} {o1} {o2} {t0} {t1} {t2} one two = record {
+  read = λ clean.
+      let it = two.read clean in
+      let was = one.read it.0 in (was.0, it.1 ∙ was.1);
+  written = λ clean. one.written (two.written clean);
+  copied = λ clean after inside is_open.
+      let it = two.read clean in
+      let part = one.copied it.0 (two.written after) inside is_open in
+      copies_on n o0.now o1.now t0 t1 t2 (HasCopied n o0.now b) c d (one.read it.0).1 part (two.copied clean after part.inside part.is_open);
+}
+
+module _ (n : Edition) (b c : ℕ) {first old start new : State} where
+  pub made : (HasCleanDisk old → IsUnchanged first old) → Survives first old (λ _. ⊥) → Survives start new (λ _. ⊥)
+      → (HasCleanDisk old → HasCleanDisk new → IsTrue start.in_transaction → IsTrue start.is_open → Moves start new (HasCopied n first.now b) (HasCopied n first.now c)) → Made n first old start new b c
+  made same read written copied = record {
+    read = λ clean. (omega (arith, clean, read.clean), (same clean).0.now_is);
+    written = λ clean. omega (arith, clean, written.clean);
+    copied = copied;
+  }
+
+  module _ {later next : State} (done : Made n first old start new b c) (read : Survives old later (λ _. ⊥)) (written : Survives new next (λ _. ⊥)) where
+    up_to : HasCleanDisk later → HasCleanDisk next → IsTrue start.in_transaction → IsTrue start.is_open → Moves start new (HasCopied n first.now b) (HasCopied n first.now c)
+    up_to clean after = done.copied (omega (arith, clean, read.clean)) (omega (arith, after, written.clean))
+
+    is_same : HasCleanDisk later → old.now ≡ first.now
+    is_same clean = (done.read (omega (arith, clean, read.clean))).1
+
+    -- what is copied after it
+    pub copied_after : (d : ℕ) {A E : Type 0} (r : Result A E)
+        → (HasCleanDisk later → HasCleanDisk next → IsTrue new.in_transaction → IsTrue new.is_open → OnOk r (Moves new next (HasCopied n old.now c) (HasCopied n old.now d)))
+        → HasCleanDisk later → HasCleanDisk next → IsTrue start.in_transaction → IsTrue start.is_open → OnOk r (Moves start next (HasCopied n first.now b) (HasCopied n first.now d))
+    copied_after d r more clean after inside is_open =
+        let it = up_to clean after inside is_open in
+        on_ok_then r (more clean after it.inside it.is_open) (λ part. copies_on n first.now old.now start new next (HasCopied n first.now b) c d (is_same clean) it part)
+
+    -- what is refused after it
+    pub fails_after : {A : Type 0} (r q : Result A Error) → q ≡ r → FailsForARow n c old later new next r → FailsForARow n b first later start next q
+    fails_after r q stated fails v is was well_old well inside is_open =
+        let it = up_to well_old.clean well.clean inside is_open in
+        let same = sym (is_same well_old.clean) in
+        subst (λ x. IfErr x (IsRefusedFor v)) (sym stated) (fails v (subst (λ db. AreSoundAs n db v) same is) (subst (λ db. HasCopied n db c new.now) same (it.goes was)) well_old well it.inside it.is_open)

@@ -9,5 +9,7 @@ mod ShownLemmas
 mod CopyLemmas
 mod FillLemmas
 mod PartLemmas
-mod RefusedLemmas
+pub mod RefusedLemmas
 mod PutLemmas
+mod RowRefusedLemmas
+mod StopLemmas

@@ -30,7 +30,7 @@ use Rattle.vault_store_create.proofs.TextLemmas.{uncounted}
 
 -- ---- of the store
 
-by_fault : (old new : State) → IsHealthy new → HasCause old new ⊥ Io → ⊥
+pub by_fault : (old new : State) → IsHealthy new → HasCause old new ⊥ Io → ⊥
 by_fault old new well more = omega (arith, more, well.unfailed)
 
 -- one that works fails for want of memory, if nothing was too big for it
@@ -54,7 +54,7 @@ no_device e is stated = absurd (let memory : refusal_of e ≡ Memory = ap refusa
 -- ---- of a statement
 
 -- the command begins or ends a transaction, or a part of one
-abbrev marks : Command → Bool
+abbrev pub marks : Command → Bool
 marks Begin = true
 marks Commit = true
 marks Rollback = true
@@ -62,14 +62,14 @@ marks (Release name) = true
 marks (RollbackTo name) = true
 marks _ = false
 
-marks_if_misplaced : (s : State) (k : Command) (e : Error) → IsMisplaced s k e → marks k ≡ true
+pub marks_if_misplaced : (s : State) (k : Command) (e : Error) → IsMisplaced s k e → marks k ≡ true
 marks_if_misplaced s k e (inl (is, inl (begins, inside))) = ap marks begins
 marks_if_misplaced s k e (inl (is, inr (inl ends, outside))) = ap marks ends
 marks_if_misplaced s k e (inl (is, inr (inr undoes, outside))) = ap marks undoes
 marks_if_misplaced s k e (inr (is, name, inl releases, unnamed)) = ap marks releases
 marks_if_misplaced s k e (inr (is, name, inr returns, unnamed)) = ap marks returns
 
-marks_if_escapes : (s : State) (k : Command) → Escapes 0 s k → marks k ≡ true
+pub marks_if_escapes : (s : State) (k : Command) → Escapes 0 s k → marks k ≡ true
 marks_if_escapes s k (inl (inl ends)) = ap marks ends
 marks_if_escapes s k (inl (inr undoes)) = ap marks undoes
 marks_if_escapes s k (inr (name, inl releases, held)) = ap marks releases

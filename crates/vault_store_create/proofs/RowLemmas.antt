@@ -100,7 +100,7 @@ bound_row : {X : Type 0} (row_of : X → Row) → ((x : X) → IsBound (row_of x
 bound_row row_of bounds row stated = subst IsBound (sym stated.1) (bounds stated.0)
 
 -- as parameters of a statement the row is what it was
-bound_as_stated : (t : Table) (row : Row) → IsRowOf t row → IsBound row
+pub bound_as_stated : (t : Table) (row : Row) → IsRowOf t row → IsBound row
 bound_as_stated table.Meta = bound_row meta_row (λ m. refl)
 bound_as_stated table.Departments = bound_row department_row (λ d. refl)
 bound_as_stated table.Callers = bound_row caller_row caller_bound

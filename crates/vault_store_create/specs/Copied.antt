@@ -1,16 +1,27 @@
 -- Tables into which the rows of a vault of an earlier edition are copied, one table after the other.
-use Rattle.std.specs.Prelude.{◌≡◌, ◌≤◌, ℕ, nat_lt, cond, [], IsTrue}
+use Rattle.std.specs.Prelude.{◌≡◌, ◌≤◌, ◌⊎◌, ◌++◌, ◌∷◌, ℕ, false, nat_lt, cond, List, [], Option, None, Result, Err, IsTrue, IfErr, IsPermutation}
+use Rattle.std.specs.List.{AllByRecursion}
+use Rattle.sqlite_schema.specs.declared.command.Command.TheVariants.{Insert}
+use Rattle.sqlite_schema.specs.declared.schema.Keys.TheVariants.{Enforced}
 use Rattle.sqlite_value.specs.Order.{Row}
+use Rattle.sqlite.specs.declared.error.Error.{Error}
+use Rattle.sqlite.specs.declared.run.Mode.{Mode}
+use Rattle.sqlite.specs.Does.{Does}
 use Rattle.sqlite.specs.Effect.{Database, IsDatabase}
-use Rattle.sqlite.specs.State.{State}
+use Rattle.sqlite.specs.State.{State, Begins}
 use Rattle.vault_base.specs.declared.refusal.Table.{Table}
 use Rattle.vault_core_model.specs.Vault.{Vault}
 use Rattle.vault_audit_model.specs.declared.schema.Edition.{Edition}
+use Rattle.vault_audit_model.specs.Editions.{newest}
 use Rattle.vault_audit_model.specs.Order.{place_of}
 use Rattle.vault_audit_model.specs.Tables.{vault_schema}
 use Rattle.vault_audit_model.specs.Spells.{AreSoundAs}
+use Rattle.vault_audit_schema.specs.Selects.{table_as}
+use Rattle.vault_audit_walk.specs.Health.{IsHealthy, IsMemory, Asks}
+use Rattle.vault_audit_walk.specs.Walk.{Goes}
 use Rattle.vault_store_model.specs.Rows.{Rows, AreSameRows, rows_in, rows_of}
-use Rattle.vault_store_model.specs.Edits.{with_row}
+use Rattle.vault_store_model.specs.Edits.{with_row, with_rows}
+use Rattle.vault_store_edits.specs.Inserts.{insert_of}
 use Rattle.vault_store_create.specs.RowsOf.{IsRowOf}
 
 -- A part of a transaction goes from one database to another, and leaves the last commit alone.
@@ -44,3 +55,44 @@ pub record HasFirstRows (v : Vault) (k : ℕ) (db : Database) : Type 0 where
 -- the same for each vault that the tables of that edition are sound for
 abbrev pub HasCopied : Edition → Database → ℕ → Database → Type 0
 HasCopied n from k db = (v : Vault) → AreSoundAs n from v → HasFirstRows v k db
+
+-- ---- rows that are refused
+
+-- foreign keys are looked at, at each statement
+abbrev pub watchful : Mode
+watchful = record { keys = Enforced; in_doubt = false; may_wait = false }
+
+-- The statement that puts the row into the table is refused, with no limit on its steps: the row breaks a rule of the tables, or is too big for them.
+abbrev pub Refuses : Table → Row → Database → Type 0
+Refuses t row db = (stop : Option Error) × Does None watchful row db [] None (Insert (place_of t) (insert_of (table_as newest t))) (Err stop)
+
+-- It is refused for a row of the vault, which comes after these of its table, while the tables before that have their rows.
+pub record RefusesARow (v : Vault) : Type 0 where
+  pub table : Table
+  pub before : List Row
+  pub row : Row
+  pub after : List Row
+  pub all : IsPermutation (rows_of v table) (before ++ row ∷ after)
+  pub now : Database
+  pub schema : now.schema ≡ vault_schema
+  pub has : AreSameRows (with_rows table (λ _. before) (first_rows v (place_of table))) (rows_in now)
+  pub refused : Refuses table row now
+
+-- a store that works refuses a part of the copy of this vault for want of memory, or for a row of it
+abbrev pub IsRefusedFor : Vault → Error → Type 0
+IsRefusedFor v e = IsMemory e ⊎ RefusesARow v
+
+-- a text asks for rows that state records of the table
+pub record AsksFor (t : Table) (sql : List ℕ) (s : State) : Type 0 where
+  pub asks : Asks s.now.schema sql
+  pub stated : IsTrue s.is_open → (rows : List Row) → Begins sql [] s rows → AllByRecursion (IsRowOf t) rows
+
+-- a row of what is asked for is refused, after some that begin the answer were put in
+abbrev pub StopsAt : Table → List ℕ → State → Database → Type 0
+StopsAt t sql s first =
+    (before : List Row) × (row : Row) × (now : Database) × IsTrue s.is_open × Begins sql [] s (before ++ row ∷ []) × Goes (λ x r y. PutsRow t r x y) first before now × Refuses t row now
+
+-- Of tables of that edition that are sound for a vault: two stores that work, of which the second has copied the first so many tables inside a transaction, refuse more of the copy for these causes alone.
+abbrev pub FailsForARow : {A : Type 0} → Edition → ℕ → State → State → State → State → Result A Error → Type 0
+FailsForARow n k old later new next result =
+    (v : Vault) → AreSoundAs n old.now v → HasCopied n old.now k new.now → IsHealthy later → IsHealthy next → IsTrue new.in_transaction → IsTrue new.is_open → IfErr result (IsRefusedFor v)

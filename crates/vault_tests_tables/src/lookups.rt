@@ -10,7 +10,9 @@ use vault_store::create::fill;
 use vault_store_reads::heads::read_head;
 use vault_store_reads::meta::read_last;
 use vault_store_reads::names::{has_department, read_totals};
-use vault_store_reads::rows_in_order::reads::{read_entries, read_ids, read_keys};
+use vault_store_reads::rows_in_order::reads::{
+    read_entries, read_ids, read_keys, read_newest_but,
+};
 use vault_tests_tables_stores::disks::{let_go, opened_empty};
 
 /// A department, its bucket, a key of it, and where the bucket's keys begin.
@@ -28,6 +30,8 @@ enum Reading {
     Report,
     Head,
     Entries,
+    /// The newest held entry besides another one, which a removal asks for.
+    Newest,
     Keys,
     /// All ids of the key, and those older than one that is newer than all.
     Ids,
@@ -91,6 +95,13 @@ fn reads_entries<S: Alter>(conn: &mut Connection<S>, alloc: Global, names: &Name
     read_entries(conn, alloc, &names.bucket, &names.key).is_ok_and(|found| found.len() == 1)
 }
 
+fn reads_newest<S: Alter>(conn: &mut Connection<S>, names: &Names) -> bool {
+    let Some(another) = VersionId::new(GREATEST) else {
+        return false;
+    };
+    read_newest_but(conn, &names.bucket, &names.key, another).is_ok_and(|found| found.is_some())
+}
+
 fn reads_keys<S: Alter>(conn: &mut Connection<S>, alloc: Global, names: &Names) -> bool {
     read_keys(conn, alloc, &names.bucket, &names.start, 5).is_ok_and(|found| found.len() == 5)
 }
@@ -122,6 +133,7 @@ fn can<S: Alter>(conn: &mut Connection<S>, alloc: Global, names: &Names, reading
             && reads_totals(conn, names),
         Reading::Head => reads_head(conn, names),
         Reading::Entries => reads_entries(conn, alloc, names),
+        Reading::Newest => reads_newest(conn, names),
         Reading::Keys => reads_keys(conn, alloc, names),
         Reading::Ids => reads_ids(conn, alloc, names, 0, 2, 1),
         Reading::OlderIds => reads_ids(conn, alloc, names, GREATEST, 2, 1),
@@ -185,11 +197,12 @@ fn read_names(alloc: Global) -> Result<Names, Fail> {
 }
 
 /// The steps that are enough for each reading.
-fn enough_for_each<S: Alter>(conn: &mut Connection<S>, alloc: Global, names: &Names) -> [u64; 6] {
+fn enough_for_each<S: Alter>(conn: &mut Connection<S>, alloc: Global, names: &Names) -> [u64; 7] {
     [
         enough_steps(conn, alloc, names, Reading::Report),
         enough_steps(conn, alloc, names, Reading::Head),
         enough_steps(conn, alloc, names, Reading::Entries),
+        enough_steps(conn, alloc, names, Reading::Newest),
         enough_steps(conn, alloc, names, Reading::Keys),
         enough_steps(conn, alloc, names, Reading::Ids),
         enough_steps(conn, alloc, names, Reading::OlderIds),

@@ -1,16 +1,21 @@
 -- From what a copying says of the vaults that old tables spell to the one that is kept.
 use Rattle.std.proofs.Common.{◌≡◌, ◌⊎◌, inl, inr, Result, Ok, Err, sym, subst}
 use Rattle.std.specs.Prelude.{IfOk, IfErr}
+use Rattle.sqlite_trees.specs.Tree.{Trees}
 use Rattle.sqlite.specs.Effect.{Database}
+use Rattle.sqlite.specs.State.{State, HasCleanDisk, Survives}
 use Rattle.vault_base.specs.declared.refusal.Refusal.{Refusal}
-use Rattle.vault_base.specs.declared.refusal.Refusal.TheVariants.{Damaged}
+use Rattle.vault_base.specs.declared.refusal.Refusal.TheVariants.{Damaged, Device}
 use Rattle.vault_base.specs.declared.refusal.Table.{Table}
 use Rattle.vault_core_model.specs.Vault.{Vault}
 use Rattle.vault_audit_model.specs.declared.schema.Edition.{Edition}
 use Rattle.vault_audit_model.specs.declared.schema.Edition.TheVariants.{First, Second}
 use Rattle.vault_audit_model.specs.Spells.{AreSoundAs}
 use Rattle.vault_audit_model.specs.Tables.{schema_of}
+use Rattle.vault_store.specs.Migrated.{RefusesItsRow}
+use Rattle.vaultctl_machine.proofs.FoundLemmas.{was_clean}
 use Rattle.vaultctl_machine.specs.Files.{AreSoundEarlier}
+use Rattle.vaultctl_machine.specs.Refusals.{RefusesItsRowEarlier}
 
 module _ {V K E : Type 0} (Clean : Type 0) (IsClean : K → Type 0) (Spells : V → Type 0) (kept : K → V) where
   -- where some vault is spelled, and each that is spelled is the one that is kept, that one is
@@ -20,6 +25,11 @@ module _ {V K E : Type 0} (Clean : Type 0) (IsClean : K → Type 0) (Spells : V 
       let it = some old in
       subst Spells (sym (same old new it.0 it.1)) it.1
   kept_is_spelled (Err e) some same = tt
+
+-- where a copy is refused, the disk of the new store was clean before if it is clean after
+pub new_was_clean : {K C : Type 0} (r : Result K (Refusal × C)) (old : State) (new : C → State) (Commits : Trees → Type 0) → IfErr r (λ e. Survives old (new e.1) Commits) → IfErr r (λ e. HasCleanDisk (new e.1) → HasCleanDisk old)
+new_was_clean (Ok k) old new Commits is = tt
+new_was_clean (Err e) old new Commits is = was_clean old (new e.1) Commits is
 
 -- ---- of which edition tables are reported to be
 
@@ -33,6 +43,14 @@ module _ (n : Edition) (db : Database) where
       → IfOk r (λ k. Clean → IsClean k → AreSoundAs n db (kept k)) → IfOk r (λ k. Clean → IsClean k → AreSoundEarlier db (kept k))
   kept_is_earlier Clean IsClean kept (Ok k) earlier is = λ old new. sound_as (kept k) earlier (is old new)
   kept_is_earlier Clean IsClean kept (Err e) earlier is = tt
+
+  -- where a copy of them is refused for one of their rows, they are as those of an earlier one
+  pub refused_earlier : {K C : Type 0} (Works : Type 0) (WorksAfter : C → Type 0) (r : Result K (Refusal × C)) → (n ≡ First) ⊎ (n ≡ Second)
+      → IfErr r (λ e. Works → WorksAfter e.1 → e.0 ≡ Device → RefusesItsRow n db) → IfErr r (λ e. Works → WorksAfter e.1 → e.0 ≡ Device → RefusesItsRowEarlier db)
+  refused_earlier Works WorksAfter (Ok k) earlier is = tt
+  refused_earlier Works WorksAfter (Err e) earlier is = λ one two stated.
+      let it = is one two stated in
+      (it.0, sound_as it.0 earlier it.1, it.2)
 
 -- where the edition is reported by the schema, tables that are sound as those of an earlier one are sound as those of that one
 pub sound_as_stated : (n : Edition) (db : Database) (v : Vault) → (db.schema ≡ schema_of First → n ≡ First) → (db.schema ≡ schema_of Second → n ≡ Second) → AreSoundEarlier db v → AreSoundAs n db v

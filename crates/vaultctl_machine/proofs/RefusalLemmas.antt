@@ -18,11 +18,11 @@ use Rattle.vault_base.specs.declared.refusal.Refusal.TheVariants.{Damaged, Devic
 use Rattle.vault_base.specs.declared.refusal.Table.{Table}
 use Rattle.vault_core_model.specs.Vault.{Vault}
 use Rattle.vault_store.specs.Tables.{HasTablesOf}
-use Rattle.vaultctl_machine.proofs.FoundLemmas.{was_clean}
+use Rattle.vaultctl_machine.proofs.FoundLemmas.{found_of_earlier, was_clean}
 use Rattle.vaultctl_machine.specs.Closings.{Closes}
 use Rattle.vaultctl_machine.specs.Faults.{ReportsFailure, refusal_of}
 use Rattle.vaultctl_machine.specs.Files.{AreSoundEarlier, AreTreesAs, IsWholeAs}
-use Rattle.vaultctl_machine.specs.Refusals.{IsRefusedOver, IsUncopiedFrom, IsUnmade, IsUnmadeOver, Reports}
+use Rattle.vaultctl_machine.specs.Refusals.{FailsForItsRow, IsRefusedOver, IsUncopiedFrom, IsUnmade, IsUnmadeOver, LetsBothGo, RefusesItsRowEarlier, Reports}
 use Rattle.vaultctl_machine.specs.declared.unopened.Unopened.{Unopened}
 
 -- ---- what is reported
@@ -47,6 +47,11 @@ reports_weaker P Q x weaker reports = record { stated = weaker (refusal_of x) re
 -- one connection more, of which it holds, where what is reported is that
 pub closes_as : {C : Type 0} (old new : List (C × Bool)) (conn : C) (P : C → Refusal → Type 0) (x r : Refusal) → x ≡ r → new ≡ old ++ (conn, true) ∷ [] → P conn r → Closes old new (λ c. P c x)
 closes_as old new conn P x r is closed holds = (conn, closed, subst (P conn) (sym is) holds)
+
+-- the same of the two connections of a copy
+pub both_close_as : {C D : Type 0} (old new : List (C × Bool)) (none uncopied : List (D × Bool)) (source : C) (target : D) (P : C → D → Refusal → Type 0) (x r : Refusal) → x ≡ r
+    → new ≡ old ++ (source, true) ∷ [] → uncopied ≡ none ++ (target, true) ∷ [] → P source target r → LetsBothGo old new none uncopied (λ c d. P c d x)
+both_close_as old new none uncopied source target P x r is closed closed_new holds = inr (source, closed, (target, closed_new, subst (P source target) (sym is) holds))
 
 -- ---- tables that are looked at are those of the files
 
@@ -79,6 +84,16 @@ module _ (image : Image) (old new : State) (r : Refusal) (opened : HasCleanDisk 
   uncopied_from clean undamaged = record {
     damaged = λ is_clean t is v whole. undamaged v (earlier_is_sound (clean is_clean) v whole) is_clean t is;
   }
+
+-- of the two connections of a copy, as they were opened and as they were let go of
+pub fails_for_its_row : (image : Image) (old source new target : State) (r : Refusal) → (HasCleanDisk old → Opens old × IsLive old) → (HasCleanDisk old → FindsIn image old) → (HasCleanDisk new → Opens new × IsLive new)
+    → (HasCleanDisk source → HasCleanDisk old) → (HasCleanDisk target → HasCleanDisk new)
+    → (old.in_transaction ≡ false → new.in_transaction ≡ false → IsHealthy source → IsHealthy target → r ≡ Device → RefusesItsRowEarlier old.now) → FailsForItsRow image source target r
+fails_for_its_row image old source new target r opened finds opened_new clean clean_new refused = λ works works_new is.
+    let before = clean works.clean in
+    let opens = (opened before).0 in
+    let it = refused opens.autocommit (opened_new (clean_new works_new.clean)).0.autocommit works works_new is in
+    (it.0, found_of_earlier image old it.0 opens (finds before) it.1, it.2)
 
 -- what isn't made is never reported as damaged
 undamaged : (r : Refusal) → IsUnmade r → (t : Table) → ¬ (r ≡ Damaged t)

@@ -1,6 +1,7 @@
 -- Why no vault was given out, and what is known of the connection that was let go of then.
 use Rattle.std.specs.Prelude.{◌≡◌, ◌≢◌, ◌⊎◌, Bool, List, IsTrue}
 use Rattle.sqlite_wal.specs.Recovery.{Image}
+use Rattle.sqlite.specs.Effect.{Database}
 use Rattle.sqlite.specs.State.{State, HasCleanDisk}
 use Rattle.vault_base.specs.declared.refusal.Refusal.{Refusal}
 use Rattle.vault_base.specs.declared.refusal.Refusal.TheVariants.{Damaged, Device, NameTaken}
@@ -11,10 +12,11 @@ use Rattle.vault_audit.specs.Whole.{IsReported}
 use Rattle.vault_audit_model.specs.declared.schema.Edition.TheVariants.{First, Second}
 use Rattle.vault_audit_model.specs.Editions.{newest}
 use Rattle.vault_audit_model.specs.Tables.{no_schema}
+use Rattle.vault_store.specs.Copied.{RefusesARow}
 use Rattle.vault_store.specs.Create.{IsFault}
 use Rattle.vaultctl_machine.specs.Closings.{Closes}
 use Rattle.vaultctl_machine.specs.Faults.{ReportsFailure, refusal_of}
-use Rattle.vaultctl_machine.specs.Files.{IsWholeAs}
+use Rattle.vaultctl_machine.specs.Files.{AreSoundEarlier, IsFoundEarlier, IsWholeAs}
 use Rattle.vaultctl_machine.specs.declared.unopened.Unopened.{Unopened}
 
 -- a making is refused where something is there already, or for want of memory, or by the device
@@ -34,6 +36,10 @@ pub record Reports (Reported : Refusal → Type 0) (cause : Unopened) : Type 0 w
 abbrev pub LetsGo : {C : Type 0} → List (C × Bool) → List (C × Bool) → (C → Type 0) → Type 0
 LetsGo old new P = (new ≡ old) ⊎ Closes old new P
 
+-- both connections of a copy were let go of, and this holds of the two, or the second one wasn't opened
+abbrev pub LetsBothGo : {C D : Type 0} → List (C × Bool) → List (C × Bool) → List (D × Bool) → List (D × Bool) → (C → D → Type 0) → Type 0
+LetsBothGo old new none uncopied P = (uncopied ≡ none) ⊎ Closes old new (λ source. Closes none uncopied (P source))
+
 -- the tables of a connection to files that held this were looked at, and refused
 pub record IsRefusedOver (image : Image) (s : State) (r : Refusal) : Type 0 where
   -- a store that works is never reported as one that failed
@@ -44,6 +50,14 @@ pub record IsRefusedOver (image : Image) (s : State) (r : Refusal) : Type 0 wher
 -- a vault of an earlier edition was looked at in files that held this, and wasn't copied: it isn't reported as damaged where it is sound
 pub record IsUncopiedFrom (image : Image) (s : State) (r : Refusal) : Type 0 where
   pub damaged : HasCleanDisk s → (t : Table) → r ≡ Damaged t → (v : Vault) → ¬ (IsWholeAs First image v ⊎ IsWholeAs Second image v)
+
+-- tables of an earlier edition are sound for a vault, of which a copy is refused for one of its rows
+abbrev pub RefusesItsRowEarlier : Database → Type 0
+RefusesItsRowEarlier db = (v : Vault) × AreSoundEarlier db v × RefusesARow v
+
+-- Where the two stores work, a copy of the vault in files that held this is reported as a failed device only because the tables of the copy refuse a row of that vault.
+abbrev pub FailsForItsRow : Image → State → State → Refusal → Type 0
+FailsForItsRow image source target r = IsHealthy source → IsHealthy target → r ≡ Device → (v : Vault) × IsFoundEarlier image v × RefusesARow v
 
 -- no vault was made in the store of a connection
 pub record IsUnmadeOver (s : State) (r : Refusal) : Type 0 where

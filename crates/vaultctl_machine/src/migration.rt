@@ -1,22 +1,24 @@
 //! Vaults of an earlier edition, copied into new files.
-ghost use Rattle.std.specs.Prelude.{◌≡◌, ◌≢◌, ◌∷◌, ◌++◌, [], true, IfOk, IfErr, OnOk, OnErr};
+ghost use Rattle.std.specs.Prelude.{◌≡◌, ◌≢◌, ◌∷◌, ◌++◌, [], true, false, IfOk, IfErr, OnOk, OnErr};
 ghost use Rattle.sqlite.specs.Files.{file_state, over_files, IsOpened};
 ghost use Rattle.sqlite.specs.Held.{state};
 ghost use Rattle.sqlite.specs.Start.{FindsIn};
 ghost use Rattle.sqlite.specs.State.{HasCleanDisk};
 ghost use Rattle.sqlite_wal.specs.Files.{image_at};
+ghost use Rattle.vault_audit.specs.Health.{IsHealthy};
 ghost use Rattle.vault_audit_model.specs.declared.schema.Edition.{Edition};
 ghost use Rattle.vault_audit_model.specs.Spells.{AreSound, AreSoundAs};
 ghost use Rattle.vault_base.specs.declared.refusal.Table.{Table};
 ghost use Rattle.vault_core_model.specs.Vault.{Vault};
 ghost use Rattle.vault_store.specs.Kept.{StandsFor};
+ghost use Rattle.vault_store.specs.Migrated.{RefusesItsRow};
 ghost use Rattle.vault_store.specs.VaultOf.{vault_of};
 ghost use Rattle.vaultctl_machine.specs.Closings.{Closes};
 ghost use Rattle.vaultctl_machine.specs.Faults.{ReportsFailure, refusal_of};
 ghost use Rattle.vaultctl_machine.specs.Files.{AreSoundEarlier, IsFoundEarlier, IsHeldAs};
 ghost use Rattle.vaultctl_machine.specs.Given.{with_copied};
 ghost use Rattle.vaultctl_machine.specs.Places.{after_a_look};
-ghost use Rattle.vaultctl_machine.specs.Refusals.{IsUncopied, IsUncopiedFrom, LetsGo, Reports};
+ghost use Rattle.vaultctl_machine.specs.Refusals.{FailsForItsRow, IsUncopied, IsUncopiedFrom, LetsBothGo, LetsGo, RefusesItsRowEarlier, Reports};
 
 use crate::editions::{edition_of, why_uncopied};
 use crate::looks::{is_one_file, looked_at};
@@ -58,12 +60,16 @@ fn copy<O: Alter, S: Alter>(
     new: Connection<S>,
 ) -> Copied<O, S>
     ensures clean { HasCleanDisk (state O.Store result.source) → HasCleanDisk (state O.Store source) }
+    ensures clean_new { IfErr result.outcome (λ e. HasCleanDisk (state S.Store e.1) → HasCleanDisk (state S.Store new)) }
     ensures reported { IfErr result.outcome (λ e. IsUncopied e.0) }
     // The tables that were found spell the vault that the keeper stands for, and so do the new ones.
     ensures found { IfOk result.outcome (λ k. HasCleanDisk (state O.Store result.source) → HasCleanDisk (state S.Store k.conn)
         → AreSoundAs edition (state O.Store source).now (vault_of S.Store k)) }
     ensures sound { IfOk result.outcome (λ k. HasCleanDisk (state S.Store k.conn) → AreSound (state S.Store k.conn).now (vault_of S.Store k)) }
     ensures damaged { IfErr result.outcome (λ e. HasCleanDisk (state O.Store result.source) → (t : Table) → e.0 ≡ Refusal.Damaged t → (v : Vault) → ¬ AreSoundAs edition (state O.Store source).now v) }
+    // Two stores that work are reported as failed only where the tables of the copy refuse a row.
+    ensures refused { source.in_transaction ≡ false → new.in_transaction ≡ false
+        → IfErr result.outcome (λ e. IsHealthy (state O.Store result.source) → IsHealthy (state S.Store e.1) → e.0 ≡ Refusal.Device → RefusesItsRow edition (state O.Store source).now) }
 {
     let mut source = source;
     let outcome = SqlKeeper::migrate(alloc, &mut source, edition, new);
@@ -77,6 +83,7 @@ fn copy_earlier<O: Alter, S: Alter>(
     new: Connection<S>,
 ) -> Copied<O, S>
     ensures clean { HasCleanDisk (state O.Store result.source) → HasCleanDisk (state O.Store source) }
+    ensures clean_new { IfErr result.outcome (λ e. HasCleanDisk (state S.Store e.1) → HasCleanDisk (state S.Store new)) }
     ensures reported { IfErr result.outcome (λ e. IsUncopied e.0) }
     ensures found { IfOk result.outcome (λ k. HasCleanDisk (state O.Store result.source) → HasCleanDisk (state S.Store k.conn)
         → AreSoundEarlier (state O.Store source).now (vault_of S.Store k)) }
@@ -84,6 +91,8 @@ fn copy_earlier<O: Alter, S: Alter>(
     // Tables that are sound as those of one of the two are never reported as damaged.
     ensures undamaged { (v : Vault) → AreSoundEarlier (state O.Store source).now v
         → IfErr result.outcome (λ e. HasCleanDisk (state O.Store result.source) → (t : Table) → e.0 ≢ Refusal.Damaged t) }
+    ensures refused { source.in_transaction ≡ false → new.in_transaction ≡ false
+        → IfErr result.outcome (λ e. IsHealthy (state O.Store result.source) → IsHealthy (state S.Store e.1) → e.0 ≡ Refusal.Device → RefusesItsRowEarlier (state O.Store source).now) }
 {
     let edition = edition_of(source.schema());
     copy(alloc, source, edition, new)
@@ -97,12 +106,15 @@ fn copy_to_file<O: Alter, B: Start>(
     new: Connection<VaultStore<B>>,
 ) -> Copied<O, VaultStore<B>>
     ensures clean { HasCleanDisk (state O.Store result.source) → HasCleanDisk (state O.Store source) }
+    ensures clean_new { IfErr result.outcome (λ e. HasCleanDisk (file_state e.1) → HasCleanDisk (file_state new)) }
     ensures reported { IfErr result.outcome (λ e. IsUncopied e.0) }
     ensures found { IfOk result.outcome (λ k. HasCleanDisk (state O.Store result.source) → HasCleanDisk (file_state k.conn)
         → AreSoundEarlier (state O.Store source).now (vault_of over_files k)) }
     ensures sound { IfOk result.outcome (λ k. HasCleanDisk (file_state k.conn) → AreSound (file_state k.conn).now (vault_of over_files k)) }
     ensures undamaged { (v : Vault) → AreSoundEarlier (state O.Store source).now v
         → IfErr result.outcome (λ e. HasCleanDisk (state O.Store result.source) → (t : Table) → e.0 ≢ Refusal.Damaged t) }
+    ensures refused { source.in_transaction ≡ false → new.in_transaction ≡ false
+        → IfErr result.outcome (λ e. IsHealthy (state O.Store result.source) → IsHealthy (file_state e.1) → e.0 ≡ Refusal.Device → RefusesItsRowEarlier (state O.Store source).now) }
 {
     copy_earlier(alloc, source, new)
 }
@@ -114,12 +126,15 @@ fn copy_file<A: Start, B: Start>(
     new: Connection<VaultStore<B>>,
 ) -> Copied<VaultStore<A>, VaultStore<B>>
     ensures clean { HasCleanDisk (file_state result.source) → HasCleanDisk (file_state source) }
+    ensures clean_new { IfErr result.outcome (λ e. HasCleanDisk (file_state e.1) → HasCleanDisk (file_state new)) }
     ensures reported { IfErr result.outcome (λ e. IsUncopied e.0) }
     ensures found { IfOk result.outcome (λ k. HasCleanDisk (file_state result.source) → HasCleanDisk (file_state k.conn)
         → AreSoundEarlier (file_state source).now (vault_of over_files k)) }
     ensures sound { IfOk result.outcome (λ k. HasCleanDisk (file_state k.conn) → AreSound (file_state k.conn).now (vault_of over_files k)) }
     ensures undamaged { (v : Vault) → AreSoundEarlier (file_state source).now v
         → IfErr result.outcome (λ e. HasCleanDisk (file_state result.source) → (t : Table) → e.0 ≢ Refusal.Damaged t) }
+    ensures refused { source.in_transaction ≡ false → new.in_transaction ≡ false
+        → IfErr result.outcome (λ e. IsHealthy (file_state result.source) → IsHealthy (file_state e.1) → e.0 ≡ Refusal.Device → RefusesItsRowEarlier (file_state source).now) }
 {
     copy_to_file(alloc, source, new)
 }
@@ -138,6 +153,7 @@ fn copy_into<A: Start, B: Start>(
 ) -> Result<Migrated<VaultStore<A>, VaultStore<B>>, Unopened>
     requires opened { HasCleanDisk (file_state found.conn) → IsOpened found.conn }
     requires found { HasCleanDisk (file_state found.conn) → FindsIn (image_at A.Start) (file_state found.conn) }
+    requires opened_new { HasCleanDisk (file_state empty.conn) → IsOpened empty.conn }
     ensures sound { IfOk result (λ m. HasCleanDisk (file_state m.vault.conn) → AreSound (file_state m.vault.conn).now (vault_of over_files m.vault)) }
     ensures found { IfOk result (λ m. HasCleanDisk (file_state m.source) → HasCleanDisk (file_state m.vault.conn)
         → IsFoundEarlier (image_at A.Start) (vault_of over_files m.vault)) }
@@ -145,6 +161,8 @@ fn copy_into<A: Start, B: Start>(
         → vault_of over_files m.vault ≡ v) }
     ensures reported { IfErr result (Reports IsUncopied) }
     ensures lost { IfErr result (λ e. Closes lost.old.items lost.new.items (λ conn. IsUncopiedFrom (image_at A.Start) (file_state conn) (refusal_of e))) }
+    ensures healthy { IfErr result (λ e. LetsBothGo lost.old.items lost.new.items uncopied.old.items uncopied.new.items
+        (λ source target. FailsForItsRow (image_at A.Start) (file_state source) (file_state target) (refusal_of e))) }
     ensures kept { OnOk result ((lost.new ≡ lost.old) × (uncopied.new ≡ uncopied.old)) }
 {
     let Opened { conn, before } = found;
@@ -197,6 +215,8 @@ fn copy_at<A: Start, B: Start>(
         → vault_of over_files m.vault ≡ v) }
     ensures reported { IfErr result (Reports IsUncopied) }
     ensures lost { IfErr result (λ e. LetsGo lost.old.items lost.new.items (λ conn. IsUncopiedFrom (image_at A.Start) (file_state conn) (refusal_of e))) }
+    ensures healthy { IfErr result (λ e. LetsBothGo lost.old.items lost.new.items uncopied.old.items uncopied.new.items
+        (λ source target. FailsForItsRow (image_at A.Start) (file_state source) (file_state target) (refusal_of e))) }
     ensures kept { OnOk result ((lost.new ≡ lost.old) × (uncopied.new ≡ uncopied.old)) }
 {
     let Starts { first, second } = starts;
@@ -253,6 +273,9 @@ impl<'a, A: Start, B: Start> Machine<'a, VaultStore<A>, VaultStore<B>> {
         ensures reported { IfErr result (Reports IsUncopied) }
         // Files that hold a sound vault of an earlier edition aren't reported as damaged.
         ensures refused { IfErr result (λ e. LetsGo self.old.refused.items self.new.refused.items (λ conn. IsUncopiedFrom (image_at A.Start) (file_state conn) (refusal_of e))) }
+        // Two stores that work are reported as a failed device only where the tables of the copy refuse a row of the vault.
+        ensures healthy { IfErr result (λ e. LetsBothGo self.old.refused.items self.new.refused.items self.old.uncopied.items self.new.uncopied.items
+            (λ source target. FailsForItsRow (image_at A.Start) (file_state source) (file_state target) (refusal_of e))) }
     {
         self.looked = self.looked.saturating_add(1);
         let rt = self.rt;

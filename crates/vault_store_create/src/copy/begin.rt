@@ -6,9 +6,9 @@ ghost use Rattle.sqlite.specs.State.{HasCleanDisk, Survives};
 ghost use Rattle.vault_core_model.specs.Vault.{Vault};
 ghost use Rattle.vault_audit_model.specs.Spells.{AreSound, AreSoundAs};
 ghost use Rattle.vault_audit_model.specs.Tables.{no_schema};
-ghost use Rattle.vault_audit_walk.specs.Health.{IsOfEdition, OnlyLooks};
+ghost use Rattle.vault_audit_walk.specs.Health.{IsHealthy, IsOfEdition, OnlyLooks};
 ghost use Rattle.vault_store_create.specs.Create.{Moves, HasFirst, IsFault};
-ghost use Rattle.vault_store_create.specs.Copied.{HasCopied};
+ghost use Rattle.vault_store_create.specs.Copied.{HasCopied, IsRefusedFor, RefusesARow};
 
 use crate::copy::tables::copy_tables;
 use crate::create::is_blank;
@@ -31,6 +31,9 @@ fn put_copy<O: Alter, S: Alter>(
     ensures same_reference { tx.new.conn.ghost_name ≡ tx.old.conn.ghost_name }
     ensures copied { HasCleanDisk (state O.Store old.new) → HasCleanDisk (state S.Store tx.new.conn.now) → IsTrue tx.old.conn.now.in_transaction
         → OnOk result (Moves (state S.Store tx.old.conn.now) (state S.Store tx.new.conn.now) (HasFirst 0) (HasCopied edition (state O.Store old.old).now 11)) }
+    // Stores that work refuse the copy of a sound vault for want of memory, or for a row of it.
+    ensures refused { (v : Vault) → AreSoundAs edition (state O.Store old.old).now v → IsHealthy (state O.Store old.new) → IsHealthy (state S.Store tx.new.conn.now)
+        → IsTrue tx.old.conn.now.in_transaction → HasFirst 0 (state S.Store tx.old.conn.now).now → IfErr result (IsRefusedFor v) }
     ensures survives { Survives (state S.Store tx.old.conn.now) (state S.Store tx.new.conn.now) (λ _. ⊥) }
     ensures look { OnlyLooks O.Store old.old old.new result }
 {
@@ -49,6 +52,8 @@ fn write_copy<O: Alter, S: Alter>(
     requires known { IsOfEdition O.Store old.old edition }
     ensures copied { HasCleanDisk (state O.Store old.new) → HasCleanDisk (state S.Store new.new)
         → OnOk result (Moves (state S.Store new.old) (state S.Store new.new) (HasFirst 0) (HasCopied edition (state O.Store old.old).now 11)) }
+    ensures refused { (v : Vault) → AreSoundAs edition (state O.Store old.old).now v → IsHealthy (state O.Store old.new) → IsHealthy (state S.Store new.new)
+        → HasFirst 0 (state S.Store new.old).now → IfErr result (IsRefusedFor v) }
     ensures crash { Survives (state S.Store new.old) (state S.Store new.new) (λ _. ⊥) }
     ensures look { OnlyLooks O.Store old.old old.new result }
 {
@@ -78,6 +83,10 @@ pub fn begin_copy<O: Alter, S: Alter>(
     ensures free { OnOk result ((state S.Store new.old).now.schema ≡ no_schema) }
     ensures taken { (result ≡ Err Refusal.NameTaken) ↔ ((state S.Store new.old).now.schema ≢ no_schema) }
     ensures faults { IfErr result (λ r. r ≢ Refusal.NameTaken → IsFault r) }
+    // Where a store failed though both work, the tables of the copy refused a row of the vault.
+    ensures refused { (v : Vault) → AreSoundAs edition (state O.Store old.old).now v → IsHealthy (state O.Store old.new) → IsHealthy (state S.Store new.new)
+        → IfErr result (λ r. r ≡ Refusal.Device → RefusesARow v) }
+    ensures inside { HasCleanDisk (state O.Store old.new) → HasCleanDisk (state S.Store new.new) → OnOk result (IsTrue new.new.in_transaction) }
     ensures crash { Survives (state S.Store new.old) (state S.Store new.new) (λ _. ⊥) }
     ensures look { OnlyLooks O.Store old.old old.new result }
 {

@@ -1,9 +1,12 @@
 //! A row, put into its table as it is.
-ghost use Rattle.std.specs.Prelude.{◌≡◌, IsTrue, IfOk, OnOk, map};
+ghost use Rattle.std.specs.Prelude.{◌≡◌, ◌⊎◌, IsTrue, IfOk, IfErr, OnOk, map};
 ghost use Rattle.sqlite_value.specs.Value.{owned};
 ghost use Rattle.sqlite.specs.Held.{state};
 ghost use Rattle.sqlite.specs.State.{HasCleanDisk, Survives};
-ghost use Rattle.vault_store_create.specs.Copied.{Steps, PutsRow};
+ghost use Rattle.vault_audit_model.specs.Tables.{vault_schema};
+ghost use Rattle.vault_audit_walk.specs.Health.{IsHealthy, IsMemory};
+ghost use Rattle.vault_store_create.specs.Copied.{Steps, PutsRow, Refuses};
+ghost use Rattle.vault_store_create.specs.RowsOf.{IsRowOf};
 
 use crate::copy::listing::putting;
 use sqlite::types::ValueRef;
@@ -13,7 +16,8 @@ use vault_base::refusal::Table;
 
 /// The values of a row, as parameters of a statement.
 fn values_of(alloc: Global, row: &Row) -> Result<Vec<ValueRef<'_>>, Error>
-    ensures { IfOk result (λ values. map (λ v. owned v) values.items ≡ row.now) }
+    ensures values { IfOk result (λ values. map (λ v. owned v) values.items ≡ row.now) }
+    ensures memory { IfErr result IsMemory }
 {
     let mut values = Vec::new(alloc);
     for at in 0..row.column_count() {
@@ -35,6 +39,9 @@ pub(crate) fn put_row<S: Alter>(
     ensures same_reference { tx.new.conn.ghost_name ≡ tx.old.conn.ghost_name }
     ensures put { HasCleanDisk (state S.Store tx.new.conn.now) → IsTrue tx.old.conn.now.in_transaction
         → OnOk result (Steps (state S.Store tx.old.conn.now) (state S.Store tx.new.conn.now) (PutsRow table row.now)) }
+    // A store that works refuses a record of the table for want of memory, or as its database refuses it.
+    ensures refused { IsHealthy (state S.Store tx.new.conn.now) → IsTrue tx.old.conn.now.in_transaction → (state S.Store tx.old.conn.now).now.schema ≡ vault_schema → IsRowOf table row.now
+        → IfErr result (λ e. IsMemory e ⊎ Refuses table row.now (state S.Store tx.old.conn.now).now) }
     ensures survives { Survives (state S.Store tx.old.conn.now) (state S.Store tx.new.conn.now) (λ _. ⊥) }
 {
     let values = values_of(alloc, row)?;

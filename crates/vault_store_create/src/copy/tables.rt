@@ -1,5 +1,5 @@
 //! The rows of the tables of an earlier edition, copied one table after the other.
-ghost use Rattle.std.specs.Prelude.{◌≡◌, ◌+◌, [], List, IsTrue, OnOk};
+ghost use Rattle.std.specs.Prelude.{◌≡◌, ◌+◌, ◌⊎◌, [], List, IsTrue, IfErr, OnOk};
 ghost use Rattle.sqlite_value.specs.Order.{Row as Values};
 ghost use Rattle.sqlite.specs.Held.{state};
 ghost use Rattle.sqlite.specs.State.{HasCleanDisk, Survives, Shown};
@@ -7,9 +7,10 @@ ghost use Rattle.sqlite.specs.Given.{IsPlain};
 ghost use Rattle.sqlite.specs.Listing.{understood};
 ghost use Rattle.vault_audit_model.specs.Order.{place_of};
 ghost use Rattle.vault_audit_walk.specs.Walk.{Goes};
-ghost use Rattle.vault_audit_walk.specs.Health.{IsOfEdition, OnlyLooks};
+ghost use Rattle.vault_audit_model.specs.Tables.{vault_schema};
+ghost use Rattle.vault_audit_walk.specs.Health.{IsHealthy, IsMemory, IsOfEdition, OnlyLooks};
 ghost use Rattle.vault_store_create.specs.Create.{Moves};
-ghost use Rattle.vault_store_create.specs.Copied.{Steps, PutsRow, HasCopied};
+ghost use Rattle.vault_store_create.specs.Copied.{Steps, PutsRow, HasCopied, AsksFor, StopsAt, FailsForARow};
 
 use crate::copy::listing::listing;
 use crate::copy::row::put_row;
@@ -31,6 +32,9 @@ fn copy_rows<O: Alter, S: Alter>(
     ensures copied { HasCleanDisk (state O.Store old.new) → HasCleanDisk (state S.Store tx.new.conn.now) → IsTrue tx.old.conn.now.in_transaction → IsTrue (state S.Store tx.old.conn.now).is_open
         → OnOk result ((rows : List Values) × Shown select.now [] (state O.Store old.old) (state O.Store old.new) rows
         × Steps (state S.Store tx.old.conn.now) (state S.Store tx.new.conn.now) (λ d e. Goes (λ x row y. PutsRow table row x y) d rows e)) }
+    ensures refused { AsksFor table select.now (state O.Store old.old) → (state S.Store tx.old.conn.now).now.schema ≡ vault_schema
+        → IsHealthy (state O.Store old.new) → IsHealthy (state S.Store tx.new.conn.now) → IsTrue tx.old.conn.now.in_transaction → IsTrue (state S.Store tx.old.conn.now).is_open
+        → IfErr result (λ e. IsMemory e ⊎ StopsAt table select.now (state O.Store old.old) (state S.Store tx.old.conn.now).now) }
     ensures survives { Survives (state S.Store tx.old.conn.now) (state S.Store tx.new.conn.now) (λ _. ⊥) }
     ensures look { OnlyLooks O.Store old.old old.new result }
 {
@@ -57,6 +61,7 @@ fn copy_table<O: Alter, S: Alter>(
     ensures copied { HasCleanDisk (state O.Store old.new) → HasCleanDisk (state S.Store tx.new.conn.now) → IsTrue tx.old.conn.now.in_transaction → IsTrue (state S.Store tx.old.conn.now).is_open
         → OnOk result (Moves (state S.Store tx.old.conn.now) (state S.Store tx.new.conn.now)
         (HasCopied edition (state O.Store old.old).now (place_of table)) (HasCopied edition (state O.Store old.old).now (place_of table + 1))) }
+    ensures refused { FailsForARow edition (place_of table) (state O.Store old.old) (state O.Store old.new) (state S.Store tx.old.conn.now) (state S.Store tx.new.conn.now) result }
     ensures survives { Survives (state S.Store tx.old.conn.now) (state S.Store tx.new.conn.now) (λ _. ⊥) }
     ensures look { OnlyLooks O.Store old.old old.new result }
 {
@@ -74,6 +79,7 @@ fn copy_first<O: Alter, S: Alter>(
     ensures copied { HasCleanDisk (state O.Store old.new) → HasCleanDisk (state S.Store tx.new.conn.now) → IsTrue tx.old.conn.now.in_transaction → IsTrue (state S.Store tx.old.conn.now).is_open
         → OnOk result (Moves (state S.Store tx.old.conn.now) (state S.Store tx.new.conn.now)
         (HasCopied edition (state O.Store old.old).now 0) (HasCopied edition (state O.Store old.old).now 4)) }
+    ensures refused { FailsForARow edition 0 (state O.Store old.old) (state O.Store old.new) (state S.Store tx.old.conn.now) (state S.Store tx.new.conn.now) result }
     ensures survives { Survives (state S.Store tx.old.conn.now) (state S.Store tx.new.conn.now) (λ _. ⊥) }
     ensures look { OnlyLooks O.Store old.old old.new result }
 {
@@ -95,6 +101,7 @@ fn copy_second<O: Alter, S: Alter>(
     ensures copied { HasCleanDisk (state O.Store old.new) → HasCleanDisk (state S.Store tx.new.conn.now) → IsTrue tx.old.conn.now.in_transaction → IsTrue (state S.Store tx.old.conn.now).is_open
         → OnOk result (Moves (state S.Store tx.old.conn.now) (state S.Store tx.new.conn.now)
         (HasCopied edition (state O.Store old.old).now 4) (HasCopied edition (state O.Store old.old).now 8)) }
+    ensures refused { FailsForARow edition 4 (state O.Store old.old) (state O.Store old.new) (state S.Store tx.old.conn.now) (state S.Store tx.new.conn.now) result }
     ensures survives { Survives (state S.Store tx.old.conn.now) (state S.Store tx.new.conn.now) (λ _. ⊥) }
     ensures look { OnlyLooks O.Store old.old old.new result }
 {
@@ -116,6 +123,7 @@ fn copy_last<O: Alter, S: Alter>(
     ensures copied { HasCleanDisk (state O.Store old.new) → HasCleanDisk (state S.Store tx.new.conn.now) → IsTrue tx.old.conn.now.in_transaction → IsTrue (state S.Store tx.old.conn.now).is_open
         → OnOk result (Moves (state S.Store tx.old.conn.now) (state S.Store tx.new.conn.now)
         (HasCopied edition (state O.Store old.old).now 8) (HasCopied edition (state O.Store old.old).now 11)) }
+    ensures refused { FailsForARow edition 8 (state O.Store old.old) (state O.Store old.new) (state S.Store tx.old.conn.now) (state S.Store tx.new.conn.now) result }
     ensures survives { Survives (state S.Store tx.old.conn.now) (state S.Store tx.new.conn.now) (λ _. ⊥) }
     ensures look { OnlyLooks O.Store old.old old.new result }
 {
@@ -137,6 +145,7 @@ pub(crate) fn copy_tables<O: Alter, S: Alter>(
     ensures copied { HasCleanDisk (state O.Store old.new) → HasCleanDisk (state S.Store tx.new.conn.now) → IsTrue tx.old.conn.now.in_transaction → IsTrue (state S.Store tx.old.conn.now).is_open
         → OnOk result (Moves (state S.Store tx.old.conn.now) (state S.Store tx.new.conn.now)
         (HasCopied edition (state O.Store old.old).now 0) (HasCopied edition (state O.Store old.old).now 11)) }
+    ensures refused { FailsForARow edition 0 (state O.Store old.old) (state O.Store old.new) (state S.Store tx.old.conn.now) (state S.Store tx.new.conn.now) result }
     ensures survives { Survives (state S.Store tx.old.conn.now) (state S.Store tx.new.conn.now) (λ _. ⊥) }
     ensures look { OnlyLooks O.Store old.old old.new result }
 {

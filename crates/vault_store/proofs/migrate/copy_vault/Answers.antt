@@ -1,4 +1,4 @@
-use Rattle.std.proofs.Common.{sym, subst, ◌∙◌, arith}
+use Rattle.std.proofs.Common.{IsTrue, sym, subst, ◌∙◌, arith}
 use Rattle.sqlite.specs.Held.{state}
 use Rattle.sqlite.specs.State.{HasCleanDisk}
 use Rattle.vault_audit_model.specs.Spells.{AreSound}
@@ -64,3 +64,18 @@ returns-in-Err-look_at_copy-clause-unsound g c none well same = let it = c.in-Ok
 
 pub returns-in-Err-commit-clause-unsound : goal.returns-in-Err-commit-clause-unsound
 returns-in-Err-commit-clause-unsound g c none well same = let it = c.in-Ok.ensures.spelled well.clean in none it.0 it.1
+
+pub returns-in-Err-look_at_copy-clause-refused : goal.returns-in-Err-look_at_copy-clause-refused
+returns-in-Err-look_at_copy-clause-refused g c well_old well stated =
+    let taken : HasCleanDisk (state g.S.Store c.take_copy.new.new) = omega (arith, well.clean, c.look_at_copy.ensures.crash.clean) in
+    let it = c.in-Ok.ensures.spelled well_old.clean in
+    let copied = c.in-Ok.ensures.copied well_old.clean taken it.0 it.1 in
+    absurd (c.in-Err-look_at_copy.ensures.healthy it.0 copied.0 well stated)
+
+pub returns-in-Err-commit-clause-refused : goal.returns-in-Err-commit-clause-refused
+returns-in-Err-commit-clause-refused g c well_old well stated =
+    let looked : HasCleanDisk (state g.S.Store c.look_at_copy.new.new) = omega (arith, well.clean, c.commit.ensures.crash.clean) in
+    let taken : HasCleanDisk (state g.S.Store c.take_copy.new.new) = omega (arith, looked, c.look_at_copy.ensures.crash.clean) in
+    let inside = c.in-Ok.ensures.inside well_old.clean taken in
+    let mode = (c.in-Ok-look_at_copy.ensures.same looked).0.mode in
+    absurd (c.in-Err-commit.ensures.healthy (subst IsTrue (sym mode) inside) well stated)

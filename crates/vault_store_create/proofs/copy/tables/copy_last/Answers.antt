@@ -1,38 +1,33 @@
-use Rattle.std.proofs.Common.{◌≡◌, ◌∙◌, arith}
+use Rattle.std.proofs.Common.{◌≡◌, rules}
 use Rattle.sqlite.specs.Held.{state}
-use Rattle.sqlite.specs.State.{HasCleanDisk}
-use Rattle.vault_store_create.specs.Copied.{HasCopied}
-use Rattle.vault_store_create.proofs.CopyLemmas.{copies_on}
+use Rattle.vault_store_create.proofs.CopyLemmas.{made, made_then, fails_after}
 use Rattle.vault_store_edits.proofs.QueryLemmas.{survives_more}
 use Rattle.vault_store_create.proofs.copy.tables.copy_last.Goals as goal
 
 pub returns-clause-copied : goal.returns-clause-copied
-returns-clause-copied g c clean after inside is_open =
+returns-clause-copied g c =
     let n = c.args.edition in
-    let o0 = state g.O.Store c.args.old.now in
-    let t0 = state g.S.Store c.args.tx.now.conn.now in
-    let o1 = state g.O.Store c.copy_table.new.old in
-    let t1 = state g.S.Store c.copy_table.new.tx.conn.now in
-    let o2 = state g.O.Store c.copy_table-2.new.old in
-    let t2 = state g.S.Store c.copy_table-2.new.tx.conn.now in
-    let o3 = state g.O.Store c.copy_table-3.new.old in
-    let t3 = state g.S.Store c.copy_table-3.new.tx.conn.now in
     let did1 = c.in_ok-copy_table.ensures in
     let did2 = c.in_ok-copy_table-2.ensures in
     let did3 = c.in_ok-copy_table-3.ensures in
-    let clean3 = clean in
-    let after3 = after in
-    let clean2 : HasCleanDisk o2 = omega (arith, clean3, did3.look.crash.clean) in
-    let after2 : HasCleanDisk t2 = omega (arith, after3, did3.survives.clean) in
-    let clean1 : HasCleanDisk o1 = omega (arith, clean2, did2.look.crash.clean) in
-    let after1 : HasCleanDisk t1 = omega (arith, after2, did2.survives.clean) in
-    let part1 = did1.copied clean1 after1 inside is_open in
-    let same1 : o1.now ≡ o0.now = (did1.look.same clean1).0.now_is in
-    let part2 = did2.copied clean2 after2 part1.inside part1.is_open in
-    let up_to2 = copies_on n o0.now o1.now t0 t1 t2 (HasCopied n o0.now 8) 9 10 same1 part1 part2 in
-    let same2 : o2.now ≡ o0.now = (did2.look.same clean2).0.now_is ∙ same1 in
-    let part3 = did3.copied clean3 after3 up_to2.inside up_to2.is_open in
-    copies_on n o0.now o2.now t0 t2 t3 (HasCopied n o0.now 8) 10 11 same2 up_to2 part3
+    (made_then (made_then (made n 8 9 did1.look.same did1.look.crash did1.survives did1.copied) (made n 9 10 did2.look.same did2.look.crash did2.survives did2.copied)) (made n 10 11 did3.look.same did3.look.crash did3.survives did3.copied)).copied
+
+pub returns-in_err-copy_table-2-clause-refused : goal.returns-in_err-copy_table-2-clause-refused
+returns-in_err-copy_table-2-clause-refused g c =
+    let n = c.args.edition in
+    let did1 = c.in_ok-copy_table.ensures in
+    let last = c.copy_table-2.ensures in
+    let same : c.from_residual-in_err-copy_table-2.result ≡ c.copy_table-2.result = search rules in
+    fails_after n 8 9 (made n 8 9 did1.look.same did1.look.crash did1.survives did1.copied) last.look.crash last.survives c.copy_table-2.result c.from_residual-in_err-copy_table-2.result same last.refused
+
+pub returns-in_err-copy_table-3-clause-refused : goal.returns-in_err-copy_table-3-clause-refused
+returns-in_err-copy_table-3-clause-refused g c =
+    let n = c.args.edition in
+    let did1 = c.in_ok-copy_table.ensures in
+    let did2 = c.in_ok-copy_table-2.ensures in
+    let last = c.copy_table-3.ensures in
+    let same : c.from_residual-in_err-copy_table-3.result ≡ c.copy_table-3.result = search rules in
+    fails_after n 8 10 (made_then (made n 8 9 did1.look.same did1.look.crash did1.survives did1.copied) (made n 9 10 did2.look.same did2.look.crash did2.survives did2.copied)) last.look.crash last.survives c.copy_table-3.result c.from_residual-in_err-copy_table-3.result same last.refused
 
 pub returns-clause-survives : goal.returns-clause-survives
 returns-clause-survives g c =

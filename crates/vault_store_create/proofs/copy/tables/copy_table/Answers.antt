@@ -7,6 +7,7 @@ use Rattle.vault_store_create.specs.Listings.{listing_of}
 use Rattle.vault_store_create.proofs.CopyLemmas.{copies_table}
 use Rattle.vault_store_create.proofs.ShownLemmas.{shown_stated}
 use Rattle.vault_store_create.proofs.ListingLemmas.{reads_only}
+use Rattle.vault_store_create.proofs.StopLemmas.{asks_for_rows, fails_for}
 use Rattle.vault_store_create.proofs.copy.tables.copy_table.Goals as goal
 
 pub copy_rows-requires : goal.copy_rows-requires
@@ -27,3 +28,12 @@ returns-clause-copied g c clean after inside is_open =
       committed = it.2.committed;
       goes = copies_table n from.now old.now new.now t it.0 (λ v is. shown_stated n t from to v is it.0 it.1) it.2.goes;
     })
+
+pub returns-clause-refused : goal.returns-clause-refused
+returns-clause-refused g c v is was well_old well inside is_open =
+    let n = c.args.edition in
+    let t = c.args.table in
+    let from = state g.O.Store c.args.old.now in
+    let first = (state g.S.Store c.args.tx.now.conn.now).now in
+    let has = was v is in
+    fails_for n t from v is first has c.copy_rows.result ((rw c.listing.ensures at c.copy_rows.ensures.refused) (asks_for_rows n t from v is) has.schema well_old well inside is_open)

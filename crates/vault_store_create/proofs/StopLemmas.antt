@@ -1,0 +1,162 @@
+-- A row of the vault at which a copy of its tables stops.
+use Rattle.std.proofs.Common.{◌≡◌, ◌⊎◌, ◌==◌, inl, inr, ℕ, List, [], ◌∷◌, ◌++◌, cond, Ok, Err, Result, IfErr, append_assoc, append-nil, refl, sym, subst, arith}
+use Rattle.std.specs.Prelude.{IsPermutation, IsTrue}
+use Rattle.std.proofs.lemmas.Bool.{cases_Bool}
+use Rattle.std.proofs.lemmas.Bool.Decides.{nat_tests}
+use Rattle.std.proofs.lemmas.List.Sorted.{IsPermutation-append_right, IsPermutation-trans}
+use Rattle.sqlite_tied.specs.Compute.{everything}
+use Rattle.sqlite_value.specs.Order.{Row}
+use Rattle.sqlite_sql.specs.Query.{Query}
+use Rattle.sqlite.specs.Command.TheVariants.{Select}
+use Rattle.sqlite.specs.declared.error.Error.{Error}
+use Rattle.sqlite.specs.Effect.{Database}
+use Rattle.sqlite.specs.Listing.{understood, reads_listing, IsSourceOf}
+use Rattle.sqlite.specs.State.{State, IsUnchanged, Begins}
+use Rattle.sqlite.proofs.Callers.{command_of}
+use Rattle.vault_base.specs.declared.refusal.Table.{Table}
+use Rattle.vault_base.specs.declared.refusal.Table.TheVariants as table
+use Rattle.vault_base.specs.declared.refusal.Refusal.TheVariants.{Device}
+use Rattle.vault_core_model.specs.Vault.{Vault}
+use Rattle.vault_audit_model.specs.Faults.{refusal_of}
+use Rattle.vault_audit_model.specs.declared.schema.Edition.{Edition}
+use Rattle.vault_audit_model.specs.declared.schema.Edition.TheVariants.{First, Second, Third}
+use Rattle.vault_audit_model.specs.Order.{place_of}
+use Rattle.vault_audit_model.specs.Spells.{AreSoundAs}
+use Rattle.vault_audit_model.specs.Tables.{schema_of, vault_schema}
+use Rattle.vault_audit_model.proofs.PlaceLemmas.{one_table}
+use Rattle.vault_audit_walk.proofs.RecordLemmas.{between, front}
+use Rattle.vault_audit_walk.proofs.ScanLemmas.{goes_on_to}
+use Rattle.vault_audit_walk.specs.Health.{IsMemory, Asks}
+use Rattle.vault_audit_walk.specs.Walk.{Goes}
+use Rattle.vault_store_model.specs.Rows.{AreSameRows, rows_in, rows_of}
+use Rattle.vault_store_model.specs.Edits.{with_rows}
+use Rattle.vault_store_create.specs.Copied.{PutsRow, HasFirstRows, Refuses, RefusesARow, IsRefusedFor, AsksFor, StopsAt, first_rows}
+use Rattle.vault_store_create.specs.Listings.{listing_of}
+use Rattle.vault_store_create.specs.RowsOf.{IsRowOf}
+use Rattle.vault_store_create.proofs.CopyLemmas.{Adds, adds, rows_stated, not_below}
+use Rattle.vault_store_create.proofs.ListingLemmas.{pairs_are, reads_meta, reads_departments, reads_callers, reads_buckets, reads_rules, reads_entries, reads_contents, reads_settings, reads_intake, reads_heads, reads_tenures}
+use Rattle.vault_store_create.proofs.RefusedLemmas.{no_device}
+use Rattle.vault_store_create.proofs.ShownLemmas.{shown_stated}
+
+-- what begins an answer begins it as long as nothing is changed
+begins_from : (sql : List ℕ) (first old : State) (rows : List Row) → IsUnchanged first old → Begins sql [] old rows → Begins sql [] first rows
+unfolding Begins
+begins_from sql first old rows same h =
+    let back = same.0.now_is in (
+      h.0,
+      record { is = subst (λ (d : Database). understood d.schema sql ≡ Ok h.0) back h.1.is; whole = h.1.whole; given = h.1.given; now = h.1.now },
+      h.2,
+      h.3,
+      subst (λ (d : Database). IsSourceOf (reads_listing d.schema sql) d h.3) back h.4,
+      h.5,
+    )
+
+-- ---- a row that is refused, after others that were put in
+
+pub stopped : (t : Table) (sql : List ℕ) (first : State) → AsksFor t sql first → (x y : Database) (before : List Row) (row : Row) (now : State) → IsUnchanged first now → Begins sql [] now (before ++ row ∷ [])
+    → x.schema ≡ vault_schema → Goes (λ a r b. PutsRow t r a b) x before y → (e : Error) → (y.schema ≡ vault_schema → IsRowOf t row → IsMemory e ⊎ Refuses t row y) → IsMemory e ⊎ StopsAt t sql first x
+stopped t sql first asks x y before row now same begins has gone e put =
+    let begun = begins_from sql first now (before ++ row ∷ []) same begins in
+    let stated = asks.stated same.0.was_open (before ++ row ∷ []) begun in
+    let schema = (adds t before x y (front (IsRowOf t) before (row ∷ []) stated) gone has).schema in
+    elim (put schema (between (IsRowOf t) before row [] stated)) [
+      | inl memory ↦ inl memory
+      | inr refused ↦ inr (before, row, y, same.0.was_open, begun, gone, refused)
+    ]
+
+-- ---- the queries of a copy
+
+pub asks_for : (n : Edition) (t : Table) → Asks (schema_of n) (listing_of n t)
+unfolding understood everything
+asks_for First table.Meta = record { is = (omega (arith), refl, (refl, refl, refl, refl)); unlisted = refl }
+asks_for Second table.Meta = record { is = (omega (arith), refl, (refl, refl, refl, refl)); unlisted = refl }
+asks_for Third table.Meta = record { is = (omega (arith), refl, (refl, refl, refl, refl)); unlisted = refl }
+asks_for First table.Departments = record { is = (omega (arith), refl, (refl, refl, refl, refl)); unlisted = refl }
+asks_for Second table.Departments = record { is = (omega (arith), refl, (refl, refl, refl, refl)); unlisted = refl }
+asks_for Third table.Departments = record { is = (omega (arith), refl, (refl, refl, refl, refl)); unlisted = refl }
+asks_for n table.Callers = record { is = (omega (arith), refl, (refl, refl, refl, refl)); unlisted = refl }
+asks_for n table.Buckets = record { is = (omega (arith), refl, (refl, refl, refl, refl)); unlisted = refl }
+asks_for First table.Rules = record { is = (omega (arith), refl, (refl, refl, refl, refl)); unlisted = refl }
+asks_for Second table.Rules = record { is = (omega (arith), refl, (refl, refl, refl, refl)); unlisted = refl }
+asks_for Third table.Rules = record { is = (omega (arith), refl, (refl, refl, refl, refl)); unlisted = refl }
+asks_for n table.Entries = record { is = (omega (arith), refl, (refl, refl, refl, refl)); unlisted = refl }
+asks_for n table.Contents = record { is = (omega (arith), refl, (refl, refl, refl, refl)); unlisted = refl }
+asks_for n table.Settings = record { is = (omega (arith), refl, (refl, refl, refl, refl)); unlisted = refl }
+asks_for n table.Intake = record { is = (omega (arith), refl, (refl, refl, refl, refl)); unlisted = refl }
+asks_for n table.Heads = record { is = (omega (arith), refl, (refl, refl, refl, refl)); unlisted = refl }
+asks_for First table.Tenures = record { is = (omega (arith), refl, (refl, refl, refl, refl)); unlisted = refl }
+asks_for Second table.Tenures = record { is = (omega (arith), refl, (refl, refl, refl, refl)); unlisted = refl }
+asks_for Third table.Tenures = record { is = (omega (arith), refl, (refl, refl, refl, refl)); unlisted = refl }
+
+abbrev IsQuery : Edition → Table → Type 0
+IsQuery n t = (q : Query) × (names : List (List ℕ)) × (command_of (understood (schema_of n) (listing_of n t)) ≡ Select (record { lets = []; body = q }) names)
+
+query_of : (n : Edition) (t : Table) → IsQuery n t
+query_of n table.Meta = (_, _, (reads_meta n).command)
+query_of n table.Departments = (_, _, (reads_departments n).command)
+query_of n table.Callers = (_, _, (reads_callers n).command)
+query_of n table.Buckets = (_, _, (reads_buckets n).command)
+query_of n table.Rules = (_, _, (reads_rules n).command)
+query_of n table.Entries = (_, _, (reads_entries n).command)
+query_of n table.Contents = (_, _, (reads_contents n).command)
+query_of n table.Settings = (_, _, (reads_settings n).command)
+query_of n table.Intake = (_, _, (reads_intake n).command)
+query_of n table.Heads = (_, _, (reads_heads n).command)
+query_of First table.Tenures = (_, _, pairs_are First)
+query_of Second table.Tenures = (_, _, pairs_are Second)
+query_of Third table.Tenures = (_, _, reads_tenures.command)
+
+module _ (n : Edition) (t : Table) (from : State) (v : Vault) (is : AreSoundAs n from.now v) where
+  -- what begins an answer begins the rows of the vault
+  goes_on : IsTrue from.is_open → (rows : List Row) → Begins (listing_of n t) [] from rows → (tail : List Row) × IsPermutation (rows_of v t) (rows ++ tail)
+  goes_on is_open rows begins =
+      let q = query_of n t in
+      let on = goes_on_to (listing_of n t) from (schema_of n) is.spells.schema q.0 q.1 q.2 is_open rows begins in
+      (on.0, shown_stated n t from from v is (rows ++ on.0) on.1)
+
+  pub asks_for_rows : AsksFor t (listing_of n t) from
+  asks_for_rows = record {
+    asks = subst (λ s. Asks s (listing_of n t)) (sym is.spells.schema) (asks_for n t);
+    stated = λ is_open rows begins.
+        let on = goes_on is_open rows begins in
+        front (IsRowOf t) rows on.0 (rows_stated v t (rows ++ on.0) on.1);
+  }
+
+  module _ (x : Database) (was : HasFirstRows v (place_of t) x) where
+    -- the rows so far, in the tables
+    so_far : (rows : List Row) (y : Database) → Adds t rows x y → AreSameRows (with_rows t (λ _. rows) (first_rows v (place_of t))) (rows_in y)
+    so_far rows y added s = elim (cases_Bool (place_of t == place_of s)) [
+      | inl same ↦
+          let is_it : t ≡ s = one_table t s (grind (arith, nat_tests, same)) in
+          let none : IsPermutation [] (rows_in x t) = subst (λ b. IsPermutation (cond b (rows_of v t) []) (rows_in x t)) (not_below (place_of t)) (was.rows t) in
+          let put : IsPermutation rows (rows_in y t) = subst (λ rs. IsPermutation rs (rows_in y t)) (append-nil rows) (IsPermutation-trans _ _ _ (IsPermutation-append_right rows _ _ none) added.here) in
+          rw same (subst (λ u. IsPermutation rows (rows_in y u)) is_it put)
+      | inr other ↦ rw other (IsPermutation-trans _ _ _ (was.rows s) (added.beside s other))
+    ]
+
+    pub stops_for : (e : Error) → IsMemory e ⊎ StopsAt t (listing_of n t) from x → IsRefusedFor v e
+    stops_for e (inl memory) = inl memory
+    stops_for e (inr (before, row, now, is_open, begins, gone, refused)) =
+        let on = goes_on is_open (before ++ row ∷ []) begins in
+        let stated = rows_stated v t ((before ++ row ∷ []) ++ on.0) on.1 in
+        let added = adds t before x now (front (IsRowOf t) before (row ∷ []) (front (IsRowOf t) (before ++ row ∷ []) on.0 stated)) gone was.schema in
+        inr (record {
+          table = t;
+          before = before;
+          row = row;
+          after = on.0;
+          all = subst (IsPermutation (rows_of v t)) (append_assoc before (row ∷ []) on.0) on.1;
+          now = now;
+          schema = added.schema;
+          has = so_far before now added;
+          refused = refused;
+        })
+
+    pub fails_for : {A : Type 0} (r : Result A Error) → IfErr r (λ e. IsMemory e ⊎ StopsAt t (listing_of n t) from x) → IfErr r (IsRefusedFor v)
+    fails_for (Ok a) h = tt
+    fails_for (Err e) h = stops_for e h
+
+-- what is reported as a failure, though the stores work, is a row that was refused
+pub refused_row : (v : Vault) (e : Error) → IsRefusedFor v e → refusal_of e ≡ Device → RefusesARow v
+refused_row v e (inl memory) stated = absurd (no_device e memory stated)
+refused_row v e (inr it) stated = it
