@@ -1,6 +1,5 @@
 -- The walk over meta.
-use Rattle.std.proofs.Common.{◌≡◌, List, [], ◌∷◌, drop, map, true, false, Some, None, Option, Less, IsPermutation, IsSorted, refl, ap, subst}
-use Rattle.std.proofs.Common.{arith}
+use Rattle.std.proofs.Common.{◌≡◌, List, [], ◌∷◌, drop, map, true, false, Some, None, Option, Less, IsPermutation, IsSorted, refl, ap, subst, arith}
 use Rattle.std.proofs.lemmas.List.Sorted.{length_permutation}
 use Rattle.sqlite_value.specs.Order.{Row}
 use Rattle.sqlite_trees.specs.Tree.{IsAscending}

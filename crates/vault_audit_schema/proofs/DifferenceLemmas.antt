@@ -12,7 +12,7 @@ use Rattle.vault_audit_model.specs.declared.schema.Edition.TheVariants.{First, S
 use Rattle.vault_audit_model.specs.Order.{place_of, made_in}
 use Rattle.vault_audit_model.specs.Tables.{schema_of}
 use Rattle.vault_audit_schema.specs.Compare.{IsFirstUnlike}
-use Rattle.vault_audit_schema.specs.Places.{HasTable, IsInPlace, AreInPlace, BeginTo, IsReportedOf, IsReportedIn}
+use Rattle.vault_audit_schema.specs.Places.{HasTable, IsInPlace, AreInPlace, BeginTo, IsReportedOf}
 use Rattle.vault_audit_schema.proofs.CompareLemmas.{unlike_not}
 
 pub place_below : (t : Table) → place_of t < 11

@@ -1,8 +1,8 @@
 -- No store refuses a statement that makes a table or an index of a vault.
-use Rattle.std.proofs.Common.{◌≡◌, ◌≢◌, ◌⊎◌, ℕ, ◌+◌, ◌*◌, ◌^◌, ◌≤◌, ◌==◌, nat_lt, List, [], ◌∷◌, length, codes, Bool, true, false, Ok, Err, inl, inr, refl, sym, ap, subst, ◌∙◌, arith, rules}
+use Rattle.std.proofs.Common.{◌≡◌, ℕ, ◌+◌, ◌*◌, ◌^◌, ◌≤◌, nat_lt, List, [], ◌∷◌, length, codes, Bool, true, false, Ok, Err, inl, inr, sym, ap, subst, ◌∙◌, arith, rules}
 use Rattle.std.specs.Prelude.{IsUtf8, encode_utf8_all}
 use Rattle.std.specs.Str.{all_scalars}
-use Rattle.std.specs.List.{AllByRecursion, list_any, list_all}
+use Rattle.std.specs.List.{AllByRecursion, list_any}
 use Rattle.std.proofs.lemmas.Bool.Decides.{nat_tests}
 use Rattle.sqlite_value.specs.declared.value.Value.TheVariants.{Text}
 use Rattle.sqlite_trees.specs.Tree.{Trees}
@@ -10,12 +10,12 @@ use Rattle.sqlite_schema.specs.declared.schema.Constraint.TheVariants.{Unique}
 use Rattle.sqlite_schema.specs.declared.schema.Index.{Index}
 use Rattle.sqlite_schema.specs.declared.schema.Schema.{Schema}
 use Rattle.sqlite_schema.specs.declared.schema.Table.{Table}
-use Rattle.sqlite_schema.specs.Rules.{table_reals, index_reals, passes, Keeps}
+use Rattle.sqlite_schema.specs.Rules.{table_reals, index_reals, passes}
 use Rattle.sqlite_rules.specs.Lists.{Has}
 use Rattle.sqlite_resolve.specs.Compile.{table_defined_by, index_defined_by}
 use Rattle.sqlite_catalog.specs.declared.error.Refusal.{Refusal}
 use Rattle.sqlite_catalog.specs.declared.error.Refusal.TheVariants.{Invalid, NameTaken, BadName, TooBig, BadKey, BadText, Violates}
-use Rattle.sqlite_catalog.specs.Calls.{RefusesTable, IsLongTable, RefusesIndex, IsLongIndex, IsBadName}
+use Rattle.sqlite_catalog.specs.Calls.{RefusesTable, IsLongTable, RefusesIndex, IsLongIndex}
 use Rattle.sqlite_catalog.specs.Change.{next_tree, is_used, is_reserved, automatics, indexed}
 use Rattle.sqlite_catalog.specs.Listing.{is_formed, is_fit}
 use Rattle.vault_audit_schema.specs.Statements.{IsTakenAsTable, IsTakenAsIndex}

@@ -1,5 +1,5 @@
 -- Queries that change nothing, and the rows that a running check has gone over.
-use Rattle.std.proofs.Common.{◌≡◌, ℕ, List, [], ◌∷◌, ◌++◌, Bool, true, false, Ok, refl, sym, subst, arith}
+use Rattle.std.proofs.Common.{◌≡◌, ℕ, List, [], ◌∷◌, ◌++◌, Bool, true, false, Result, Ok, Err, IfOk, refl, sym, subst, arith}
 use Rattle.std.specs.List.{AllByRecursion}
 use Rattle.sqlite_value.specs.Order.{Row}
 use Rattle.sqlite.specs.Effect.{Database}
@@ -41,8 +41,9 @@ module _ {P : Type 0} (takes : P → Row → Type 0) where
   stays p q [] same = (sym same, tt)
   stays p q (row ∷ rows) h =
       let rest = subst (λ m. (q ≡ m) × AllByRecursion (takes m) rows) h.1.0 (stays h.0 q rows h.2) in
-      (rest.0, h.1.1, rest.1)
+      (rest.0, (h.1.1, rest.1))
 
-  pub checked : (sql : List ℕ) (old new : State) (p q : P) (b : Bool) → Walked alone (λ m row. ¬ takes m row) sql old new p q b → Checked (takes p) sql old new b
-  checked sql old new p q true h = (h.0, h.1, (stays p q h.0 h.2).1)
-  checked sql old new p q false h = (h.0, h.1, h.3, subst (λ m. ¬ takes m h.1) (stays p h.2 h.0 h.4).0 h.5)
+  pub checked : {E : Type 0} (sql : List ℕ) (old new : State) (p q : P) (r : Result Bool E) → IfOk r (Walked alone (λ m row. ¬ takes m row) sql old new p q) → IfOk r (Checked (takes p) sql old new)
+  checked sql old new p q (Err e) h = tt
+  checked sql old new p q (Ok true) h = (h.0, h.1, (stays p q h.0 h.2).1)
+  checked sql old new p q (Ok false) h = (h.0, h.1, h.3, subst (λ m. ¬ takes m h.1) (stays p h.2 h.0 h.4).0 h.5)

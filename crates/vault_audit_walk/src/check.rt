@@ -27,12 +27,13 @@ pub trait Check {
 }
 
 /// A walk whose check of a row doesn't depend on the rows before it.
+#[derive(Drop)]
 struct EachRow<'a, C> {
     check: &'a C,
 }
 
 impl<'a, C: Check> Pass for EachRow<'a, C> {
-    ghost use Rattle.std.specs.Prelude.{◌≡◌, ◌×◌};
+    ghost use Rattle.std.specs.Prelude.{◌≡◌};
 
     ghost goes = { λ old row new. (new ≡ old) × C.takes old.check.now row };
 
