@@ -126,10 +126,6 @@ ServedFor hosts Failed moment input old out new =
     ⊎ (((0 < length input) × HasNoHead input × Denied moment true refusal.InvalidArgument None old out new)
     ⊎ ((h : RequestHead) × (rest : List ℕ) × IsHead input h rest × HeadServed hosts Failed moment h rest old out new))
 
--- the same where requests for any host are answered
-abbrev pub Served : Type 0 → Option ℕ → List ℕ → Vault → List ℕ → Vault → Type 0
-Served = ServedFor []
-
 -- what is written for an input where it is known
 abbrev pub Answered : List (List ℕ) → Type 0 → Option ℕ → Option (List ℕ) → Vault → Vault → Option (List ℕ) → Option (List ℕ) → Type 0
 Answered hosts Failed moment known old new before after =

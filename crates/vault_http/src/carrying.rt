@@ -1,11 +1,10 @@
 //! Commands carried out, and refusals, with their answers written.
 ghost use Rattle.std.specs.Prelude.{◌≡◌, ◌≤◌, ℕ, List, IfErr, OnOk, Ok, Err, Some};
 ghost use Rattle.std.specs.Io.KnownBytes.{Appends};
-ghost use Rattle.vault_core_model.specs.Leaves.{RoseOrIsFull};
+ghost use Rattle.vault_http.specs.Calls.{DoneBy, JudgedBy, JudgedLeftBy, JudgedSteadyBy};
 ghost use Rattle.vault_http.specs.Reply.{AnswersRefusal};
 ghost use Rattle.vault_http.specs.Exchange as spec;
 ghost use Rattle.vault_http.specs.Left as left;
-ghost use Rattle.vault_http.specs.Steady.{JudgedSteady};
 ghost use Rattle.vault_http.specs.declared.fault.ServeFault.TheVariants as faults;
 
 use crate::answer::head::Allow;
@@ -39,13 +38,13 @@ fn answer<W: Write, K: Keeper>(
     command: &Command,
     shown: bool,
 ) -> Result<(), ServeFault>
-    ensures ok { K.is_honest keeper.new → OnOk result ((out : List ℕ) × spec.Done (RoseOrIsFull (K.count keeper.old) (K.count keeper.new)) at shown who.now command.now (K.vault keeper.old) out (K.vault keeper.new) × Appends (W.contents writer.old) (W.contents writer.new) out) }
-    ensures err { K.is_honest keeper.new → IfErr result (λ e. left.JudgedLeft (RoseOrIsFull (K.count keeper.old) (K.count keeper.new)) e at shown who.now (Ok command.now) (K.vault keeper.old) (K.vault keeper.new) (W.contents writer.old) (W.contents writer.new)) }
+    ensures ok { DoneBy K.Kept keeper.old keeper.new W.Write writer.old writer.new result at shown who.now command.now }
+    ensures err { JudgedLeftBy K.Kept keeper.old keeper.new W.Write writer.old writer.new result at shown who.now (Ok command.now) }
     ensures kind { ¬ (result ≡ Err faults.Read) }
     ensures once { K.is_honest keeper.new → left.AtMostOne (Some at) (K.vault keeper.old) (K.vault keeper.new) }
     ensures honest { K.is_honest keeper.new → K.is_honest keeper.old }
     ensures counted { K.count keeper.old ≤ K.count keeper.new }
-    ensures steady { JudgedSteady (K.is_honest keeper.new) result at shown who.now (Ok command.now) (K.vault keeper.old) (K.vault keeper.new) (K.count keeper.old) (K.count keeper.new) (W.contents writer.old) (W.contents writer.new) }
+    ensures steady { JudgedSteadyBy K.Kept keeper.old keeper.new W.Write writer.old writer.new result at shown who.now (Ok command.now) }
 {
     let reply = step(alloc, keeper, at, who, command);
     let Ok(bytes) = reply_bytes(alloc, Some(at), drops(command), reply, shown) else {
@@ -64,13 +63,13 @@ fn finish<W: Write, K: Keeper>(
     command: Command,
     shown: bool,
 ) -> Result<(), ServeFault>
-    ensures ok { K.is_honest keeper.new → OnOk result ((out : List ℕ) × spec.Done (RoseOrIsFull (K.count keeper.old) (K.count keeper.new)) at shown who command (K.vault keeper.old) out (K.vault keeper.new) × Appends (W.contents writer.old) (W.contents writer.new) out) }
-    ensures err { K.is_honest keeper.new → IfErr result (λ e. left.JudgedLeft (RoseOrIsFull (K.count keeper.old) (K.count keeper.new)) e at shown who (Ok command) (K.vault keeper.old) (K.vault keeper.new) (W.contents writer.old) (W.contents writer.new)) }
+    ensures ok { DoneBy K.Kept keeper.old keeper.new W.Write writer.old writer.new result at shown who command }
+    ensures err { JudgedLeftBy K.Kept keeper.old keeper.new W.Write writer.old writer.new result at shown who (Ok command) }
     ensures kind { ¬ (result ≡ Err faults.Read) }
     ensures once { K.is_honest keeper.new → left.AtMostOne (Some at) (K.vault keeper.old) (K.vault keeper.new) }
     ensures honest { K.is_honest keeper.new → K.is_honest keeper.old }
     ensures counted { K.count keeper.old ≤ K.count keeper.new }
-    ensures steady { JudgedSteady (K.is_honest keeper.new) result at shown who (Ok command) (K.vault keeper.old) (K.vault keeper.new) (K.count keeper.old) (K.count keeper.new) (W.contents writer.old) (W.contents writer.new) }
+    ensures steady { JudgedSteadyBy K.Kept keeper.old keeper.new W.Write writer.old writer.new result at shown who (Ok command) }
 {
     let written = answer(alloc, writer, keeper, at, &who, &command, shown);
     drop(command);
@@ -106,13 +105,13 @@ pub fn conclude<W: Write, K: Keeper>(
     judged: Result<Command, Refusal>,
     shown: bool,
 ) -> Result<(), ServeFault>
-    ensures ok { K.is_honest keeper.new → OnOk result ((out : List ℕ) × spec.Judged (RoseOrIsFull (K.count keeper.old) (K.count keeper.new)) at shown who judged (K.vault keeper.old) out (K.vault keeper.new) × Appends (W.contents writer.old) (W.contents writer.new) out) }
-    ensures err { K.is_honest keeper.new → IfErr result (λ e. left.JudgedLeft (RoseOrIsFull (K.count keeper.old) (K.count keeper.new)) e at shown who judged (K.vault keeper.old) (K.vault keeper.new) (W.contents writer.old) (W.contents writer.new)) }
+    ensures ok { JudgedBy K.Kept keeper.old keeper.new W.Write writer.old writer.new result at shown who judged }
+    ensures err { JudgedLeftBy K.Kept keeper.old keeper.new W.Write writer.old writer.new result at shown who judged }
     ensures once { K.is_honest keeper.new → left.AtMostOne (Some at) (K.vault keeper.old) (K.vault keeper.new) }
     ensures kind { ¬ (result ≡ Err faults.Read) }
     ensures honest { K.is_honest keeper.new → K.is_honest keeper.old }
     ensures counted { K.count keeper.old ≤ K.count keeper.new }
-    ensures steady { JudgedSteady (K.is_honest keeper.new) result at shown who judged (K.vault keeper.old) (K.vault keeper.new) (K.count keeper.old) (K.count keeper.new) (W.contents writer.old) (W.contents writer.new) }
+    ensures steady { JudgedSteadyBy K.Kept keeper.old keeper.new W.Write writer.old writer.new result at shown who judged }
 {
     match judged {
         Ok(command) => finish(alloc, writer, keeper, at, who, command, shown),

@@ -1,15 +1,14 @@
 //! One request, served.
-ghost use Rattle.std.specs.Prelude.{◌≡◌, ◌≤◌, ℕ, List, IfErr, IfOk, IfSome, OnOk, Err, Some, length};
-ghost use Rattle.std.specs.Io.KnownBytes.{Appends, Consumes};
-ghost use Rattle.httparse.specs.Spans.{IsRequestWithin, span_bytes};
+ghost use Rattle.std.specs.Prelude.{◌≡◌, ◌≤◌, [], ℕ, List, IfOk, OnOk, Err, Some, length};
+ghost use Rattle.std.specs.Io.KnownBytes.{Consumes};
+ghost use Rattle.httparse.specs.Spans.{IsRequestWithin};
 ghost use Rattle.vault_base.specs.Days.{moment_at};
-ghost use Rattle.vault_core_model.specs.Leaves.{RoseOrIsFull};
 ghost use Rattle.vault_http_request.specs.Plan.{IsAt};
 ghost use Rattle.vault_values.specs.Fault.{Gives};
+ghost use Rattle.vault_http.specs.Calls.{AnsweredBy, AskedLeftBy, AskedServedBy, HeadLeftBy, HeadServedBy, PlanLeftBy, PlanServedBy, SpansLeftBy, SpansServedBy, SteadyBy, TakesBody, UnansweredBy};
 ghost use Rattle.vault_http.specs.Command.{IsWithinLength};
 ghost use Rattle.vault_http.specs.Exchange as spec;
 ghost use Rattle.vault_http.specs.Left as left;
-ghost use Rattle.vault_http.specs.Steady.{Steady};
 ghost use Rattle.vault_http.specs.declared.fault.ServeFault.TheVariants as faults;
 
 use crate::answer::head::Allow;
@@ -45,14 +44,14 @@ fn serve_parts<R: Read, W: Write, K: Keeper>(
     waits: bool,
     shown: bool,
 ) -> Result<(), ServeFault>
-    ensures ok { K.is_honest keeper.new → OnOk result (IfSome (R.remaining reader.old) (λ rest. (out : List ℕ) × spec.PlanServed (RoseOrIsFull (K.count keeper.old) (K.count keeper.new)) shown (spec.plan_of at operation size caller locks waits) rest (K.vault keeper.old) out (K.vault keeper.new) × Appends (W.contents writer.old) (W.contents writer.new) out)) }
-    ensures err { K.is_honest keeper.new → IfErr result (λ e. IfSome (R.remaining reader.old) (λ rest. left.PlanLeft (RoseOrIsFull (K.count keeper.old) (K.count keeper.new)) e shown (spec.plan_of at operation size caller locks waits) rest (R.remaining reader.new) (K.vault keeper.old) (K.vault keeper.new) (W.contents writer.old) (W.contents writer.new))) }
+    ensures ok { PlanServedBy K.Kept keeper.old keeper.new R.Read reader.old reader.new W.Write writer.old writer.new result shown (spec.plan_of at operation size caller locks waits) }
+    ensures err { PlanLeftBy K.Kept keeper.old keeper.new R.Read reader.old reader.new W.Write writer.old writer.new result shown (spec.plan_of at operation size caller locks waits) }
     ensures once { K.is_honest keeper.new → left.AtMostOne (Some at) (K.vault keeper.old) (K.vault keeper.new) }
     ensures unread { result ≡ Err faults.Read → K.vault keeper.new ≡ K.vault keeper.old }
     ensures taken { OnOk result ((taken : List ℕ) × Consumes (R.remaining reader.old) (R.remaining reader.new) taken × IsWithinLength size taken) }
     ensures honest { K.is_honest keeper.new → K.is_honest keeper.old }
     ensures counted { K.count keeper.old ≤ K.count keeper.new }
-    ensures steady { Steady (K.is_honest keeper.new) result (Some at) (K.vault keeper.old) (K.vault keeper.new) (K.count keeper.old) (K.count keeper.new) (W.contents writer.old) (W.contents writer.new) }
+    ensures steady { SteadyBy K.Kept keeper.old keeper.new W.Write writer.old writer.new result (Some at) }
 {
     let stated = send_interim(writer, waits);
     let judged = command_after(alloc, reader, operation, locks, size, stated)?;
@@ -68,14 +67,14 @@ fn serve_plan<R: Read, W: Write, K: Keeper>(
     plan: Plan,
     shown: bool,
 ) -> Result<(), ServeFault>
-    ensures ok { K.is_honest keeper.new → OnOk result (IfSome (R.remaining reader.old) (λ rest. (out : List ℕ) × spec.PlanServed (RoseOrIsFull (K.count keeper.old) (K.count keeper.new)) shown plan rest (K.vault keeper.old) out (K.vault keeper.new) × Appends (W.contents writer.old) (W.contents writer.new) out)) }
-    ensures err { K.is_honest keeper.new → IfErr result (λ e. IfSome (R.remaining reader.old) (λ rest. left.PlanLeft (RoseOrIsFull (K.count keeper.old) (K.count keeper.new)) e shown plan rest (R.remaining reader.new) (K.vault keeper.old) (K.vault keeper.new) (W.contents writer.old) (W.contents writer.new))) }
+    ensures ok { PlanServedBy K.Kept keeper.old keeper.new R.Read reader.old reader.new W.Write writer.old writer.new result shown plan }
+    ensures err { PlanLeftBy K.Kept keeper.old keeper.new R.Read reader.old reader.new W.Write writer.old writer.new result shown plan }
     ensures once { K.is_honest keeper.new → left.AtMostOne (Some plan.at) (K.vault keeper.old) (K.vault keeper.new) }
     ensures unread { result ≡ Err faults.Read → K.vault keeper.new ≡ K.vault keeper.old }
     ensures taken { OnOk result ((taken : List ℕ) × Consumes (R.remaining reader.old) (R.remaining reader.new) taken × IsWithinLength plan.headers.length taken) }
     ensures honest { K.is_honest keeper.new → K.is_honest keeper.old }
     ensures counted { K.count keeper.old ≤ K.count keeper.new }
-    ensures steady { Steady (K.is_honest keeper.new) result (Some plan.at) (K.vault keeper.old) (K.vault keeper.new) (K.count keeper.old) (K.count keeper.new) (W.contents writer.old) (W.contents writer.new) }
+    ensures steady { SteadyBy K.Kept keeper.old keeper.new W.Write writer.old writer.new result (Some plan.at) }
 {
     let Plan {
         at,
@@ -152,14 +151,14 @@ fn serve_asked<R: Read, W: Write, K: Keeper>(
     shown: bool,
 ) -> Result<(), ServeFault>
     requires { IsAt moment.now asked }
-    ensures ok { K.is_honest keeper.new → OnOk result (IfSome (R.remaining reader.old) (λ rest. (out : List ℕ) × spec.AskedServed (RoseOrIsFull (K.count keeper.old) (K.count keeper.new)) moment.now shown asked rest (K.vault keeper.old) out (K.vault keeper.new) × Appends (W.contents writer.old) (W.contents writer.new) out)) }
-    ensures err { K.is_honest keeper.new → IfErr result (λ e. IfSome (R.remaining reader.old) (λ rest. left.AskedLeft (RoseOrIsFull (K.count keeper.old) (K.count keeper.new)) e moment.now shown asked rest (R.remaining reader.new) (K.vault keeper.old) (K.vault keeper.new) (W.contents writer.old) (W.contents writer.new))) }
+    ensures ok { AskedServedBy K.Kept keeper.old keeper.new R.Read reader.old reader.new W.Write writer.old writer.new result moment.now shown asked }
+    ensures err { AskedLeftBy K.Kept keeper.old keeper.new R.Read reader.old reader.new W.Write writer.old writer.new result moment.now shown asked }
     ensures once { K.is_honest keeper.new → left.AtMostOne moment.now (K.vault keeper.old) (K.vault keeper.new) }
     ensures unread { result ≡ Err faults.Read → K.vault keeper.new ≡ K.vault keeper.old }
     ensures taken { OnOk result ((taken : List ℕ) × Consumes (R.remaining reader.old) (R.remaining reader.new) taken × left.IsAskedTaken asked taken) }
     ensures honest { K.is_honest keeper.new → K.is_honest keeper.old }
     ensures counted { K.count keeper.old ≤ K.count keeper.new }
-    ensures steady { Steady (K.is_honest keeper.new) result moment.now (K.vault keeper.old) (K.vault keeper.new) (K.count keeper.old) (K.count keeper.new) (W.contents writer.old) (W.contents writer.new) }
+    ensures steady { SteadyBy K.Kept keeper.old keeper.new W.Write writer.old writer.new result moment.now }
 {
     match asked {
         Asked::Plan(plan) => serve_plan(alloc, reader, writer, keeper, plan, shown),
@@ -185,14 +184,14 @@ fn serve_judged<R: Read, W: Write, K: Keeper>(
     shown: bool,
 ) -> Result<(), ServeFault>
     requires { IfOk judged (IsAt moment.now) }
-    ensures ok { K.is_honest keeper.new → (said : spec.Said) → Gives (λ x. x) judged said → OnOk result (IfSome (R.remaining reader.old) (λ rest. (out : List ℕ) × spec.HeadJudged (RoseOrIsFull (K.count keeper.old) (K.count keeper.new)) moment.now shown said rest (K.vault keeper.old) out (K.vault keeper.new) × Appends (W.contents writer.old) (W.contents writer.new) out)) }
-    ensures err { K.is_honest keeper.new → (said : spec.Said) → Gives (λ x. x) judged said → IfErr result (λ e. IfSome (R.remaining reader.old) (λ rest. left.HeadLeft (RoseOrIsFull (K.count keeper.old) (K.count keeper.new)) e moment.now shown said rest (R.remaining reader.new) (K.vault keeper.old) (K.vault keeper.new) (W.contents writer.old) (W.contents writer.new))) }
+    ensures ok { HeadServedBy K.Kept keeper.old keeper.new R.Read reader.old reader.new W.Write writer.old writer.new result moment.now shown judged }
+    ensures err { HeadLeftBy K.Kept keeper.old keeper.new R.Read reader.old reader.new W.Write writer.old writer.new result moment.now shown judged }
     ensures once { K.is_honest keeper.new → left.AtMostOne moment.now (K.vault keeper.old) (K.vault keeper.new) }
     ensures unread { result ≡ Err faults.Read → K.vault keeper.new ≡ K.vault keeper.old }
-    ensures taken { (said : spec.Said) → Gives (λ x. x) judged said → OnOk result ((taken : List ℕ) × Consumes (R.remaining reader.old) (R.remaining reader.new) taken × left.IsBodyTaken said taken) }
+    ensures taken { (said : spec.Said) → Gives (λ x. x) judged said → OnOk result (TakesBody said (R.remaining reader.old) (R.remaining reader.new)) }
     ensures honest { K.is_honest keeper.new → K.is_honest keeper.old }
     ensures counted { K.count keeper.old ≤ K.count keeper.new }
-    ensures steady { Steady (K.is_honest keeper.new) result moment.now (K.vault keeper.old) (K.vault keeper.new) (K.count keeper.old) (K.count keeper.new) (W.contents writer.old) (W.contents writer.new) }
+    ensures steady { SteadyBy K.Kept keeper.old keeper.new W.Write writer.old writer.new result moment.now }
 {
     match judged {
         Ok(asked) => serve_asked(alloc, reader, writer, keeper, moment, asked, shown),
@@ -215,14 +214,14 @@ fn serve_head<R: Read, W: Write, K: Keeper>(
 ) -> Result<(), ServeFault>
     requires within { IsRequestWithin buf.now headers.now spans }
     requires room { length headers.now ≡ 64 }
-    ensures ok { K.is_honest keeper.new → OnOk result (IfSome (R.remaining reader.old) (λ rest. (out : List ℕ) × spec.HeadJudged (RoseOrIsFull (K.count keeper.old) (K.count keeper.new)) moment.now (spec.is_shown (span_bytes buf.now spans.method)) (spec.spans_asked hosts.now moment.now buf.now headers.now spans) rest (K.vault keeper.old) out (K.vault keeper.new) × Appends (W.contents writer.old) (W.contents writer.new) out)) }
-    ensures err { K.is_honest keeper.new → IfErr result (λ e. IfSome (R.remaining reader.old) (λ rest. left.HeadLeft (RoseOrIsFull (K.count keeper.old) (K.count keeper.new)) e moment.now (spec.is_shown (span_bytes buf.now spans.method)) (spec.spans_asked hosts.now moment.now buf.now headers.now spans) rest (R.remaining reader.new) (K.vault keeper.old) (K.vault keeper.new) (W.contents writer.old) (W.contents writer.new))) }
+    ensures ok { SpansServedBy K.Kept keeper.old keeper.new R.Read reader.old reader.new W.Write writer.old writer.new result hosts.now moment.now buf.now headers.now spans }
+    ensures err { SpansLeftBy K.Kept keeper.old keeper.new R.Read reader.old reader.new W.Write writer.old writer.new result hosts.now moment.now buf.now headers.now spans }
     ensures once { K.is_honest keeper.new → left.AtMostOne moment.now (K.vault keeper.old) (K.vault keeper.new) }
     ensures unread { result ≡ Err faults.Read → K.vault keeper.new ≡ K.vault keeper.old }
-    ensures taken { OnOk result ((taken : List ℕ) × Consumes (R.remaining reader.old) (R.remaining reader.new) taken × left.IsBodyTaken (spec.spans_asked hosts.now moment.now buf.now headers.now spans) taken) }
+    ensures taken { OnOk result (TakesBody (spec.spans_asked hosts.now moment.now buf.now headers.now spans) (R.remaining reader.old) (R.remaining reader.new)) }
     ensures honest { K.is_honest keeper.new → K.is_honest keeper.old }
     ensures counted { K.count keeper.old ≤ K.count keeper.new }
-    ensures steady { Steady (K.is_honest keeper.new) result moment.now (K.vault keeper.old) (K.vault keeper.new) (K.count keeper.old) (K.count keeper.new) (W.contents writer.old) (W.contents writer.new) }
+    ensures steady { SteadyBy K.Kept keeper.old keeper.new W.Write writer.old writer.new result moment.now }
 {
     serve_judged(
         alloc,
@@ -244,15 +243,13 @@ fn serve_at<R: Read, W: Write, K: Keeper>(
     moment: Option<Moment>,
     hosts: &Hosts,
 ) -> Result<(), ServeFault>
-    ensures ok { K.is_honest keeper.new → OnOk result (spec.Answered hosts.now (RoseOrIsFull (K.count keeper.old) (K.count keeper.new)) moment (R.remaining reader.old)
-        (K.vault keeper.old) (K.vault keeper.new) (W.contents writer.old) (W.contents writer.new)) }
-    ensures err { K.is_honest keeper.new → IfErr result (λ e. left.Unanswered hosts.now (RoseOrIsFull (K.count keeper.old) (K.count keeper.new)) e moment (R.remaining reader.old) (R.remaining reader.new)
-        (K.vault keeper.old) (K.vault keeper.new) (W.contents writer.old) (W.contents writer.new)) }
+    ensures ok { AnsweredBy K.Kept keeper.old keeper.new R.Read reader.old reader.new W.Write writer.old writer.new result hosts.now moment }
+    ensures err { UnansweredBy K.Kept keeper.old keeper.new R.Read reader.old reader.new W.Write writer.old writer.new result hosts.now moment }
     ensures once { K.is_honest keeper.new → left.AtMostOne moment (K.vault keeper.old) (K.vault keeper.new) }
     ensures unread { result ≡ Err faults.Read → K.vault keeper.new ≡ K.vault keeper.old }
     ensures taken { OnOk result (left.Taken hosts.now moment (R.remaining reader.old) (R.remaining reader.new)) }
     ensures leaves { left.LeavesNoLess K.Kept keeper.old keeper.new }
-    ensures steady { Steady (K.is_honest keeper.new) result moment (K.vault keeper.old) (K.vault keeper.new) (K.count keeper.old) (K.count keeper.new) (W.contents writer.old) (W.contents writer.new) }
+    ensures steady { SteadyBy K.Kept keeper.old keeper.new W.Write writer.old writer.new result moment }
 {
     let mut buf = Vec::new(alloc);
     let mut headers = [EMPTY_HEADER_SPAN; 64];
@@ -295,16 +292,16 @@ pub fn serve_one<R: Read, W: Write, K: Keeper>(
     keeper: &mut K,
     reading: i64,
 ) -> Result<(), ServeFault>
-    ensures ok { K.is_honest keeper.new → OnOk result (IfSome (R.remaining reader.old) (λ input. (out : List ℕ) × spec.Served (RoseOrIsFull (K.count keeper.old) (K.count keeper.new)) (moment_at reading) input (K.vault keeper.old) out (K.vault keeper.new) × Appends (W.contents writer.old) (W.contents writer.new) out)) }
-    ensures err { K.is_honest keeper.new → IfErr result (λ e. IfSome (R.remaining reader.old) (λ input. left.Left (RoseOrIsFull (K.count keeper.old) (K.count keeper.new)) e (moment_at reading) input (R.remaining reader.new) (K.vault keeper.old) (K.vault keeper.new) (W.contents writer.old) (W.contents writer.new))) }
+    ensures ok { AnsweredBy K.Kept keeper.old keeper.new R.Read reader.old reader.new W.Write writer.old writer.new result [] (moment_at reading) }
+    ensures err { UnansweredBy K.Kept keeper.old keeper.new R.Read reader.old reader.new W.Write writer.old writer.new result [] (moment_at reading) }
     ensures once { K.is_honest keeper.new → left.AtMostOne (moment_at reading) (K.vault keeper.old) (K.vault keeper.new) }
     ensures unread { result ≡ Err faults.Read → K.vault keeper.new ≡ K.vault keeper.old }
-    ensures taken { OnOk result (IfSome (R.remaining reader.old) (λ input. (taken : List ℕ) × Consumes (R.remaining reader.old) (R.remaining reader.new) taken × left.IsTaken (moment_at reading) input taken)) }
+    ensures taken { OnOk result (left.Taken [] (moment_at reading) (R.remaining reader.old) (R.remaining reader.new)) }
     ensures honest { K.is_honest keeper.new → K.is_honest keeper.old }
     ensures counted { K.count keeper.old ≤ K.count keeper.new }
     // Where the count rose, the reply of the one step says that the device failed, and what is written is its
     // answer, or a beginning of that.
-    ensures steady { Steady (K.is_honest keeper.new) result (moment_at reading) (K.vault keeper.old) (K.vault keeper.new) (K.count keeper.old) (K.count keeper.new) (W.contents writer.old) (W.contents writer.new) }
+    ensures steady { SteadyBy K.Kept keeper.old keeper.new W.Write writer.old writer.new result (moment_at reading) }
 {
     let hosts = Hosts::any(alloc);
     let moment = Moment::from_secs(reading);
@@ -323,16 +320,13 @@ pub fn serve_for<R: Read, W: Write, K: Keeper>(
     reading: i64,
     hosts: &Hosts,
 ) -> Result<(), ServeFault>
-    ensures ok { K.is_honest keeper.new → OnOk result (spec.Answered hosts.now (RoseOrIsFull (K.count keeper.old) (K.count keeper.new)) (moment_at reading) (R.remaining reader.old)
-        (K.vault keeper.old) (K.vault keeper.new) (W.contents writer.old) (W.contents writer.new)) }
-    ensures err { K.is_honest keeper.new → IfErr result (λ e. left.Unanswered hosts.now (RoseOrIsFull (K.count keeper.old) (K.count keeper.new)) e (moment_at reading) (R.remaining reader.old)
-        (R.remaining reader.new) (K.vault keeper.old) (K.vault keeper.new) (W.contents writer.old) (W.contents writer.new)) }
+    ensures ok { AnsweredBy K.Kept keeper.old keeper.new R.Read reader.old reader.new W.Write writer.old writer.new result hosts.now (moment_at reading) }
+    ensures err { UnansweredBy K.Kept keeper.old keeper.new R.Read reader.old reader.new W.Write writer.old writer.new result hosts.now (moment_at reading) }
     ensures once { K.is_honest keeper.new → left.AtMostOne (moment_at reading) (K.vault keeper.old) (K.vault keeper.new) }
     ensures unread { result ≡ Err faults.Read → K.vault keeper.new ≡ K.vault keeper.old }
     ensures taken { OnOk result (left.Taken hosts.now (moment_at reading) (R.remaining reader.old) (R.remaining reader.new)) }
     ensures leaves { left.LeavesNoLess K.Kept keeper.old keeper.new }
-    ensures steady { Steady (K.is_honest keeper.new) result (moment_at reading) (K.vault keeper.old) (K.vault keeper.new)
-        (K.count keeper.old) (K.count keeper.new) (W.contents writer.old) (W.contents writer.new) }
+    ensures steady { SteadyBy K.Kept keeper.old keeper.new W.Write writer.old writer.new result (moment_at reading) }
 {
     let moment = Moment::from_secs(reading);
     serve_at(alloc, reader, writer, keeper, moment, hosts)
