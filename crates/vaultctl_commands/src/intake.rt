@@ -85,7 +85,10 @@ pub fn take_in_and_print<K: Keeper, F: Folder, W: Write>(
 {
     let ListedIntake { at, asked, list } = intake;
     let AskedIntake {
-        who, bucket, batch, ..
+        who,
+        bucket,
+        batch,
+        ..
     } = asked;
     let report = take_in(alloc, keeper, at, who, bucket, batch, list, folder);
     let stated = print_report(alloc, &report, out);
