@@ -95,6 +95,13 @@ module _ (hosts : List (List ℕ)) (Failed : Type 0) (moment : Option ℕ) where
   denied_left (Some input) None unread a b buf d old p j e s = absurd p
   denied_left (Some input) (Some rest) unread a b buf d old p j e s = denied_left_by e input rest unread a b buf d old p j (deny_denied e moment d old a b s)
 
+  -- the head wasn't read
+  pub unread_left : (known unread a : Option (List ℕ)) (old : Vault) (e : ServeFault) → (e ≡ faults.Write → ⊥) → IfSome known (λ input. LeftFor hosts Failed e moment input unread old old a a)
+  unread_left None unread a old e other = tt
+  unread_left (Some input) unread a old faults.Read other = inl (refl, refl)
+  unread_left (Some input) unread a old faults.Memory other = inl (refl, refl)
+  unread_left (Some input) unread a old faults.Write other = absurd (other refl)
+
   -- ---- a plan
 
   -- a plan was served

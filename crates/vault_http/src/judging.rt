@@ -1,5 +1,5 @@
 //! The head of a request, read and judged.
-ghost use Rattle.std.specs.Prelude.{◌≡◌, ℕ, List, IfErr, IfOk, Err, length};
+ghost use Rattle.std.specs.Prelude.{◌≡◌, ◌≢◌, ℕ, List, Option, Ok, IfErr, IfOk, length};
 ghost use Rattle.std.specs.Io.KnownBytes.{Consumes};
 ghost use Rattle.httparse.specs.Spans.{IsRequestWithin, span_bytes};
 ghost use Rattle.vault_http_request.specs.Plan.{IsAt};
@@ -122,7 +122,7 @@ pub fn judge_request<R: Read>(
     moment: Option<Moment>,
 ) -> Result<Judgement, ServeFault>
     ensures judged { IfOk result (λ judged. (buf : List ℕ) × Consumes (R.remaining reader.old) (R.remaining reader.new) buf × Judges hosts.now moment (R.remaining reader.old) buf judged) }
-    ensures kind { ¬ (result ≡ Err faults.Write) }
+    ensures kind { IfErr result (λ e. e ≢ faults.Write) }
 {
     let mut buf = Vec::new(alloc);
     let mut headers = [EMPTY_HEADER_SPAN; 64];
