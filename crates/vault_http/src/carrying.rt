@@ -94,18 +94,13 @@ pub fn deny<W: Write>(
     alloc: Global,
     writer: &mut W,
     moment: Option<Moment>,
-    denial: Denial,
+    denial: &Denial,
 ) -> Result<(), ServeFault>
-    ensures ok { OnOk result ((out : List ℕ) × AnswersRefusal moment denial.refusal denial.allow denial.shown out × Appends (W.contents writer.old) (W.contents writer.new) out) }
-    ensures err { IfErr result (λ e. left.DenyLeft e moment denial.refusal denial.allow denial.shown (W.contents writer.old) (W.contents writer.new)) }
+    ensures ok { OnOk result ((out : List ℕ) × AnswersRefusal moment denial.now.refusal denial.now.allow denial.now.shown out × Appends (W.contents writer.old) (W.contents writer.new) out) }
+    ensures err { IfErr result (λ e. left.DenyLeft e moment denial.now.refusal denial.now.allow denial.now.shown (W.contents writer.old) (W.contents writer.new)) }
     ensures kind { ¬ (result ≡ Err faults.Read) }
 {
-    let Denial {
-        refusal,
-        allow,
-        shown,
-    } = denial;
-    let Ok(bytes) = refusal_bytes(alloc, moment, refusal, allow, shown) else {
+    let Ok(bytes) = refusal_bytes(alloc, moment, denial.refusal, denial.allow, denial.shown) else {
         return Err(ServeFault::Memory);
     };
     send(writer, bytes.as_slice())
@@ -135,7 +130,7 @@ pub fn conclude<W: Write, K: Keeper>(
                 allow: None,
                 shown: context.shown,
             };
-            deny(alloc, writer, Some(context.at), denial)
+            deny(alloc, writer, Some(context.at), &denial)
         }
     }
 }

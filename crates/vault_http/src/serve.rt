@@ -74,7 +74,7 @@ fn serve_at<R: Read, W: Write, K: Keeper>(
 {
     match judge_request(alloc, reader, hosts, moment)? {
         Judgement::Nothing => Ok(()),
-        Judgement::Denied(denial) => deny(alloc, writer, moment, denial),
+        Judgement::Denied(denial) => deny(alloc, writer, moment, &denial),
         Judgement::Planned(plan, shown) => {
             serve_plan(alloc, reader, writer, keeper, plan, shown)
         }
