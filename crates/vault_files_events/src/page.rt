@@ -9,7 +9,7 @@ ghost use Rattle.vault_files_events.specs.EventsText.{asked_found, asked_in, eve
 ghost use Rattle.vault_files_events.specs.Page as spec;
 ghost use Rattle.vault_files_events.specs.Past.{asked_past};
 
-use crate::past::{Past, count_entries, read_past};
+use crate::past::{Past, read_past};
 use crate::rows::rows_of;
 use crate::walk::HEADER;
 use std::alloc::{AllocError, Global};
@@ -17,21 +17,19 @@ use vault_base::content::Content;
 use vault_base::moment::Moment;
 use vault_base::name::VersionId;
 use vault_base::refusal::Refusal;
+use vault_core_evidence::parts::{count_entries, most_of, next_of};
 use vault_core_model::halt::{Fault, Halt};
 use vault_core_model::keeper::Keeper;
 
-/// A part of the text of events, and where the next one begins.
+/// A part of a text, which has the records of some entries, and where the next one begins.
 #[derive(Drop)]
-pub struct EventsPage {
+pub struct TextPage {
     pub text: Content,
     /// The id after which the next part begins; none after the last entry.
     pub next: Option<u32>,
 }
 
-/// The records of how many entries one part has at most.
-pub const MOST_ENTRIES: u32 = 1_000;
-
-/// The header comes with the first part.
+/// The header of events, which comes with the first part.
 fn header(alloc: Global, after: u32) -> Result<Vec<u8>, AllocError>
     ensures { IfOk result (λ text. text.items ≡ spec.header_if_first after) }
 {
@@ -110,26 +108,6 @@ fn push_range<K: Keeper>(
     Ok(())
 }
 
-/// How many entries the part after an id has, of a vault that has this many.
-fn most_of(entries: u32, after: u32) -> u32
-    ensures { result ≡ spec.most_of entries after }
-{
-    let left = entries.saturating_sub(after);
-    if left > MOST_ENTRIES {
-        MOST_ENTRIES
-    } else {
-        left
-    }
-}
-
-/// The id after which the next part begins.
-fn next_of(entries: u32, after: u32) -> Option<u32>
-    ensures { result ≡ spec.next_of entries after }
-{
-    let end = after.checked_add(MOST_ENTRIES)?;
-    (end < entries).then_some(end)
-}
-
 /// A part of the text of what happened before a moment: the records of the entries after an id, 1,000 of them at most,
 /// by rising id. The part after 0 is the first, and begins with the header.
 ///
@@ -143,7 +121,7 @@ pub fn events_page<K: Keeper>(
     keeper: &mut K,
     after: u32,
     before: Moment,
-) -> Result<EventsPage, Halt>
+) -> Result<TextPage, Halt>
     ensures page { K.is_honest keeper.new → spec.PagesAs result before after (K.vault keeper.old) }
     ensures leaves { LeavesSame K.Kept keeper.old keeper.new (is_device result) }
     // Whatever the device does, nothing else is refused.
@@ -157,7 +135,7 @@ pub fn events_page<K: Keeper>(
     let mut text = header(alloc, after)?;
     let most = most_of(entries, after);
     push_range(alloc, keeper, &mut text, &Some(before), after, most)?;
-    Ok(EventsPage {
+    Ok(TextPage {
         text: Content::new(text),
         next: next_of(entries, after),
     })
