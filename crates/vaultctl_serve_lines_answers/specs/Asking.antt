@@ -21,14 +21,14 @@ use Rattle.vault_http_door.specs.declared.inquiry.About.TheVariants as about
 use Rattle.vault_http_door.specs.declared.inquiry.Part.{Part}
 use Rattle.vault_http_door.specs.declared.status_line.Status.{Status}
 use Rattle.vault_io.specs.Begins.{Begins}
-use Rattle.vaultctl_serve_lines.specs.declared.asked.Asked.{Asked}
-use Rattle.vaultctl_serve_lines.specs.declared.asked.Wanted.{Wanted}
-use Rattle.vaultctl_serve_lines.specs.declared.asked.Wanted.TheVariants as wanted
-use Rattle.vaultctl_serve_lines.specs.declared.asking.Found.{Found}
-use Rattle.vaultctl_serve_lines.specs.declared.asking.Found.TheVariants as found
-use Rattle.vaultctl_serve_lines.specs.declared.line.Next.{Next}
-use Rattle.vaultctl_serve_lines.specs.declared.line.Next.TheVariants as next
-use Rattle.vaultctl_serve_lines.specs.declared.service.Service.{Service}
+use Rattle.vaultctl_serve_lines_answers.specs.declared.asked.Asked.{Asked}
+use Rattle.vaultctl_serve_lines_answers.specs.declared.asked.Wanted.{Wanted}
+use Rattle.vaultctl_serve_lines_answers.specs.declared.asked.Wanted.TheVariants as wanted
+use Rattle.vaultctl_serve_lines_answers.specs.declared.asking.Found.{Found}
+use Rattle.vaultctl_serve_lines_answers.specs.declared.asking.Found.TheVariants as found
+use Rattle.vaultctl_serve_lines_answers.specs.declared.line.Next.{Next}
+use Rattle.vaultctl_serve_lines_answers.specs.declared.line.Next.TheVariants as next
+use Rattle.vaultctl_serve_lines_answers.specs.declared.service.Service.{Service}
 
 -- how many entries have an id, how often the device failed, when the last change was, and when the server began
 abbrev pub status_of : Vault → ℕ → Option ℕ → Status

@@ -10,9 +10,9 @@ ghost use Rattle.vault_http.specs.Left.{LeavesNoLess};
 ghost use Rattle.vault_http.specs.ReplyLine.{reply_text};
 ghost use Rattle.vault_http_door.specs.PageLine.{page_line_text};
 ghost use Rattle.vault_io.specs.Begins.{Begins};
-ghost use Rattle.vaultctl_serve_lines.specs.Asking as spec;
-ghost use Rattle.vaultctl_serve_lines.specs.Asking.{buckets_page, Given, stated_text, status_of, Written};
-ghost use Rattle.vaultctl_serve_lines.specs.declared.asking.Found.{Found as AnyFound};
+ghost use Rattle.vaultctl_serve_lines_answers.specs.Asking as spec;
+ghost use Rattle.vaultctl_serve_lines_answers.specs.Asking.{buckets_page, Given, stated_text, status_of, Written};
+ghost use Rattle.vaultctl_serve_lines_answers.specs.declared.asking.Found.{Found as AnyFound};
 
 use crate::asked::{Asked, Wanted};
 use crate::line::Next;

@@ -19,21 +19,21 @@ use Rattle.vault_http_door.specs.Inquiry.{inquiry_of}
 use Rattle.vault_http_door.specs.declared.inquiry.About.TheVariants as about
 use Rattle.vault_http_door.specs.declared.inquiry.Inquiry.{Inquiry}
 use Rattle.vaultctl_replay.proofs.RunLemmas.{kept}
-use Rattle.vaultctl_serve_lines.specs.Answered.{Answered, AnswersOne, Left, LeavesOne, LineAnswered, LineLeft}
-use Rattle.vaultctl_serve_lines.specs.Asked.{about_or_refused, door_line_of, end_or_about, heard_of, is_malformed, unlike_command}
-use Rattle.vaultctl_serve_lines.specs.Asking.{found_of, is_end, judged, stated_text, StatedAs}
-use Rattle.vaultctl_serve_lines.specs.Closing.{closing, MayEnd}
-use Rattle.vaultctl_serve_lines.specs.declared.asked.Asked.{Asked}
-use Rattle.vaultctl_serve_lines.specs.declared.asked.DoorLine.{DoorLine}
-use Rattle.vaultctl_serve_lines.specs.declared.asked.DoorLine.TheVariants as door
-use Rattle.vaultctl_serve_lines.specs.declared.asked.Wanted.{Wanted}
-use Rattle.vaultctl_serve_lines.specs.declared.asked.Wanted.TheVariants as wanted
-use Rattle.vaultctl_serve_lines.specs.declared.asking.Found.{Found}
-use Rattle.vaultctl_serve_lines.specs.declared.asking.Found.TheVariants as found
-use Rattle.vaultctl_serve_lines.specs.declared.doors.Heard.{Heard}
-use Rattle.vaultctl_serve_lines.specs.declared.line.Next.{Next}
-use Rattle.vaultctl_serve_lines.specs.declared.service.Service.{Service}
-use Rattle.vaultctl_serve_lines.proofs.HeardLemmas.{began-once, finished-once, heard-at}
+use Rattle.vaultctl_serve_lines_answers.specs.Answered.{Answered, AnswersOne, Left, LeavesOne, LineAnswered, LineLeft}
+use Rattle.vaultctl_serve_lines_answers.specs.Asked.{about_or_refused, door_line_of, end_or_about, heard_of, is_malformed, unlike_command}
+use Rattle.vaultctl_serve_lines_answers.specs.Asking.{found_of, is_end, judged, stated_text, StatedAs}
+use Rattle.vaultctl_serve_lines_answers.specs.Closing.{closing, MayEnd}
+use Rattle.vaultctl_serve_lines_answers.specs.declared.asked.Asked.{Asked}
+use Rattle.vaultctl_serve_lines_answers.specs.declared.asked.DoorLine.{DoorLine}
+use Rattle.vaultctl_serve_lines_answers.specs.declared.asked.DoorLine.TheVariants as door
+use Rattle.vaultctl_serve_lines_answers.specs.declared.asked.Wanted.{Wanted}
+use Rattle.vaultctl_serve_lines_answers.specs.declared.asked.Wanted.TheVariants as wanted
+use Rattle.vaultctl_serve_lines_answers.specs.declared.asking.Found.{Found}
+use Rattle.vaultctl_serve_lines_answers.specs.declared.asking.Found.TheVariants as found
+use Rattle.vaultctl_serve_lines_answers.specs.declared.heard.Heard.{Heard}
+use Rattle.vaultctl_serve_lines_answers.specs.declared.line.Next.{Next}
+use Rattle.vaultctl_serve_lines_answers.specs.declared.service.Service.{Service}
+use Rattle.vaultctl_serve_lines_answers.proofs.HeardLemmas.{began-once, finished-once, heard-at}
 
 -- nothing was done
 left-none : (service : Service) (asked : DoorLine) (s : Standing) (w : Option (List ℕ)) → Left service s s w w asked
