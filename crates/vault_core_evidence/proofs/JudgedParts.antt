@@ -1,11 +1,11 @@
 -- What the judgements of all parts say of a vault.
-use Rattle.std.proofs.Common.{◌≡◌, ℕ, zero, suc, List, [], ◌∷◌, ◌++◌, length, take, drop, Option, Some, None, sym, subst}
+use Rattle.std.proofs.Common.{◌≡◌, ℕ, zero, suc, List, [], ◌∷◌, ◌++◌, length, take, drop, Some, None, sym, subst}
 use Rattle.std.specs.List.{AllByRecursion}
 use Rattle.vault_core_model.specs.declared.records.History.{History}
 use Rattle.vault_core_model.specs.Vault.{Vault}
 use Rattle.vault_core_evidence.specs.Breaches.{first_breach}
 use Rattle.vault_core_evidence.specs.Lawful.{IsLawful}
-use Rattle.vault_core_evidence.specs.Moves.{AreByMoves, IsByMove}
+use Rattle.vault_core_evidence.specs.Moves.{IsByMove}
 use Rattle.vault_core_evidence.specs.Parts.{LawfulAfter, most_of, next_of, part, part_breach}
 use Rattle.vault_core_evidence.proofs.FirstBreach.{first-lawful, first-moves, list-lawful, lawful-list}
 use Rattle.vault_core_evidence.proofs.PartLemmas.{part-and-rest, part-is-rest}

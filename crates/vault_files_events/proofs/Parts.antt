@@ -1,5 +1,5 @@
 -- Parts of the text of events, one after another.
-use Rattle.std.proofs.Common.{◌≡◌, ℕ, suc, ◌+◌, ◌-◌, ◌<◌, List, ◌++◌, length, take, drop, sym, ap, ◌∙◌, append_assoc, length-drop, arith}
+use Rattle.std.proofs.Common.{◌≡◌, ℕ, suc, ◌+◌, ◌-◌, ◌<◌, List, ◌++◌, length, take, drop, refl, sym, ap, ◌∙◌, append_assoc, length-drop, arith}
 use Rattle.std.specs.Prelude.{Option, Some, None}
 use Rattle.vault_core_model.specs.declared.records.History.{History}
 use Rattle.vault_core_model.specs.Vault.{Vault, history_of}
@@ -11,6 +11,8 @@ use Rattle.vault_core_evidence.specs.Events.{events_asked_of}
 use Rattle.vault_core_evidence.specs.Parts.{next_of, part}
 use Rattle.vault_files_events.specs.EventsText.{asked_found, asked_in, event_rows}
 use Rattle.vault_files_events.specs.Page.{rest_text}
+use Rattle.vault_files_events.specs.Past.{asked_of_past, past_of}
+use Rattle.vault_files_events.specs.declared.past.Past.{Past}
 use Rattle.vault_files_events.proofs.Adding.{rows_append}
 use Rattle.vault_files_events.proofs.Walking.{history_at, one_more}
 
@@ -38,6 +40,15 @@ rows_more before v after i id start so_far now sound low same first next =
     ∙ (ap (λ l. l ++ event_rows back) first
     ∙ (append_assoc start (event_rows front) (event_rows back)
     ∙ ap (λ l. start ++ l) (sym whole)))
+
+-- what is asked for of what was read
+past_asked : (asked : Option ℕ) (o : Option History) → asked_of_past asked (past_of o) ≡ asked_found asked o
+past_asked asked None = refl
+past_asked None (Some h) = refl
+past_asked (Some m) (Some h) = refl
+
+pub rows_of_past : (asked : Option ℕ) (o : Option History) (past : Option Past) (so_far now : List ℕ) → past ≡ past_of o → now ≡ so_far ++ event_rows (asked_of_past asked past) → now ≡ so_far ++ event_rows (asked_found asked o)
+rows_of_past asked o past so_far now is added = added ∙ ap (λ es. so_far ++ event_rows es) (ap (asked_of_past asked) is ∙ past_asked asked o)
 
 -- ---- the parts are the whole
 

@@ -4,10 +4,9 @@ ghost use Rattle.vault_base.specs.declared.refusal.Refusal.{Refusal as AnyRefusa
 ghost use Rattle.vault_base.specs.declared.refusal.Refusal.TheVariants.{InvalidArgument};
 ghost use Rattle.vault_core_model.specs.Halts.{is_device};
 ghost use Rattle.vault_core_model.specs.Leaves.{LeavesSame, ReadsAs};
-ghost use Rattle.vault_core_model.specs.Vault.{history_of};
-ghost use Rattle.vault_files_events.specs.EventsText.{asked_found, asked_in, event_rows};
+ghost use Rattle.vault_files_events.specs.EventsText.{asked_in, event_rows};
 ghost use Rattle.vault_files_events.specs.Page as spec;
-ghost use Rattle.vault_files_events.specs.Past.{asked_past};
+ghost use Rattle.vault_files_events.specs.Past.{asked_of_past};
 
 use crate::past::{Past, read_past};
 use crate::rows::rows_of;
@@ -40,15 +39,18 @@ fn header(alloc: Global, after: u32) -> Result<Vec<u8>, AllocError>
     }
 }
 
-/// Adds the records of one entry, and lets go of it.
-fn push_past(
+/// Adds the records of what was found of an entry, and lets go of it.
+fn push_found(
     alloc: Global,
     text: &mut Vec<u8>,
     before: &Option<Moment>,
-    past: Past,
+    found: Option<Past>,
 ) -> Result<(), AllocError>
-    ensures { OnOk result (text.new.items ≡ text.old.items ++ event_rows (asked_past before.now past)) }
+    ensures { OnOk result (text.new.items ≡ text.old.items ++ event_rows (asked_of_past before.now found)) }
 {
+    let Some(past) = found else {
+        return Ok(());
+    };
     let Past {
         entry,
         settings,
@@ -62,24 +64,6 @@ fn push_past(
         tenures.as_slice(),
     )?;
     text.extend_from_slice(rows.text.as_slice())?;
-    Ok(())
-}
-
-/// Adds the records of the entry of an id.
-fn push_found<K: Keeper>(
-    alloc: Global,
-    keeper: &mut K,
-    text: &mut Vec<u8>,
-    before: &Option<Moment>,
-    id: VersionId,
-) -> Result<(), Fault>
-    ensures ok { K.is_honest keeper.new → OnOk result (text.new.items ≡ text.old.items ++ event_rows (asked_found before.now (history_of (K.vault keeper.old) id))) }
-    ensures leaves { ReadsAs K.Kept keeper.old keeper.new result }
-{
-    let Some(past) = read_past(keeper, id)? else {
-        return Ok(());
-    };
-    push_past(alloc, text, before, past)?;
     Ok(())
 }
 
@@ -103,7 +87,8 @@ fn push_range<K: Keeper>(
         let Some(id) = VersionId::new(number) else {
             return Err(Fault::Memory);
         };
-        push_found(alloc, keeper, text, before, id)?;
+        let found = read_past(keeper, id)?;
+        push_found(alloc, text, before, found)?;
     }
     Ok(())
 }

@@ -1,9 +1,7 @@
 //! A part of the register of removals: the records of the removed ones among some entries, by rising id.
 ghost use Rattle.std.specs.Prelude.{◌≡◌, ◌≤◌, ◌-◌, ◌++◌, IfOk, OnOk, length, take, drop};
 ghost use Rattle.vault_core_model.specs.Leaves.{ReadsAs};
-ghost use Rattle.vault_core_model.specs.Reads.{entry_of};
 ghost use Rattle.vault_files_events.specs.RegisterPage as spec;
-ghost use Rattle.vault_files_texts.specs.Register.{row as row_of};
 
 use crate::page::TextPage;
 use std::alloc::{AllocError, Global};
@@ -26,31 +24,17 @@ fn header(alloc: Global, after: u32) -> Result<Vec<u8>, AllocError>
     }
 }
 
-/// Adds the record of an entry; of one that is held nothing.
-fn push_row(alloc: Global, text: &mut Vec<u8>, entry: &Entry) -> Result<(), AllocError>
-    ensures { OnOk result (text.new.items ≡ text.old.items ++ row_of entry.now) }
+/// Adds the record of what was found of an entry; of one that is held nothing.
+fn push_found(alloc: Global, text: &mut Vec<u8>, found: &Option<Entry>) -> Result<(), AllocError>
+    ensures { OnOk result (text.new.items ≡ text.old.items ++ spec.row_found found.now) }
 {
+    let Some(entry) = found else {
+        return Ok(());
+    };
     let Ok(record) = row(alloc, entry) else {
         return Err(AllocError);
     };
     text.extend_from_slice(record.as_slice())?;
-    Ok(())
-}
-
-/// Adds the record of the entry of an id.
-fn push_found<K: Keeper>(
-    alloc: Global,
-    keeper: &mut K,
-    text: &mut Vec<u8>,
-    id: VersionId,
-) -> Result<(), Fault>
-    ensures ok { K.is_honest keeper.new → OnOk result (text.new.items ≡ text.old.items ++ spec.row_found (entry_of (K.vault keeper.old) id)) }
-    ensures leaves { ReadsAs K.Kept keeper.old keeper.new result }
-{
-    let Some(entry) = keeper.entry(id)? else {
-        return Ok(());
-    };
-    push_row(alloc, text, &entry)?;
     Ok(())
 }
 
@@ -73,7 +57,8 @@ fn push_range<K: Keeper>(
         let Some(id) = VersionId::new(number) else {
             return Err(Fault::Memory);
         };
-        push_found(alloc, keeper, text, id)?;
+        let found = keeper.entry(id)?;
+        push_found(alloc, text, &found)?;
     }
     Ok(())
 }

@@ -1,7 +1,7 @@
-use Rattle.std.proofs.Common.{rules, ◌≡◌, ◌∙◌, ◌+◌, ◌<◌, None, sym, subst, arith}
+use Rattle.std.proofs.Common.{rules, ◌≡◌, ◌∙◌, ◌+◌, None, sym, subst, arith}
 use Rattle.vault_base.specs.Name.{is_version_id}
 use Rattle.vault_core_model.specs.Vault.{Vault}
-use Rattle.vault_core_evidence.proofs.ByIds.{FindsAt, its_id, left_goes_on, left_none, left_stops}
+use Rattle.vault_core_evidence.proofs.ByIds.{FindsAt, its_id, left_goes_on, left_stops}
 use Rattle.vault_core_evidence.proofs.walk.find_breach.Goals as goal
 
 pub returns-in-Some-2-clause-value : goal.returns-in-Some-2-clause-value
