@@ -1,6 +1,6 @@
 -- Parts of the register, one after another, and what removals in between leave of it.
 use Rattle.std.proofs.Common.{◌≡◌, ◌⊎◌, ℕ, zero, suc, ◌+◌, ◌-◌, ◌<◌, List, [], ◌∷◌, ◌++◌, length, map, take, drop, Bool, true, false, not, Option, Some, None, IsSome, refl, sym, ap, subst, ◌∙◌, inl, inr, append_assoc, append-nil, length-drop, arith}
-use Rattle.std.specs.Prelude.{filter, find, flat_map, nat_lt, option_map, slice_get, ◌==◌, if◌then◌else◌}
+use Rattle.std.specs.Prelude.{filter, find, flat_map, nat_lt, option_map, slice_get, ◌==◌}
 use Rattle.std.proofs.lemmas.Bool.{le-ltb, lt-ltb}
 use Rattle.std.proofs.lemmas.List.Concat.{flat_map-append}
 use Rattle.vault_core_model.specs.declared.command.Timed.{Timed}
@@ -141,12 +141,12 @@ found-here id x y gs hs g on e is =
 found-on : (id : ℕ) (gs hs : List History) (g : History) → Extends gs hs → find (λ h. h.entry.id == id) gs ≡ Some g → FoundOn id hs g
 found-on id [] hs g extends is = absurd (cc is)
 found-on id (x ∷ gs) [] g extends is = absurd extends
-found-on id (x ∷ gs) (y ∷ hs) g extends is = by (x.entry.id == id) refl
+found-on id (x ∷ gs) (y ∷ hs) g extends is = by (x.entry.id == id) refl (λ e. found-on id gs hs g extends.1 (rw e at is))
   where
-    by : (b : Bool) → (x.entry.id == id) ≡ b → FoundOn id (y ∷ hs) g
-    by true e = found-here id x y gs hs g extends.0 e is
-    by false e =
-        let later = found-on id gs hs g extends.1 (rw e at is) in
+    by : (b : Bool) → (x.entry.id == id) ≡ b → ((x.entry.id == id) ≡ false → FoundOn id hs g) → FoundOn id (y ∷ hs) g
+    by true e rest = found-here id x y gs hs g extends.0 e is
+    by false e rest =
+        let later = rest e in
         let other : (y.entry.id == id) ≡ false = ap (λ (n : ℕ). n == id) (ap (λ (f : Entry). f.id) extends.0.entry) ∙ e in
         (later.0, rw other later.1, later.2)
 
@@ -154,7 +154,7 @@ same-entry : (g h : History) → Continues g h → IsSome g.entry.removal → h.
 same-entry g h on gone = by on.removal
   where
     by : (g.entry.removal ≡ None) ⊎ (h.entry.removal ≡ g.entry.removal) → h.entry ≡ g.entry
-    by (inl none) = absurd (let P : Option Removal → Type 0 = λ o. IsSome o in subst P none gone)
+    by (inl none) = let P : Option Removal → Type 0 = λ o. IsSome o in absurd (cc (subst P none gone))
     by (inr same) = on.entry ∙ ap (λ (r : Option Removal). record g.entry { removal = r }) same
 
 pub removed-stays : (v later : Vault) (commands : List Timed) (replies : List Reply) (id : ℕ) (e : Entry) → Sound v → IsRun v commands replies later → entry_of v id ≡ Some e → IsSome e.removal → entry_of later id ≡ Some e

@@ -22,8 +22,8 @@ breach_text-is line printed law id next found inner value ended compact outer ma
     let stated : value ≡ ok_value (judged_value (breach_value id law) next) = outer ∙ ap ok_value (made ∙ ap (λ d. judged_value d next) is) in
     ended ∙ ap (λ t. t ++ 10 ∷ []) (compact (ap has_float stated ∙ breach-whole id law next) ∙ ap compact_text stated)
 
-pub clean_text-is : (line printed : List ℕ) (next : Option ℕ) (inner value : Data) → line ≡ printed ++ 10 ∷ [] → (has_float value ≡ false → printed ≡ compact_text value) → value ≡ ok_value inner → inner ≡ judged_value null next → line ≡ clean_text next
+pub clean_text-is : (line printed : List ℕ) (next : Option ℕ) (found inner value : Data) → line ≡ printed ++ 10 ∷ [] → (has_float value ≡ false → printed ≡ compact_text value) → value ≡ ok_value inner → inner ≡ judged_value found next → found ≡ null → line ≡ clean_text next
 unfolding clean_text
-clean_text-is line printed next inner value ended compact outer made =
-    let stated : value ≡ ok_value (judged_value null next) = outer ∙ ap ok_value made in
+clean_text-is line printed next found inner value ended compact outer made is =
+    let stated : value ≡ ok_value (judged_value null next) = outer ∙ ap ok_value (made ∙ ap (λ d. judged_value d next) is) in
     ended ∙ ap (λ t. t ++ 10 ∷ []) (compact (ap has_float stated ∙ clean-whole next) ∙ ap compact_text stated)

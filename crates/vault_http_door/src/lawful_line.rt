@@ -1,5 +1,6 @@
 //! The judgement of a part of a vault's entries, printed as a line.
 ghost use Rattle.std.specs.Prelude.{◌≡◌, IfOk, string_bytes};
+ghost use Rattle.serde_json.specs.Data.{null};
 ghost use Rattle.serde_json.specs.View.{view};
 ghost use Rattle.vault_http_door.specs.LawfulLine as spec;
 
@@ -13,6 +14,12 @@ fn breach_value(alloc: Global, id: VersionId, law: &str) -> Result<Value, AllocE
     ensures { IfOk result (λ value. view value ≡ spec.breach_value id law.now) }
 {
     json!(in alloc; { "law": law, "version_id": u64::from(id.number()) })
+}
+
+fn no_breach() -> Value
+    ensures { view result ≡ null }
+{
+    Value::Null
 }
 
 fn judged_members(alloc: Global, breach: &Value, next: &Value) -> Result<Value, AllocError>
@@ -53,7 +60,7 @@ pub fn breach_line(
 pub fn clean_line(alloc: Global, next: Option<u32>) -> Result<String, AllocError>
     ensures { IfOk result (λ line. string_bytes line ≡ spec.clean_text next) }
 {
-    let stated = judged_value(alloc, &Value::Null, next)?;
+    let stated = judged_value(alloc, &no_breach(), next)?;
     let value = ok_value(alloc, &stated)?;
     let mut line = value.to_string(alloc)?;
     line.push_str("\n")?;
