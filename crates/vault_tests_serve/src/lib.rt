@@ -15,6 +15,8 @@ mod late;
 #[cfg(test)]
 mod loopback;
 #[cfg(test)]
+mod parts;
+#[cfg(test)]
 mod peers;
 #[cfg(test)]
 mod served;

@@ -6,8 +6,8 @@ use Rattle.vaultctl_serve.specs.Serving.{Missed, Next, ReadsAs, Stepped, Stepped
 use Rattle.vaultctl_serve.proofs.ServingLemmas.{OnTime-taken, Stepped-append, Stepped-more, Stepped-none, Stepped-one, SteppedAt-append}
 use Rattle.vaultctl_replay.specs.declared.fault.ReplayFault.{ReplayFault}
 use Rattle.vaultctl_serve_lines.specs.Doors.{most_of, SteppedWithin, taken_in, turn_after}
-use Rattle.vaultctl_serve_lines.specs.declared.line.Next.{Next as AnyNext}
-use Rattle.vaultctl_serve_lines.specs.declared.line.Next.TheVariants as next
+use Rattle.vaultctl_serve_lines_answers.specs.declared.line.Next.{Next as AnyNext}
+use Rattle.vaultctl_serve_lines_answers.specs.declared.line.Next.TheVariants as next
 use Rattle.vaultctl_serve_lines.specs.declared.turns.Turn.{Turn}
 
 taken-append : (tries more : List Try) → taken_in (tries ++ more) ≡ taken_in tries + taken_in more

@@ -5,8 +5,8 @@ use Rattle.vaultctl_replay.specs.declared.fault.ReplayFault.{ReplayFault}
 use Rattle.vaultctl_serve.specs.Serving.{Missed, SteppedAt, Taken, Tries, Try}
 use Rattle.vaultctl_serve_lines.specs.declared.doors.Arrived.{Arrived}
 use Rattle.vaultctl_serve_lines.specs.declared.doors.Arrived.TheVariants as arrived
-use Rattle.vaultctl_serve_lines.specs.declared.line.Next.{Next}
-use Rattle.vaultctl_serve_lines.specs.declared.line.Next.TheVariants as next
+use Rattle.vaultctl_serve_lines_answers.specs.declared.line.Next.{Next}
+use Rattle.vaultctl_serve_lines_answers.specs.declared.line.Next.TheVariants as next
 use Rattle.vaultctl_serve_lines.specs.declared.turns.Turn.{Turn}
 use Rattle.vaultctl_serve_lines.specs.declared.turns.Turn.TheVariants as turn
 

@@ -3,7 +3,7 @@ use Rattle.std.specs.Prelude.{ℕ, ◌≡◌, ◌≤◌, ◌==◌, nat_le, is_so
 use Rattle.std.specs.List.{position}
 use Rattle.vaultctl_replay.specs.Lines.{ended, HasNoLf}
 use Rattle.vaultctl_serve.specs.InTime.{Due, bytes_of}
-use Rattle.vaultctl_serve_lines.specs.declared.doors.Heard.{Heard}
+use Rattle.vaultctl_serve_lines_answers.specs.declared.heard.Heard.{Heard}
 use Rattle.vaultctl_serve_lines.specs.declared.hearing.News.{News}
 use Rattle.vaultctl_serve_lines.specs.declared.hearing.News.TheVariants as news
 

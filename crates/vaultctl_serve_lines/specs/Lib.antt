@@ -1,6 +1,3 @@
-pub mod Answered
-pub mod Asked
-pub mod Asking
-pub mod Closing
 pub mod Doors
 pub mod Hearing
+pub use Rattle.vaultctl_serve_lines_answers.specs.declared.line.Next

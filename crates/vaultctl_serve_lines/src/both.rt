@@ -3,14 +3,12 @@ ghost use Rattle.std.specs.Prelude.{◌≡◌, IfOk, OnErr, OnOk};
 ghost use Rattle.vault_core_model.specs.Step.{Reached};
 ghost use Rattle.vault_http.specs.Left.{LeavesNoLess};
 ghost use Rattle.vaultctl_serve.specs.Serving.{ReportsOnce, Stepped};
-ghost use Rattle.vaultctl_serve_lines.specs.Closing.{IsEnded};
+ghost use Rattle.vaultctl_serve_lines_answers.specs.Closing.{IsEnded};
 
 use crate::door_reporter::DoorReporter;
 use crate::fault::DoorFault;
-use crate::line::Next;
 use crate::line_door::LineListener;
 use crate::place::LinePlace;
-use crate::service::Service;
 use crate::turns::serve_doors;
 use crate::two_doors::TwoDoors;
 use std::alloc::Global;
@@ -21,6 +19,8 @@ use std::time::Clock;
 use vault_core_model::keeper::Keeper;
 use vault_http::Hosts;
 use vaultctl_serve::clock::now;
+use vaultctl_serve_lines_answers::line::Next;
+use vaultctl_serve_lines_answers::service::Service;
 
 /// What is served, where, and by which program.
 #[derive(Clone, Copy)]

@@ -6,15 +6,7 @@ ghost use Rattle.vaultctl_serve_lines.specs.Doors.{HasArrived};
 
 use vault_http::Hosts;
 use vaultctl_serve::peer::Peer;
-
-/// A line as it was heard.
-#[derive(Drop)]
-pub struct Heard {
-    /// The bytes of the line before its LF.
-    pub bytes: Vec<u8>,
-    /// Its LF came; else the connection ended after these bytes.
-    pub is_ended: bool,
-}
+use vaultctl_serve_lines_answers::heard::Heard;
 
 /// What came in.
 #[derive(Drop)]

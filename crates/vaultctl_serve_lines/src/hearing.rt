@@ -4,13 +4,13 @@ ghost use Rattle.std.specs.Duration.{as_nanos};
 ghost use Rattle.std.specs.List.{position};
 ghost use Rattle.vaultctl_serve_lines.specs.Hearing.{Cuts, Gave, line_allowed, news_of};
 
-use crate::doors::Heard;
 use std::alloc::{AllocError, Global};
 use std::time::Duration;
 use std::{io, mem};
 use vault_http::read_line::LONGEST_LINE;
 use vaultctl_serve::deadline::{HEAD, REQUEST, time_left};
 use vaultctl_serve::inbound::Inbound;
+use vaultctl_serve_lines_answers::heard::Heard;
 
 /// As many bytes of a line have to come in the time of a request's head; a longer one has that of a whole request.
 const SHORT: usize = 16_384;

@@ -2,17 +2,13 @@
 //! and each turn is at most one request or one line.
 #![tactic(auto)]
 
-pub mod asked;
-pub mod asking;
 mod both;
 pub mod door_reporter;
 pub mod doors;
 mod fault;
 pub mod hearing;
-pub mod line;
 mod line_door;
 mod place;
-pub mod service;
 mod talk;
 mod turns;
 mod two_doors;
@@ -21,3 +17,4 @@ pub use both::{Places, serve_with_lines};
 pub use fault::DoorFault;
 pub use place::LinePlace;
 pub use turns::serve_doors;
+pub use vaultctl_serve_lines_answers::{heard, line, service};

@@ -1,5 +1,4 @@
 //! One connection of lines, which stays open from line to line.
-use crate::doors::Heard;
 use crate::hearing::{News, allowed, cut, hear, take_line};
 use crate::line_door::LinePeer;
 use std::alloc::Global;
@@ -7,6 +6,7 @@ use std::time::{Clock, Duration, Instant};
 use std::{io, mem};
 use vaultctl_serve::inbound::TimedPeer;
 use vaultctl_serve::peer::Peer;
+use vaultctl_serve_lines_answers::heard::Heard;
 
 /// A connection of lines, and what was read of it and isn't answered.
 #[derive(Drop)]

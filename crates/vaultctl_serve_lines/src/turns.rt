@@ -4,12 +4,10 @@ ghost use Rattle.vault_base.specs.Days.{moment_at};
 ghost use Rattle.vault_core_model.specs.Step.{Reached};
 ghost use Rattle.vault_http.specs.Left.{AtMostOne, LeavesNoLess};
 ghost use Rattle.vaultctl_serve.specs.Serving.{ReportsOnce, Stepped};
-ghost use Rattle.vaultctl_serve_lines.specs.Closing.{IsEnded, MayEnd};
+ghost use Rattle.vaultctl_serve_lines_answers.specs.Closing.{IsEnded, MayEnd};
 ghost use Rattle.vaultctl_serve_lines.specs.Doors.{most_of, SteppedWithin, turn_after};
 
-use crate::doors::{Arrived, Doors, Heard};
-use crate::line::{Next, serve_line};
-use crate::service::Service;
+use crate::doors::{Arrived, Doors};
 use std::time::{Clock, Instant};
 use vault_core_model::keeper::Keeper;
 use vaultctl_replay::ReplayFault;
@@ -19,6 +17,9 @@ use vaultctl_serve::peer::Peer;
 use vaultctl_serve::reporter::Reporter;
 use vaultctl_serve::serve_connection;
 use vaultctl_serve::timed::TimedAnswer;
+use vaultctl_serve_lines_answers::heard::Heard;
+use vaultctl_serve_lines_answers::line::{Next, serve_line};
+use vaultctl_serve_lines_answers::service::Service;
 
 /// What a turn came to.
 #[derive(Clone, Copy, Debug, PartialEq, Eq)]

@@ -1,7 +1,7 @@
 //! Two doors of one server, for which one thread waits: requests at a port, lines at another or at a path.
 ghost use Rattle.std.specs.Prelude.{None};
 
-use crate::doors::{Arrived, Doors, Heard};
+use crate::doors::{Arrived, Doors};
 use crate::line_door::LineListener;
 use crate::talk::Talk;
 use libc::net::{POLLIN, poll};
@@ -14,6 +14,7 @@ use std::{io, thread};
 use vault_http::Hosts;
 use vaultctl_serve::clock;
 use vaultctl_serve::deadline::{BETWEEN_TRIES, HEAD};
+use vaultctl_serve_lines_answers::heard::Heard;
 
 /// Milliseconds for which a connection of lines may be silent between two lines where no other waits.
 const SILENT: u64 = 60_000;

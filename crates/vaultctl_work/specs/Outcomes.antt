@@ -11,7 +11,7 @@ use Rattle.vaultctl_replay.specs.declared.fault.ReplayFault.TheVariants as repla
 use Rattle.vaultctl_serve.specs.declared.fault.PortFault.{PortFault}
 use Rattle.vaultctl_serve.specs.declared.fault.PortFault.TheVariants as port
 use Rattle.vaultctl_serve_lines.specs.declared.fault.DoorFault.{DoorFault}
-use Rattle.vaultctl_serve_lines.specs.declared.line.Next.{Next}
+use Rattle.vaultctl_serve_lines.specs.Next.{Next}
 
 -- a register is written or a fault is reported, by its name
 abbrev pub exported : Result (Unit {0}) ExportFault → Result Outcome JobFault

@@ -1,9 +1,9 @@
 use Rattle.std.proofs.Common.{◌∙◌, sym, inl}
 use Rattle.std.proofs.lemmas.Result.{IfOk-weaker, on_err_weaker}
 use Rattle.vault_core_model.specs.Leaves.{standing}
-use Rattle.vaultctl_serve_lines.proofs.ClosingLemmas.{asked-once, each-ok, given-same, line-answered, line-left, line-left-none, may-end}
-use Rattle.vaultctl_serve_lines.specs.declared.asked.DoorLine.TheVariants as door
-use Rattle.vaultctl_serve_lines.proofs.line.serve_line_at.Goals as goal
+use Rattle.vaultctl_serve_lines_answers.proofs.ClosingLemmas.{asked-once, each-ok, given-same, line-answered, line-left, line-left-none, may-end}
+use Rattle.vaultctl_serve_lines_answers.specs.declared.asked.DoorLine.TheVariants as door
+use Rattle.vaultctl_serve_lines_answers.proofs.line.serve_line_at.Goals as goal
 
 -- room for the line was refused
 pub returns-in_default-clause-err : goal.returns-in_default-clause-err

@@ -8,9 +8,9 @@ use Rattle.vault_http.specs.Stamped.{closer_of, stamped_line_of}
 use Rattle.vault_http_door.specs.Inquiry.{inquiry_of}
 use Rattle.vault_http_door.specs.declared.inquiry.Inquiry.{Inquiry}
 use Rattle.vaultctl_replay.specs.Lines.{is_cr}
-use Rattle.vaultctl_serve_lines.specs.declared.asked.DoorLine.{DoorLine}
-use Rattle.vaultctl_serve_lines.specs.declared.asked.DoorLine.TheVariants as door
-use Rattle.vaultctl_serve_lines.specs.declared.asked.Wanted.TheVariants as wanted
+use Rattle.vaultctl_serve_lines_answers.specs.declared.asked.DoorLine.{DoorLine}
+use Rattle.vaultctl_serve_lines_answers.specs.declared.asked.DoorLine.TheVariants as door
+use Rattle.vaultctl_serve_lines_answers.specs.declared.asked.Wanted.TheVariants as wanted
 
 -- What is asked by a line as one of a command, at what the clock shows. A CR without an LF after it is a byte of the line, so a CR alone is no empty line.
 abbrev pub heard_of : Bool → Option ℕ → List ℕ → Line

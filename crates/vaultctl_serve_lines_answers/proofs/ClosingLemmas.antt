@@ -14,26 +14,26 @@ use Rattle.vault_http.specs.Line.{Line}
 use Rattle.vault_http.specs.Line.TheVariants as line
 use Rattle.vault_http.specs.Stamped.{closer_of}
 use Rattle.vault_files_events.specs.Page.{page_of}
-use Rattle.vault_files_events.specs.declared.page.EventsPage.{EventsPage}
+use Rattle.vault_files_events.specs.declared.page.TextPage.{TextPage}
 use Rattle.vault_http_door.specs.Inquiry.{inquiry_of}
 use Rattle.vault_http_door.specs.declared.inquiry.About.TheVariants as about
 use Rattle.vault_http_door.specs.declared.inquiry.Inquiry.{Inquiry}
 use Rattle.vaultctl_replay.proofs.RunLemmas.{kept}
-use Rattle.vaultctl_serve_lines.specs.Answered.{Answered, AnswersOne, Left, LeavesOne, LineAnswered, LineLeft}
-use Rattle.vaultctl_serve_lines.specs.Asked.{about_or_refused, door_line_of, end_or_about, heard_of, is_malformed, unlike_command}
-use Rattle.vaultctl_serve_lines.specs.Asking.{found_of, is_end, judged, stated_text, StatedAs}
-use Rattle.vaultctl_serve_lines.specs.Closing.{closing, MayEnd}
-use Rattle.vaultctl_serve_lines.specs.declared.asked.Asked.{Asked}
-use Rattle.vaultctl_serve_lines.specs.declared.asked.DoorLine.{DoorLine}
-use Rattle.vaultctl_serve_lines.specs.declared.asked.DoorLine.TheVariants as door
-use Rattle.vaultctl_serve_lines.specs.declared.asked.Wanted.{Wanted}
-use Rattle.vaultctl_serve_lines.specs.declared.asked.Wanted.TheVariants as wanted
-use Rattle.vaultctl_serve_lines.specs.declared.asking.Found.{Found}
-use Rattle.vaultctl_serve_lines.specs.declared.asking.Found.TheVariants as found
-use Rattle.vaultctl_serve_lines.specs.declared.doors.Heard.{Heard}
-use Rattle.vaultctl_serve_lines.specs.declared.line.Next.{Next}
-use Rattle.vaultctl_serve_lines.specs.declared.service.Service.{Service}
-use Rattle.vaultctl_serve_lines.proofs.HeardLemmas.{began-once, finished-once, heard-at}
+use Rattle.vaultctl_serve_lines_answers.specs.Answered.{Answered, AnswersOne, Left, LeavesOne, LineAnswered, LineLeft}
+use Rattle.vaultctl_serve_lines_answers.specs.Asked.{about_or_refused, door_line_of, end_or_about, heard_of, is_malformed, unlike_command}
+use Rattle.vaultctl_serve_lines_answers.specs.Asking.{found_of, is_end, judged, stated_text, StatedAs}
+use Rattle.vaultctl_serve_lines_answers.specs.Closing.{closing, MayEnd}
+use Rattle.vaultctl_serve_lines_answers.specs.declared.asked.Asked.{Asked}
+use Rattle.vaultctl_serve_lines_answers.specs.declared.asked.DoorLine.{DoorLine}
+use Rattle.vaultctl_serve_lines_answers.specs.declared.asked.DoorLine.TheVariants as door
+use Rattle.vaultctl_serve_lines_answers.specs.declared.asked.Wanted.{Wanted}
+use Rattle.vaultctl_serve_lines_answers.specs.declared.asked.Wanted.TheVariants as wanted
+use Rattle.vaultctl_serve_lines_answers.specs.declared.asking.Found.{Found}
+use Rattle.vaultctl_serve_lines_answers.specs.declared.asking.Found.TheVariants as found
+use Rattle.vaultctl_serve_lines_answers.specs.declared.heard.Heard.{Heard}
+use Rattle.vaultctl_serve_lines_answers.specs.declared.line.Next.{Next}
+use Rattle.vaultctl_serve_lines_answers.specs.declared.service.Service.{Service}
+use Rattle.vaultctl_serve_lines_answers.proofs.HeardLemmas.{began-once, finished-once, heard-at}
 
 -- nothing was done
 left-none : (service : Service) (asked : DoorLine) (s : Standing) (w : Option (List ℕ)) → Left service s s w w asked
@@ -79,7 +79,7 @@ closes false line moment bytes asked e what = absurd cc
 
 -- ---- what is answered where the server ends
 
-not-events : (early : Bool) (page : EventsPage) → (let r : Result Found Refusal = if early then Err InvalidArgument else Ok (found.Events page) in r) ≡ Ok found.End → ⊥
+not-events : (early : Bool) (page : TextPage) → (let r : Result Found Refusal = if early then Err InvalidArgument else Ok (found.Page page) in r) ≡ Ok found.End → ⊥
 not-events true page e = cc
 not-events false page e = cc
 
@@ -88,13 +88,16 @@ ended-by v failures since (Ok c) wanted.End e = (refl, refl)
 ended-by v failures since (Ok c) (wanted.About about.Status) e = absurd cc
 ended-by v failures since (Ok c) (wanted.About (about.Buckets after)) e = absurd cc
 ended-by v failures since (Ok c) (wanted.About (about.Events part)) e = absurd (not-events (nat_lt v.last part.before) (page_of part.before part.after v) e)
+ended-by v failures since (Ok c) (wanted.About (about.Register after)) e = absurd cc
+ended-by v failures since (Ok c) (wanted.About (about.Lawful after)) e = absurd cc
 ended-by v failures since (Err r) what e = absurd cc
 
 pub ended : (v : Vault) (failures : ℕ) (since : Option ℕ) (asked : Asked) (stated : Result Found Refusal) → is_end stated ≡ true → StatedAs stated (judged v failures since asked) → (asked.what ≡ wanted.End) × IsOk (administrator v asked.at asked.who)
 ended v failures since asked (Ok found.End) e is = ended-by v failures since (administrator v asked.at asked.who) asked.what is
 ended v failures since asked (Ok (found.Status status)) e is = absurd cc
 ended v failures since asked (Ok (found.Buckets page)) e is = absurd cc
-ended v failures since asked (Ok (found.Events page)) e is = absurd cc
+ended v failures since asked (Ok (found.Page page)) e is = absurd cc
+ended v failures since asked (Ok (found.Judged part)) e is = absurd cc
 ended v failures since asked (Err r) e is = absurd cc
 
 -- what was asked for

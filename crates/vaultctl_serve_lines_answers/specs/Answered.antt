@@ -4,13 +4,13 @@ use Rattle.vault_core_model.specs.Leaves.{Standing}
 use Rattle.vault_http.specs.Line.{Line}
 use Rattle.vault_io.specs.Begins.{Begins}
 use Rattle.vaultctl_replay.specs.Runs.{Began, Finished}
-use Rattle.vaultctl_serve_lines.specs.Asked.{door_line_of}
-use Rattle.vaultctl_serve_lines.specs.Asking.{Given, Written}
-use Rattle.vaultctl_serve_lines.specs.declared.asked.DoorLine.{DoorLine}
-use Rattle.vaultctl_serve_lines.specs.declared.asked.DoorLine.TheVariants as door
-use Rattle.vaultctl_serve_lines.specs.declared.doors.Heard.{Heard}
-use Rattle.vaultctl_serve_lines.specs.declared.line.Next.{Next}
-use Rattle.vaultctl_serve_lines.specs.declared.service.Service.{Service}
+use Rattle.vaultctl_serve_lines_answers.specs.Asked.{door_line_of}
+use Rattle.vaultctl_serve_lines_answers.specs.Asking.{Given, Written}
+use Rattle.vaultctl_serve_lines_answers.specs.declared.asked.DoorLine.{DoorLine}
+use Rattle.vaultctl_serve_lines_answers.specs.declared.asked.DoorLine.TheVariants as door
+use Rattle.vaultctl_serve_lines_answers.specs.declared.heard.Heard.{Heard}
+use Rattle.vaultctl_serve_lines_answers.specs.declared.line.Next.{Next}
+use Rattle.vaultctl_serve_lines_answers.specs.declared.service.Service.{Service}
 
 -- what is asked for was carried out, and its reply written
 abbrev pub AnswersOne : Standing → Standing → Option (List ℕ) → Option (List ℕ) → Line → Type 0

@@ -3,12 +3,12 @@ ghost use Rattle.std.specs.Prelude.{◌≡◌, IfOk, OnErr, OnOk, Ok};
 ghost use Rattle.vault_base.specs.Days.{moment_at};
 ghost use Rattle.vault_core_model.specs.Leaves.{standing};
 ghost use Rattle.vault_http.specs.Left.{AtMostOne, LeavesNoLess};
-ghost use Rattle.vaultctl_serve_lines.specs.Answered.{AnswersOne, LeavesOne, LineAnswered, LineLeft};
-ghost use Rattle.vaultctl_serve_lines.specs.Closing.{MayEnd};
+ghost use Rattle.vaultctl_serve_lines_answers.specs.Answered.{AnswersOne, LeavesOne, LineAnswered, LineLeft};
+ghost use Rattle.vaultctl_serve_lines_answers.specs.Closing.{MayEnd};
 
 use crate::asked::{DoorLine, door_line};
 use crate::asking::give;
-use crate::doors::Heard;
+use crate::heard::Heard;
 use crate::service::Service;
 use std::alloc::Global;
 use std::io::Write;

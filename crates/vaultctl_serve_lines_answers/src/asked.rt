@@ -1,8 +1,8 @@
 //! What a line of the second door asks for: a command, what only this door has, or nothing.
 ghost use Rattle.std.specs.Prelude.{◌≡◌, IfOk};
-ghost use Rattle.vaultctl_serve_lines.specs.Asked as spec;
+ghost use Rattle.vaultctl_serve_lines_answers.specs.Asked as spec;
 
-use crate::doors::Heard;
+use crate::heard::Heard;
 use std::alloc::{AllocError, Global};
 use vault_base::moment::Moment;
 use vault_base::name::CallerName;

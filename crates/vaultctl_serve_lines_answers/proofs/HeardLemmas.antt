@@ -12,7 +12,7 @@ use Rattle.vault_http.specs.Stamped.{stamped_line_of}
 use Rattle.vault_http.proofs.StampedAt.{stamped-at}
 use Rattle.vaultctl_replay.specs.Lines.{is_cr}
 use Rattle.vaultctl_replay.specs.Runs.{Answers, Began, Finished, Runs}
-use Rattle.vaultctl_serve_lines.specs.Asked.{heard_of}
+use Rattle.vaultctl_serve_lines_answers.specs.Asked.{heard_of}
 
 -- ---- the command of a line is at the reading
 

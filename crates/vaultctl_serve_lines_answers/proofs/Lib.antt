@@ -1,0 +1,3 @@
+pub mod ClosingLemmas
+pub mod HeardLemmas
+mod NamesLemmas
