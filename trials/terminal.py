@@ -1,16 +1,28 @@
-"""Terminals: how far long jobs say they have come, after each thousand files, keys, rows or entries, and else nowhere.
+"""Terminals: how far long jobs say they have come, after each thousand files, keys, rows or entries, how much an opening
+has read, each second, and else nowhere.
 
 The program takes in a list of 1,000 files, marks and then removes them by two runs, prints the register of the 2,000
 removals, the 5,000 events and their seal, and looks whether they are lawful: once with a terminal (pty) as standard
 error, which has to show each thousand, and once with a pipe, which has to get nothing. A register or events that a
 terminal shows say nothing, as nothing may come between their rows.
+
+An opening is made to last: one read of the vault's file takes longer than a second.
 """
 
+import contextlib
 import os
+import pathlib
 import pty
+import re
+import sqlite3
 import subprocess
+import time
+import urllib.request
+from typing import Iterable, Iterator
 
-from trials.program import OPENED_AT, PROGRAM, Case, Ran, check, make_office
+from trials.calls import needs_strace
+from trials.program import EXAMPLES, OPENED_AT, PROGRAM, Case, Ran, check, make_office
+from trials.servers import HOST, free_port, serving
 
 FILES = 1_000
 AT = ["--at", OPENED_AT]
@@ -18,6 +30,15 @@ RULES = (
     '{"at":"2024-01-15T09:00:00Z","as":"ann","do":"set-rules","bucket":"docs","rules":[{"ID":"out","Status":"Enabled",'
     '"Expiration":{"Days":1},"NoncurrentVersionExpiration":{"NoncurrentDays":1}}]}\n'
 )
+
+
+# What an opening says, and how a read is made to take longer than the second that it waits: the third of a file, which
+# is one of an opening. Longer than that second, too, is what one waits before a read that is none.
+OPENING = re.compile(r"opening: [0-9]+ MiB read, of a file of [0-9]+ MiB")
+PAUSE = 1.2
+SLOW_READ = f"inject=pread64:delay_enter={round(PAUSE * 1_000_000)}:when=3"
+# The bytes of a content, and how many the store can't all hold in memory.
+LARGE, MANY = 1 << 20, 4
 
 
 def jobs(name):
@@ -34,27 +55,46 @@ def jobs(name):
     ]
 
 
-def on_terminal(words, folder, shown=False):
-    """What the program writes to a terminal as its standard error, once it has ended well; and what to standard output,
-    if that isn't the same terminal."""
-    ours, theirs = pty.openpty()
-    how = {"cwd": folder, "stdout": theirs if shown else subprocess.PIPE, "stderr": theirs}
-    run = subprocess.Popen([PROGRAM, *words], **how)
-    os.close(theirs)
-    printed = b"" if shown else run.stdout.read()
-    # what a terminal still holds can be read until its other end is closed and empty
-    said = b""
+def rest_of(terminal: int) -> Iterator[bytes]:
+    """What is shown at a terminal until its other end is closed and empty, as it comes."""
     while True:
         try:
-            part = os.read(ours, 4096)
+            part = os.read(terminal, 4096)
         except OSError:
-            break
+            return
         if not part:
-            break
-        said += part
+            return
+        yield part
+
+
+def on_terminal(
+    words: Iterable[str], folder: pathlib.Path, shown: bool = False, front: Iterable[str] = ()
+) -> tuple[str, str]:
+    """What the program writes to a terminal as its standard error, once it has ended well; and what to standard output,
+    if that isn't the same terminal. `front` are words before its own."""
+    words, (ours, theirs) = list(words), pty.openpty()
+    with subprocess.Popen(
+        [*front, PROGRAM, *words], cwd=folder, stdout=theirs if shown else subprocess.PIPE, stderr=theirs
+    ) as run:
+        os.close(theirs)
+        printed = run.stdout.read() if run.stdout else b""
+        said = b"".join(rest_of(ours))
     os.close(ours)
-    check(run.wait() == 0, f"{words[0]} ended with status {run.returncode}")
-    return said, printed
+    check(run.returncode == 0, f"{words[0]} ended with status {run.returncode}")
+    return said.decode(), printed.decode()
+
+
+def asked(port: int, key: str, content: bytes | None = None) -> bytes:
+    """What a server answers that is asked for that key, or is given this content for it."""
+    url = f"http://{HOST}:{port}/docs/{key}"
+    request = urllib.request.Request(url, content, {"x-vault-caller": "ann"}, method="PUT" if content else "GET")
+    with urllib.request.urlopen(request) as answer:
+        return answer.read()
+
+
+def but_openings(said: str) -> list[str]:
+    """The lines of what was said but those of openings, which take a second only on a busy machine."""
+    return [it for it in said.splitlines() if not OPENING.fullmatch(it)]
 
 
 class Terminal(Case):
@@ -73,10 +113,57 @@ class Terminal(Case):
     def test_long_jobs(self):
         for (watched, lines), (piped, _) in zip(jobs("first.vault"), jobs("second.vault")):
             said, printed = on_terminal(watched, self.folder)
-            self.assertEqual(said.decode().splitlines(), lines, watched[0])
-            self.assertEqual(self.ran(*piped), Ran(0, printed.decode(), ""), f"{piped[0]} into a pipe")
+            self.assertEqual(but_openings(said), lines, watched[0])
+            self.assertEqual(self.ran(*piped), Ran(0, printed, ""), f"{piped[0]} into a pipe")
             self.assertTrue(printed, f"{piped[0]} prints nothing")
         for command in ("register", "events"):
             said, _ = on_terminal([command, "first.vault"], self.folder, shown=True)
             printed = self.printed(command, "second.vault")
-            self.assertEqual(said.decode().splitlines(), printed.splitlines(), f"{command} on a terminal")
+            self.assertEqual(but_openings(said), printed.splitlines(), f"{command} on a terminal")
+
+
+@needs_strace
+class Openings(Case):
+    def setUp(self) -> None:
+        super().setUp()
+        make_office(self.folder / "it.vault", "put", "get", at=AT)
+        with contextlib.closing(sqlite3.connect(self.folder / "earlier.vault")) as base:
+            base.executescript((EXAMPLES / "earlier" / "schema2" / "rows.sql").read_text())
+
+    def slowly(self, file: str) -> list[str]:
+        """Words in front of a program of which one read of that file takes long."""
+        return ["strace", "-qq", "-o", "/dev/null", "-P", f"{self.folder}/{file}", "-e", "trace=pread64", "-e", SLOW_READ]
+
+    def test_slow_read(self) -> None:
+        for words in (["verify", "it.vault"], ["report", "it.vault", "records", "--as", "ann"]):
+            front = self.slowly("it.vault")
+            said, printed = on_terminal(words, self.folder, front=front)
+            self.assertEqual([bool(OPENING.fullmatch(it)) for it in said.splitlines()], [True], said)
+            self.assertEqual(self.ran(*words, front=front), Ran(0, printed, ""), f"{words[0]} into a pipe")
+            self.assertTrue(printed, f"{words[0]} prints nothing")
+
+    def test_migrate(self) -> None:
+        said, printed = on_terminal(["migrate", "earlier.vault", "new"], self.folder, front=self.slowly("earlier.vault"))
+        self.assertEqual([bool(OPENING.fullmatch(it)) for it in said.splitlines()], [True], said)
+        self.assertEqual(printed, "migrated\n")
+
+    def test_once_it_is_open(self) -> None:
+        """A server has its vault open: what it reads then is no opening, however late that is."""
+        contents = {f"large-{n}": os.urandom(LARGE) for n in range(MANY)}
+        with serving("it.vault", "--count", str(MANY), folder=self.folder) as port:
+            for key, content in contents.items():
+                asked(port, key, content)
+        ours, theirs = pty.openpty()
+        port = free_port()
+        words = ["serve", "it.vault", str(port), "--count", str(MANY)]
+        with subprocess.Popen([PROGRAM, *words], cwd=self.folder, stderr=theirs) as server:
+            os.close(theirs)
+            said = os.read(ours, 4096)
+            time.sleep(PAUSE)
+            for key, content in contents.items():
+                self.assertEqual(asked(port, key), content)
+            said += b"".join(rest_of(ours))
+        os.close(ours)
+        self.assertEqual(server.returncode, 0)
+        self.assertEqual(but_openings(said.decode().partition("serving")[0]), [])
+        self.assertEqual(said.decode().partition("serving")[2].splitlines(), [f" it.vault at {HOST}:{port}"])

@@ -12,9 +12,10 @@ ghost use Rattle.vaultctl_machine.specs.Openings.{FindsWhatWasLeft, IsFoundAgain
 
 use crate::unopened::Unopened;
 use crate::vaults::{FileMachine, FileVault, VaultStore};
-use sqlite::{Alter, FileFrom, FileStore, Start};
+use sqlite::{Alter, FileStore, Start};
 use sqlite_disk::Disk;
 use vault_store::sql_keeper::SqlKeeper;
+use vaultctl_machine_stores::progress_disk::ProgressFile;
 
 /// The store of a vault, which is let go of.
 fn store_of<S: Alter + Drop>(vault: SqlKeeper<S>) -> S
@@ -49,6 +50,6 @@ pub fn open_after_a_crash<A: Start, B: Start>(
     // Where the files hold what a crash may leave of the vault that was lost, that vault is found again.
     ensures again { IsClean (view result.0) → MayLeaveFiles lost (image_at B.Start) → IfOk result.1 (λ vault. HasCleanDisk (file_state vault.conn) → IsFoundAgain lost (file_state vault.conn)) }
 {
-    let left = openings_follow::<_, FileFrom<B>>(lost);
+    let left = openings_follow::<_, ProgressFile<B>>(lost);
     (left, machine.open(path, start))
 }

@@ -165,10 +165,15 @@ fn copy_into<A: Start, B: Start>(
         (λ source target. FailsForItsRow (image_at A.Start) (file_state source) (file_state target) (refusal_of e))) }
     ensures kept { OnOk result ((lost.new ≡ lost.old) × (uncopied.new ≡ uncopied.old)) }
 {
-    let Opened { conn, before } = found;
+    let Opened {
+        conn,
+        before,
+        opening: _opening,
+    } = found;
     let Opened {
         conn: target,
         before: new_before,
+        opening: _,
     } = empty;
     let Copied { source, outcome } = copy_file(old.runtime().alloc(), conn, target);
     match outcome {
@@ -235,7 +240,11 @@ fn copy_at<A: Start, B: Start>(
     match connect_new(&target, second) {
         Ok(empty) => copy_into(lost, uncopied, &origin, &target, found, empty),
         Err(cause) => {
-            let Opened { conn, before } = found;
+            let Opened {
+                conn,
+                before,
+                opening: _,
+            } = found;
             let _ = let_go(lost, &origin, conn, &before);
             Err(unmade_new(rt, old, new, cause))
         }

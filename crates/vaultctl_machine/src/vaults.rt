@@ -33,7 +33,7 @@ use crate::given::Given;
 use crate::looks::{cause_of_kind, looked_at};
 use crate::unopened::{Unopened, with_cause};
 use http_server::Log;
-use sqlite::{Alter, Connection, Error, ErrorCode, FileFrom, FileStore, Files, Start};
+use sqlite::{Alter, Connection, Error, ErrorCode, FileStore, Files, Start};
 use sqlite_disk::Disk;
 use std::alloc::Global;
 use std::io::{self, ErrorKind};
@@ -44,10 +44,11 @@ use vaultctl_machine_places::cause::Cause;
 use vaultctl_machine_places::places::place_at;
 use vaultctl_machine_stores::before::Before;
 use vaultctl_machine_stores::connect::{self, Opened};
+use vaultctl_machine_stores::progress_disk::ProgressFile;
 use vaultctl_machine_stores::site::Site;
 
 /// The store of a vault in files, which held what `S` says when they were opened.
-pub type VaultStore<S> = FileStore<FileFrom<S>>;
+pub type VaultStore<S> = FileStore<ProgressFile<S>>;
 
 /// A vault in files.
 pub type FileVault<S> = SqlKeeper<VaultStore<S>>;
@@ -304,7 +305,11 @@ fn found_in<S: Start>(
     ensures lost { IfErr result (λ e. Closes lost.old.items lost.new.items (λ conn. IsRefusedOver (image_at S.Start) (file_state conn) (refusal_of e))) }
     ensures kept { OnOk result (lost.new ≡ lost.old) }
 {
-    let Opened { conn, before } = found;
+    let Opened {
+        conn,
+        before,
+        opening: _opening,
+    } = found;
     match open_in(site.runtime().alloc(), conn) {
         Ok(vault) => Ok(vault),
         Err((refusal, conn)) => {
@@ -348,7 +353,11 @@ fn made_in<S: Start>(
     ensures lost { IfErr result (λ e. Closes lost.old.items lost.new.items (λ conn. IsUnmadeOver (file_state conn) (refusal_of e))) }
     ensures kept { OnOk result (lost.new ≡ lost.old) }
 {
-    let Opened { conn, before } = empty;
+    let Opened {
+        conn,
+        before,
+        opening: _,
+    } = empty;
     match create_in(site.runtime().alloc(), conn) {
         Ok(vault) => Ok(vault),
         Err((refusal, conn)) => {
@@ -514,7 +523,7 @@ impl<'a, A: Start, B: Start> Machine<'a, VaultStore<A>, VaultStore<B>> {
     /// its log back, which nobody else has before they are dropped.
     ///
     /// None where that fails: then what was committed is in the log beside the file, and the next opening finds it there.
-    pub fn close(&mut self, vault: FileVault<A>) -> Option<Files<FileFrom<A>>>
+    pub fn close(&mut self, vault: FileVault<A>) -> Option<Files<ProgressFile<A>>>
         // Its connection is remembered, which stands for the vault.
         ensures closed { self.new.closed.items ≡ self.old.closed.items ++ (vault.conn, true) ∷ [] }
         ensures stands { ∥ (HasCleanDisk (file_state vault.conn) → StandsFor (file_state vault.conn) (vault_of over_files vault)) ∥₁ }

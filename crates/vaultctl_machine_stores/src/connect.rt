@@ -8,6 +8,7 @@ ghost use Rattle.sqlite_wal.specs.Files.{image_at};
 
 use crate::before::Before;
 use crate::blank::connect_blank;
+use crate::progress_disk::{Opening, ProgressFile, reported};
 use crate::site::{Site, is_no_path};
 use sqlite::{
     Alter, Connection, Error, ErrorCode, FileFrom, FileStore, Files, Leftover, Options, Start,
@@ -43,6 +44,20 @@ fn open_pair<S: Start>(rt: &HostRuntime, path: &str, start: S) -> Result<Files<F
         Err(OpenError::Io(error)) if error.kind() == ErrorKind::OutOfMemory => Err(NO_MEMORY),
         Err(_) => Err(CANNOT_OPEN),
     }
+}
+
+/// The same files, of which a terminal is reported while that opening goes on.
+fn open_reported<S: Start>(
+    rt: &HostRuntime,
+    path: &str,
+    start: S,
+    opening: &Opening,
+) -> Result<Files<ProgressFile<S>>, Error>
+    ensures usable { IfOk result (λ files. IsTrue (file_is_usable S.Start files.log.disk) × IsTrue (file_is_usable S.Start files.db.disk)) }
+    ensures fresh { IfOk result (λ files. IsFresh true files.log.disk × IsFresh false files.db.disk) }
+{
+    let files = open_pair(rt, path, start)?;
+    Ok(reported(rt, files, opening))
 }
 
 /// How many frames a log has before it is copied into its file: so it is as long as one of the kit's own with 1,000 frames
@@ -135,10 +150,11 @@ fn connect_files<D: Disk + Drop>(
     }
 }
 
-/// A connection to files, and what they held before they were opened.
+/// A connection to files, what they held before they were opened, and the opening that a terminal is reported of.
 pub struct Opened<S: Alter> {
     pub conn: Connection<S>,
     pub before: Before,
+    pub opening: Opening,
 }
 
 /// What it is reported as that files can't be read before they are opened, or that one can't be made.
@@ -156,18 +172,23 @@ fn untouched(error: io::Error) -> Error {
 pub fn connect_new<S: Start>(
     site: &Site<'_>,
     start: S,
-) -> Result<Opened<FileStore<FileFrom<S>>>, Error>
+) -> Result<Opened<FileStore<ProgressFile<S>>>, Error>
     ensures opened { IfOk result (λ it. HasCleanDisk (file_state it.conn) → IsOpened it.conn) }
 {
     let rt = site.runtime();
     let options = options(rt)?;
-    let mut files = open_pair(rt, site.path(), start)?;
+    let opening = Opening::silent();
+    let mut files = open_reported(rt, site.path(), start, &opening)?;
     let before = match Before::of(rt.alloc(), &mut files) {
         Ok(before) => before,
         Err(error) => return Err(untouched(error)),
     };
     match connect_files(site, files, options, &before) {
-        Ok(conn) => Ok(Opened { conn, before }),
+        Ok(conn) => Ok(Opened {
+            conn,
+            before,
+            opening,
+        }),
         Err(error) => Err(error),
     }
 }
@@ -178,19 +199,24 @@ pub fn connect_new<S: Start>(
 pub fn connect_there<S: Start>(
     site: &Site<'_>,
     start: S,
-) -> Result<Opened<FileStore<FileFrom<S>>>, Error>
+) -> Result<Opened<FileStore<ProgressFile<S>>>, Error>
     ensures opened { IfOk result (λ it. HasCleanDisk (file_state it.conn) → IsOpened it.conn) }
     ensures found { IfOk result (λ it. HasCleanDisk (file_state it.conn) → FindsIn (image_at S.Start) (file_state it.conn)) }
 {
     let rt = site.runtime();
     let options = options(rt)?;
-    let mut files = open_pair(rt, site.path(), start)?;
+    let opening = Opening::new(rt);
+    let mut files = open_reported(rt, site.path(), start, &opening)?;
     let before = match Before::of(rt.alloc(), &mut files) {
         Ok(before) => before,
         Err(error) => return Err(untouched(error)),
     };
     match Connection::open_files_with(rt.alloc(), files, options, false) {
-        Ok(conn) => Ok(Opened { conn, before }),
+        Ok(conn) => Ok(Opened {
+            conn,
+            before,
+            opening,
+        }),
         Err((error, left)) => {
             site.leave(left.into_files(), &before);
             Err(error)

@@ -4,4 +4,5 @@
 pub mod before;
 mod blank;
 pub mod connect;
+pub mod progress_disk;
 pub mod site;
