@@ -16,21 +16,21 @@ pub returns-in-Denied-clause-ok : goal.returns-in-Denied-clause-ok
 returns-in-Denied-clause-ok g c = λ h.
     let j = c.in_ok-judge_request.ensures.judged in
     on_ok_weaker c.deny.result
-    (λ s. denied_served c.args.hosts.now (RoseOrIsFull (g.K.Kept.count c.args.keeper.now) (g.K.Kept.count c.args.keeper.now)) c.args.moment (g.R.Read.remaining c.args.reader.now) (g.R.Read.remaining c.judge_request.new.reader) (g.W.Write.contents c.args.writer.now) (g.W.Write.contents c.deny.new.writer) j.0 c.in-Denied.denial (g.K.Kept.vault c.args.keeper.now) j.1 (rw c.in-Denied.is at j.2) s)
+    (λ s. denied_served c.args.hosts.now (RoseOrIsFull (g.K.Kept.count c.args.keeper.now) (g.K.Kept.count c.args.keeper.now)) c.args.moment (g.R.Read.remaining c.args.reader.now) (g.R.Read.remaining c.judge_request.new.reader) (g.W.Write.contents c.args.writer.now) (g.W.Write.contents c.deny.new.writer) j.0 (record { refusal = c.in-Denied.refusal; allow = c.in-Denied.allow; shown = c.in-Denied.shown }) (g.K.Kept.vault c.args.keeper.now) j.1 (rw c.in-Denied.is at j.2) s)
     c.deny.ensures.ok
 
 pub returns-in-Denied-clause-err : goal.returns-in-Denied-clause-err
 returns-in-Denied-clause-err g c = λ h.
     let j = c.in_ok-judge_request.ensures.judged in
     IfErr-weaker c.deny.result _ _
-    (denied_left c.args.hosts.now (RoseOrIsFull (g.K.Kept.count c.args.keeper.now) (g.K.Kept.count c.args.keeper.now)) c.args.moment (g.R.Read.remaining c.args.reader.now) (g.R.Read.remaining c.judge_request.new.reader) (g.R.Read.remaining c.judge_request.new.reader) (g.W.Write.contents c.args.writer.now) (g.W.Write.contents c.deny.new.writer) j.0 c.in-Denied.denial (g.K.Kept.vault c.args.keeper.now) j.1 (rw c.in-Denied.is at j.2))
+    (denied_left c.args.hosts.now (RoseOrIsFull (g.K.Kept.count c.args.keeper.now) (g.K.Kept.count c.args.keeper.now)) c.args.moment (g.R.Read.remaining c.args.reader.now) (g.R.Read.remaining c.judge_request.new.reader) (g.R.Read.remaining c.judge_request.new.reader) (g.W.Write.contents c.args.writer.now) (g.W.Write.contents c.deny.new.writer) j.0 (record { refusal = c.in-Denied.refusal; allow = c.in-Denied.allow; shown = c.in-Denied.shown }) (g.K.Kept.vault c.args.keeper.now) j.1 (rw c.in-Denied.is at j.2))
     c.deny.ensures.err
 
 pub returns-in-Denied-clause-taken : goal.returns-in-Denied-clause-taken
 returns-in-Denied-clause-taken g c =
     let j = c.in_ok-judge_request.ensures.judged in
     on_ok_weaker c.deny.result
-    (λ s. denied_taken c.args.hosts.now c.args.moment (g.R.Read.remaining c.args.reader.now) (g.R.Read.remaining c.judge_request.new.reader) j.0 c.in-Denied.denial j.1 (rw c.in-Denied.is at j.2))
+    (λ s. denied_taken c.args.hosts.now c.args.moment (g.R.Read.remaining c.args.reader.now) (g.R.Read.remaining c.judge_request.new.reader) j.0 (record { refusal = c.in-Denied.refusal; allow = c.in-Denied.allow; shown = c.in-Denied.shown }) j.1 (rw c.in-Denied.is at j.2))
     c.deny.ensures.ok
 
 pub returns-clause-ok : goal.returns-clause-ok
