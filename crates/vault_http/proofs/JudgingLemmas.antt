@@ -12,7 +12,7 @@ use Rattle.vault_http.specs.Command.{IsWithinLength}
 use Rattle.vault_http.specs.Exchange.{HeadJudged, PlanServed, Said, ServedFor, head_asked_for, is_shown, spans_asked}
 use Rattle.vault_http.specs.Head.{IsHead}
 use Rattle.vault_http.specs.Judging.{ComesTo, Denies, IsDenial, Judges}
-use Rattle.vault_http.specs.Left.{DeniedLeft, DenyLeft, HeadLeft, IsBodyTaken, IsTakenFor, LeftFor, PlanLeft}
+use Rattle.vault_http.specs.Left.{DeniedLeft, DenyLeft, HeadLeft, IsBodyTaken, IsTakenFor, LeftFor}
 use Rattle.vault_http.specs.Reply.{AnswersRefusal}
 use Rattle.vault_http.specs.declared.carrying.Denial.{Denial}
 use Rattle.vault_http.specs.declared.fault.ServeFault.{ServeFault}
@@ -96,13 +96,6 @@ module _ (hosts : List (List ℕ)) (Failed : Type 0) (moment : Option ℕ) where
   denied_left (Some input) None unread a b buf d old p j e s = absurd p
   denied_left (Some input) (Some rest) unread a b buf d old p j e s = denied_left_by e input rest unread a b buf d old p j (deny_denied e moment d old a b s)
 
-  -- the head wasn't read
-  pub unread_left : (known unread a : Option (List ℕ)) (old : Vault) (e : ServeFault) → (e ≡ faults.Write → ⊥) → IfSome known (λ input. LeftFor hosts Failed e moment input unread old old a a)
-  unread_left None unread a old e other = tt
-  unread_left (Some input) unread a old faults.Read other = inl (refl, refl)
-  unread_left (Some input) unread a old faults.Memory other = inl (refl, refl)
-  unread_left (Some input) unread a old faults.Write other = absurd (other refl)
-
   -- ---- a plan
 
   -- a plan was served
@@ -110,16 +103,8 @@ module _ (hosts : List (List ℕ)) (Failed : Type 0) (moment : Option ℕ) where
       → IfSome known (λ input. (out : List ℕ) × ServedFor hosts Failed moment input old out new × Appends a b out)
   planned_served None left a b buf plan shown old new p j s = tt
   planned_served (Some input) None a b buf plan shown old new p j s = absurd p
-  planned_served (Some input) (Some rest) a b buf plan shown old new p (h, head, is, said, at) s =
+  planned_served (Some input) (Some rest) a b buf plan shown old new p (h, head, (is, said, at)) s =
       (s.0, inr (inr (h, rest, at_front input rest buf h p head, subst (λ (x : Said). HeadJudged Failed moment (is_shown h.method) x rest old s.0 new) (sym said) (subst (λ (t : Bool). PlanServed Failed t plan rest old s.0 new) is s.1))), s.2)
-
-  -- it wasn't served to its end
-  pub planned_left : (known left unread a b : Option (List ℕ)) (buf : List ℕ) (plan : Plan) (shown : Bool) (old new : Vault) → Consumes known left buf → Judges hosts moment known buf (Planned plan shown)
-      → (e : ServeFault) → IfSome left (λ rest. PlanLeft Failed e shown plan rest unread old new a b) → IfSome known (λ input. LeftFor hosts Failed e moment input unread old new a b)
-  planned_left None left unread a b buf plan shown old new p j e s = tt
-  planned_left (Some input) None unread a b buf plan shown old new p j e s = absurd p
-  planned_left (Some input) (Some rest) unread a b buf plan shown old new p (h, head, is, said, at) e s =
-      inr (h, rest, at_front input rest buf h p head, subst (λ (x : Said). HeadLeft Failed e moment (is_shown h.method) x rest unread old new a b) (sym said) (subst (λ (t : Bool). PlanLeft Failed e t plan rest unread old new a b) is s))
 
 -- ---- what was read
 
@@ -148,5 +133,5 @@ module _ (hosts : List (List ℕ)) (moment : Option ℕ) where
       → IfSome known (λ input. (taken : List ℕ) × Consumes known left taken × IsTakenFor hosts moment input taken)
   planned_taken None mid left buf plan shown p j t = tt
   planned_taken (Some input) None left buf plan shown p j t = absurd p
-  planned_taken (Some input) (Some rest) left buf plan shown p (h, head, is, said, at) t =
+  planned_taken (Some input) (Some rest) left buf plan shown p (h, head, (is, said, at)) t =
       body_taken input rest buf t.0 left h p head t.1 (subst (λ (x : Said). IsBodyTaken x t.0) (sym said) t.2)
