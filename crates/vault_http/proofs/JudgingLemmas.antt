@@ -1,5 +1,5 @@
 -- On what the head of a request comes to.
-use Rattle.std.proofs.Common.{ℕ, ◌≡◌, ◌≤◌, ◌<◌, ◌+◌, ◌++◌, ◌⊎◌, List, [], length, Bool, Option, Some, None, IfSome, Ok, Err, inl, inr, refl, sym, ap, ◌∙◌, append-nil, subst, arith}
+use Rattle.std.proofs.Common.{ℕ, ◌≡◌, ◌<◌, ◌+◌, ◌++◌, List, [], length, Bool, Option, Some, None, IfSome, Ok, Err, inl, inr, refl, sym, ap, ◌∙◌, append-nil, subst, arith}
 use Rattle.std.proofs.lemmas.List.{length-append}
 use Rattle.std.proofs.KnownBytes.{Consumes-trans}
 use Rattle.std.specs.Io.KnownBytes.{Appends, Consumes}
@@ -11,8 +11,8 @@ use Rattle.vault_core_model.specs.Vault.{Vault}
 use Rattle.vault_http.specs.Command.{IsWithinLength}
 use Rattle.vault_http.specs.Exchange.{HeadJudged, PlanServed, Said, ServedFor, head_asked_for, is_shown, spans_asked}
 use Rattle.vault_http.specs.Head.{IsHead}
-use Rattle.vault_http.specs.Judging.{ComesTo, IsDenial, Judges}
-use Rattle.vault_http.specs.Left.{DeniedLeft, DenyLeft, HeadLeft, IsBodyTaken, IsTakenFor, LeftFor, PlanLeft}
+use Rattle.vault_http.specs.Judging.{ComesTo, Denies, IsDenial, Judges}
+use Rattle.vault_http.specs.Left.{DeniedLeft, DenyLeft, HeadLeft, IsBodyTaken, IsTakenFor, LeftFor}
 use Rattle.vault_http.specs.Reply.{AnswersRefusal}
 use Rattle.vault_http.specs.declared.carrying.Denial.{Denial}
 use Rattle.vault_http.specs.declared.fault.ServeFault.{ServeFault}
@@ -30,7 +30,8 @@ same_asked hosts moment buf headers spans h at = rw (at.method, at.path, at.vers
 pub head_comes : (hosts : List (List ℕ)) (moment : Option ℕ) (known : Option (List ℕ)) (buf : List ℕ) (headers : List HeaderSpan) (spans : RequestSpans) → ((h : RequestHead) × IsRequestAt buf headers spans h × IsHead buf h [])
     → (j : Judgement) → ComesTo moment (is_shown (span_bytes buf spans.method)) (spans_asked hosts moment buf headers spans) j → Judges hosts moment known buf j
 head_comes hosts moment known buf headers spans came Nothing comes = absurd comes
-head_comes hosts moment known buf headers spans (h, at, is) (Denied d) comes =
+head_comes hosts moment known buf headers spans (h, at, is) (Denied r allow shown) comes =
+    let d : Denial = record { refusal = r; allow = allow; shown = shown } in
     inr (h, is, subst (λ (m : List ℕ). IsDenial d (is_shown m) (head_asked_for hosts moment h)) at.method (subst (λ (s : Said). IsDenial d (is_shown (span_bytes buf spans.method)) s) (same_asked hosts moment buf headers spans h at) comes))
 head_comes hosts moment known buf headers spans (h, at, is) (Planned plan shown) comes =
     (h, is, subst (λ (m : List ℕ). ComesTo moment (is_shown m) (head_asked_for hosts moment h) (Planned plan shown)) at.method (subst (λ (s : Said). ComesTo moment (is_shown (span_bytes buf spans.method)) s (Planned plan shown)) (same_asked hosts moment buf headers spans h at) comes))
@@ -70,7 +71,7 @@ deny_denied faults.Write moment d old a b s = (s.0, (refl, s.1), s.2)
 
 module _ (hosts : List (List ℕ)) (Failed : Type 0) (moment : Option ℕ) where
   -- a refusal was answered
-  pub denied_served : (known left a b : Option (List ℕ)) (buf : List ℕ) (d : Denial) (old : Vault) → Consumes known left buf → Judges hosts moment known buf (Denied d) → ((out : List ℕ) × AnswersRefusal moment d.refusal d.allow d.shown out × Appends a b out)
+  pub denied_served : (known left a b : Option (List ℕ)) (buf : List ℕ) (d : Denial) (old : Vault) → Consumes known left buf → Denies hosts moment known buf d → ((out : List ℕ) × AnswersRefusal moment d.refusal d.allow d.shown out × Appends a b out)
       → IfSome known (λ input. (out : List ℕ) × ServedFor hosts Failed moment input old out old × Appends a b out)
   denied_served None left a b buf d old p j s = tt
   denied_served (Some input) None a b buf d old p j s = absurd p
@@ -79,7 +80,7 @@ module _ (hosts : List (List ℕ)) (Failed : Type 0) (moment : Option ℕ) where
   denied_served (Some input) (Some rest) a b buf d old p (inr (h, head, is)) s =
       (s.0, inr (inr (h, rest, at_front input rest buf h p head, denied_judged Failed moment (is_shown h.method) rest d old (head_asked_for hosts moment h) s.0 is s.1)), s.2)
 
-  denied_left_by : (e : ServeFault) (input rest : List ℕ) (unread a b : Option (List ℕ)) (buf : List ℕ) (d : Denial) (old : Vault) → input ≡ buf ++ rest → Judges hosts moment (Some input) buf (Denied d) → DeniedLeft e moment d.shown d.refusal d.allow old old a b
+  denied_left_by : (e : ServeFault) (input rest : List ℕ) (unread a b : Option (List ℕ)) (buf : List ℕ) (d : Denial) (old : Vault) → input ≡ buf ++ rest → Denies hosts moment (Some input) buf d → DeniedLeft e moment d.shown d.refusal d.allow old old a b
       → LeftFor hosts Failed e moment input unread old old a b
   denied_left_by faults.Read input rest unread a b buf d old p j s = inl s
   denied_left_by faults.Memory input rest unread a b buf d old p j s = inl s
@@ -89,18 +90,11 @@ module _ (hosts : List (List ℕ)) (Failed : Type 0) (moment : Option ℕ) where
       inr (h, rest, at_front input rest buf h p head, denied_unjudged Failed moment (is_shown h.method) rest d old (head_asked_for hosts moment h) faults.Write unread a b is s)
 
   -- its answer failed
-  pub denied_left : (known left unread a b : Option (List ℕ)) (buf : List ℕ) (d : Denial) (old : Vault) → Consumes known left buf → Judges hosts moment known buf (Denied d)
+  pub denied_left : (known left unread a b : Option (List ℕ)) (buf : List ℕ) (d : Denial) (old : Vault) → Consumes known left buf → Denies hosts moment known buf d
       → (e : ServeFault) → DenyLeft e moment d.refusal d.allow d.shown a b → IfSome known (λ input. LeftFor hosts Failed e moment input unread old old a b)
   denied_left None left unread a b buf d old p j e s = tt
   denied_left (Some input) None unread a b buf d old p j e s = absurd p
   denied_left (Some input) (Some rest) unread a b buf d old p j e s = denied_left_by e input rest unread a b buf d old p j (deny_denied e moment d old a b s)
-
-  -- the head wasn't read
-  pub unread_left : (known unread a : Option (List ℕ)) (old : Vault) (e : ServeFault) → (e ≡ faults.Write → ⊥) → IfSome known (λ input. LeftFor hosts Failed e moment input unread old old a a)
-  unread_left None unread a old e other = tt
-  unread_left (Some input) unread a old faults.Read other = inl (refl, refl)
-  unread_left (Some input) unread a old faults.Memory other = inl (refl, refl)
-  unread_left (Some input) unread a old faults.Write other = absurd (other refl)
 
   -- ---- a plan
 
@@ -109,16 +103,8 @@ module _ (hosts : List (List ℕ)) (Failed : Type 0) (moment : Option ℕ) where
       → IfSome known (λ input. (out : List ℕ) × ServedFor hosts Failed moment input old out new × Appends a b out)
   planned_served None left a b buf plan shown old new p j s = tt
   planned_served (Some input) None a b buf plan shown old new p j s = absurd p
-  planned_served (Some input) (Some rest) a b buf plan shown old new p (h, head, is, said, at) s =
+  planned_served (Some input) (Some rest) a b buf plan shown old new p (h, head, (is, said, at)) s =
       (s.0, inr (inr (h, rest, at_front input rest buf h p head, subst (λ (x : Said). HeadJudged Failed moment (is_shown h.method) x rest old s.0 new) (sym said) (subst (λ (t : Bool). PlanServed Failed t plan rest old s.0 new) is s.1))), s.2)
-
-  -- it wasn't served to its end
-  pub planned_left : (known left unread a b : Option (List ℕ)) (buf : List ℕ) (plan : Plan) (shown : Bool) (old new : Vault) → Consumes known left buf → Judges hosts moment known buf (Planned plan shown)
-      → (e : ServeFault) → IfSome left (λ rest. PlanLeft Failed e shown plan rest unread old new a b) → IfSome known (λ input. LeftFor hosts Failed e moment input unread old new a b)
-  planned_left None left unread a b buf plan shown old new p j e s = tt
-  planned_left (Some input) None unread a b buf plan shown old new p j e s = absurd p
-  planned_left (Some input) (Some rest) unread a b buf plan shown old new p (h, head, is, said, at) e s =
-      inr (h, rest, at_front input rest buf h p head, subst (λ (x : Said). HeadLeft Failed e moment (is_shown h.method) x rest unread old new a b) (sym said) (subst (λ (t : Bool). PlanLeft Failed e t plan rest unread old new a b) is s))
 
 -- ---- what was read
 
@@ -135,7 +121,7 @@ module _ (hosts : List (List ℕ)) (moment : Option ℕ) where
   nothing_taken (Some input) left buf p (none, empty) = (buf, p, inl (none, empty))
 
   -- a refusal reads no more
-  pub denied_taken : (known left : Option (List ℕ)) (buf : List ℕ) (d : Denial) → Consumes known left buf → Judges hosts moment known buf (Denied d) → IfSome known (λ input. (taken : List ℕ) × Consumes known left taken × IsTakenFor hosts moment input taken)
+  pub denied_taken : (known left : Option (List ℕ)) (buf : List ℕ) (d : Denial) → Consumes known left buf → Denies hosts moment known buf d → IfSome known (λ input. (taken : List ℕ) × Consumes known left taken × IsTakenFor hosts moment input taken)
   denied_taken None left buf d p j = tt
   denied_taken (Some input) None buf d p j = absurd p
   denied_taken (Some input) (Some rest) buf d p (inl (is, none, some, few)) = (buf, p, inr (inl (none, few)))
@@ -147,5 +133,5 @@ module _ (hosts : List (List ℕ)) (moment : Option ℕ) where
       → IfSome known (λ input. (taken : List ℕ) × Consumes known left taken × IsTakenFor hosts moment input taken)
   planned_taken None mid left buf plan shown p j t = tt
   planned_taken (Some input) None left buf plan shown p j t = absurd p
-  planned_taken (Some input) (Some rest) left buf plan shown p (h, head, is, said, at) t =
+  planned_taken (Some input) (Some rest) left buf plan shown p (h, head, (is, said, at)) t =
       body_taken input rest buf t.0 left h p head t.1 (subst (λ (x : Said). IsBodyTaken x t.0) (sym said) t.2)

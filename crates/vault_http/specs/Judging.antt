@@ -22,14 +22,18 @@ IsDenial d shown (Err r) = d ≡ record { refusal = r; allow = None; shown = sho
 -- what is said of a head at a moment comes to this
 abbrev pub ComesTo : Option ℕ → Bool → Said → Judgement → Type 0
 ComesTo moment shown said Nothing = ⊥
-ComesTo moment shown said (Denied d) = IsDenial d shown said
+ComesTo moment shown said (Denied r allow is) = IsDenial (record { refusal = r; allow = allow; shown = is }) shown said
 ComesTo moment shown said (Planned plan is) = (is ≡ shown) × (said ≡ Ok (asked.Plan plan)) × (moment ≡ Some plan.at)
 
--- what comes of a reader that had this and gave just these bytes: nothing, a refusal where there is no head or by what is said of it, or a plan
-abbrev pub Judges : List (List ℕ) → Option ℕ → Option (List ℕ) → List ℕ → Judgement → Type 0
-Judges hosts moment known buf Nothing = IfSome known (λ input. input ≡ []) × (buf ≡ [])
-Judges hosts moment known buf (Denied d) =
+-- a reader that had this and gave just these bytes gave no head, or one that is refused, and in this way
+abbrev pub Denies : List (List ℕ) → Option ℕ → Option (List ℕ) → List ℕ → Denial → Type 0
+Denies hosts moment known buf d =
     ((d ≡ no_head) × IfSome known HasNoHead × (0 < length buf) × (length buf ≤ 16384))
     ⊎ ((h : RequestHead) × IsHead buf h [] × IsDenial d (is_shown h.method) (head_asked_for hosts moment h))
+
+-- what comes of such a reader: nothing, a refusal, or a plan
+abbrev pub Judges : List (List ℕ) → Option ℕ → Option (List ℕ) → List ℕ → Judgement → Type 0
+Judges hosts moment known buf Nothing = IfSome known (λ input. input ≡ []) × (buf ≡ [])
+Judges hosts moment known buf (Denied r allow shown) = Denies hosts moment known buf (record { refusal = r; allow = allow; shown = shown })
 Judges hosts moment known buf (Planned plan shown) =
     (h : RequestHead) × IsHead buf h [] × ComesTo moment (is_shown h.method) (head_asked_for hosts moment h) (Planned plan shown)

@@ -9,7 +9,6 @@ ghost use Rattle.vault_http.specs.Judging.{ComesTo, Judges};
 ghost use Rattle.vault_http.specs.declared.fault.ServeFault.TheVariants as faults;
 
 use crate::answer::head::Allow;
-use crate::carrying::Denial;
 use crate::fault::ServeFault;
 use crate::read::head::{Front, read_head};
 use httparse::spans::{EMPTY_HEADER_SPAN, HeaderSpan, RequestSpans};
@@ -27,8 +26,8 @@ use vault_values::fault::LineFault;
 pub enum Judgement {
     /// Not one byte.
     Nothing,
-    /// No head, or one that is refused.
-    Denied(Denial),
+    /// No head, or one that is refused: why, which methods the answer reports to be allowed, and whether it shows a body.
+    Denied(Refusal, Option<Allow>, bool),
     /// A head that asks for this, and whether its answer shows a body.
     Planned(Plan, bool),
 }
@@ -78,11 +77,11 @@ fn judgement_of(asked: Asked, shown: bool) -> Judgement
 {
     match asked {
         Asked::Plan(plan) => Judgement::Planned(plan, shown),
-        Asked::NotAllowed(resource) => Judgement::Denied(Denial {
-            refusal: Refusal::MethodNotAllowed,
-            allow: Some(allow_of(resource)),
+        Asked::NotAllowed(resource) => Judgement::Denied(
+            Refusal::MethodNotAllowed,
+            Some(allow_of(resource)),
             shown,
-        }),
+        ),
     }
 }
 
@@ -104,11 +103,7 @@ fn judge_head(
     match spans_asked(alloc, hosts, moment, buf, headers, spans) {
         Ok(asked) => Ok(judgement_of(asked, shown)),
         Err(LineFault::Memory) => Err(ServeFault::Memory),
-        Err(LineFault::Refused(refusal)) => Ok(Judgement::Denied(Denial {
-            refusal,
-            allow: None,
-            shown,
-        })),
+        Err(LineFault::Refused(refusal)) => Ok(Judgement::Denied(refusal, None, shown)),
     }
 }
 
@@ -119,20 +114,16 @@ pub fn judge_request<R: Read>(
     alloc: Global,
     reader: &mut R,
     hosts: &Hosts,
-    moment: Option<Moment>,
+    moment: &Option<Moment>,
 ) -> Result<Judgement, ServeFault>
-    ensures judged { IfOk result (λ judged. (buf : List ℕ) × Consumes (R.remaining reader.old) (R.remaining reader.new) buf × Judges hosts.now moment (R.remaining reader.old) buf judged) }
+    ensures judged { IfOk result (λ judged. (buf : List ℕ) × Consumes (R.remaining reader.old) (R.remaining reader.new) buf × Judges hosts.now moment.now (R.remaining reader.old) buf judged) }
     ensures kind { IfErr result (λ e. e ≢ faults.Write) }
 {
     let mut buf = Vec::new(alloc);
     let mut headers = [EMPTY_HEADER_SPAN; 64];
     match read_head(reader, &mut buf, &mut headers)? {
         Front::Nothing => Ok(Judgement::Nothing),
-        Front::NoHead => Ok(Judgement::Denied(Denial {
-            refusal: Refusal::InvalidArgument,
-            allow: None,
-            shown: true,
-        })),
-        Front::Head(spans) => judge_head(alloc, hosts, moment, buf.as_slice(), &headers, spans),
+        Front::NoHead => Ok(Judgement::Denied(Refusal::InvalidArgument, None, true)),
+        Front::Head(spans) => judge_head(alloc, hosts, *moment, buf.as_slice(), &headers, spans),
     }
 }

@@ -7,7 +7,7 @@ ghost use Rattle.vault_http.specs.Command.{IsWithinLength};
 ghost use Rattle.vault_http.specs.Left as left;
 ghost use Rattle.vault_http.specs.declared.fault.ServeFault.TheVariants as faults;
 
-use crate::carrying::{RequestContext, conclude, deny};
+use crate::carrying::{Denial, RequestContext, conclude, deny};
 use crate::command::command_after;
 use crate::fault::ServeFault;
 use crate::judging::{Judgement, judge_request};
@@ -72,9 +72,16 @@ fn serve_at<R: Read, W: Write, K: Keeper>(
     ensures leaves { left.LeavesNoLess K.Kept keeper.old keeper.new }
     ensures steady { SteadyBy K.Kept keeper.old keeper.new W.Write writer.old writer.new result moment }
 {
-    match judge_request(alloc, reader, hosts, moment)? {
+    match judge_request(alloc, reader, hosts, &moment)? {
         Judgement::Nothing => Ok(()),
-        Judgement::Denied(denial) => deny(alloc, writer, moment, &denial),
+        Judgement::Denied(refusal, allow, shown) => {
+            let denial = Denial {
+                refusal,
+                allow,
+                shown,
+            };
+            deny(alloc, writer, moment, &denial)
+        }
         Judgement::Planned(plan, shown) => {
             serve_plan(alloc, reader, writer, keeper, plan, shown)
         }

@@ -18,5 +18,5 @@ pub returns-clause-judged : goal.returns-clause-judged
 returns-clause-judged g c =
     let read = c.in_ok-read_head.ensures in
     IfOk-weaker c.judge_head.result _ _
-    (λ j comes. (c.read_head.new.buf.items, read.taken, head_comes c.args.hosts.now c.args.moment (g.R.Read.remaining c.args.reader.now) c.read_head.new.buf.items _ c.in-Head.spans (rw c.in-Head.is at read.front) j comes))
+    (λ j comes. (c.read_head.new.buf.items, read.taken, head_comes c.args.hosts.now c.args.moment.now (g.R.Read.remaining c.args.reader.now) c.read_head.new.buf.items _ c.in-Head.spans (rw c.in-Head.is at read.front) j comes))
     (rw c.as_slice.ensures.value at c.judge_head.ensures.comes)
