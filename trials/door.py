@@ -10,14 +10,13 @@ import json
 import pathlib
 import shutil
 import socket
-import sqlite3
 import subprocess
 import threading
 import time
 from collections.abc import Callable
 from typing import Any
 
-from trials.program import PROGRAM, Case, a_test_each, check, make_office, printed
+from trials.program import PROGRAM, Case, a_test_each, carry_out, check, make_office, printed
 from trials.servers import HOST, free_port, read_all
 
 # The deadlines, in seconds: for a line from its first byte; for silence where another waits; and how long a client waits
@@ -338,10 +337,7 @@ def rules_kept(server: Server) -> None:
     equal(server.lines(line("ann", "lawful") + b"".join(odd)), [NOT_ADMIN, MALFORMED, INVALID], "others")
     equal(server.lines(line("registrar", "close")), [b'{"ok":{}}'], "the end")
     equal(server.serving.wait(LIMIT), 0, "the status")
-    base = sqlite3.connect(server.file)
-    base.execute("UPDATE settings SET caller = 'registrar' WHERE id IN (5, 6, 1001)")
-    base.commit()
-    base.close()
+    carry_out(pathlib.Path(server.file), ["UPDATE settings SET caller = 'registrar' WHERE id IN (5, 6, 1001)"])
     server.start()
     found = [{"law": "first-setting", "version_id": it} for it in (5, 1_001)] + [None]
     equal([it["breach"] for it in in_parts(server, "lawful")], found, "the first breach of each part")
