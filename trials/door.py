@@ -10,14 +10,13 @@ import json
 import pathlib
 import shutil
 import socket
-import sqlite3
 import subprocess
 import threading
 import time
 from collections.abc import Callable
 from typing import Any
 
-from trials.program import PROGRAM, Case, a_test_each, check, make_office, printed
+from trials.program import PROGRAM, Case, a_test_each, carry_out, check, make_office, printed
 from trials.servers import HOST, free_port, read_all
 
 # The deadlines, in seconds: for a line from its first byte; for silence where another waits; and how long a client waits
@@ -306,20 +305,20 @@ def removals(server: Server) -> None:
     server.lines(b"".join(put(f"k{number}", str(number)) for number in range(1, 2_101)))
     gone = [1, 2, 999, 1_000, 1_001, 1_999, 2_100]
     server.lines(b"".join(line("ann", "delete-version", bucket="docs", key=f"k{it}", id=it) for it in gone))
+    server.lines(line("ann", "delete", bucket="docs", key="k5") + line("ann", "delete-version", bucket="docs", key="k5", id=2_101))
     parts = in_parts(server, "register")
     equal([it["next"] for it in parts], [1_000, 2_000, None], "where the next parts begin")
     text = "".join(it["text"] for it in parts)
     ids = [int(row.split(",")[0]) for row in text.splitlines()[1:]]
-    equal(ids, gone, "which were removed")
+    equal(ids, [*gone, 2_101], "which were removed, and a marker")
     again = [json.loads(server.lines(line("registrar", "register"))[0])["ok"]["text"]]
     server.lines(line("ann", "delete-version", bucket="docs", key="k7", id=7))
     server.lines(line("ann", "delete-version", bucket="docs", key="k1500", id=1_500))
     again += [json.loads(server.lines(line("registrar", "register", after=it))[0])["ok"]["text"] for it in (1_000, 2_000)]
-    nothing = [json.loads(server.lines(line("registrar", "register", after=it))[0])["ok"] for it in (2_100, 4_294_967_295)]
+    nothing = [json.loads(server.lines(line("registrar", "register", after=it))[0])["ok"] for it in (2_101, 4_294_967_295)]
     equal(nothing, [{"next": None, "text": ""}] * 2, "parts after the last entry")
-    others = line("ann", "register") + line("registrar", "register", before="2024-01-15") + line("registrar", "register", after=-1)
-    refusals = [json.loads(it)["error"]["code"] for it in server.lines(others)]
-    equal(refusals, ["AccessDenied", "MalformedBody", "InvalidArgument"], "another caller, another member, and no id")
+    odd = [line("registrar", "register", **members) for members in ({"before": "2024-01-15"}, {"after": -1}, {"after": 4_294_967_296})]
+    equal(server.lines(line("ann", "register") + b"".join(odd)), [NOT_ADMIN, MALFORMED, INVALID, INVALID], "others")
     equal(server.lines(line("registrar", "close")), [b'{"ok":{}}'], "the end")
     equal(server.serving.wait(LIMIT), 0, "the status")
     printed_then = printed("register", server.file).splitlines(keepends=True)
@@ -332,15 +331,13 @@ def rules_kept(server: Server) -> None:
     """Whether the rules were kept is answered part by part: of a forged history each part names its own first breach."""
     server.lines(b"".join(put(f"k{number}", str(number)) for number in range(1, 2_101)))
     equal(in_parts(server, "lawful"), [{"breach": None, "next": it} for it in (1_000, 2_000, None)], "a lawful vault")
-    others = line("ann", "lawful") + line("registrar", "lawful", id=1)
-    refusals = [json.loads(it)["error"]["code"] for it in server.lines(others)]
-    equal(refusals, ["AccessDenied", "MalformedBody"], "another caller, and another member")
+    past = server.lines(line("registrar", "lawful", after=4_294_967_295))
+    equal(past, [b'{"ok":{"breach":null,"next":null}}'], "after the last entry there can be")
+    odd = [line("registrar", "lawful", **members) for members in ({"id": 1}, {"after": -1})]
+    equal(server.lines(line("ann", "lawful") + b"".join(odd)), [NOT_ADMIN, MALFORMED, INVALID], "others")
     equal(server.lines(line("registrar", "close")), [b'{"ok":{}}'], "the end")
     equal(server.serving.wait(LIMIT), 0, "the status")
-    base = sqlite3.connect(server.file)
-    base.execute("UPDATE settings SET caller = 'registrar' WHERE id IN (5, 6, 1001)")
-    base.commit()
-    base.close()
+    carry_out(pathlib.Path(server.file), ["UPDATE settings SET caller = 'registrar' WHERE id IN (5, 6, 1001)"])
     server.start()
     found = [{"law": "first-setting", "version_id": it} for it in (5, 1_001)] + [None]
     equal([it["breach"] for it in in_parts(server, "lawful")], found, "the first breach of each part")
@@ -410,7 +407,7 @@ class Door(Case):
 
     def look_at(self, name: str) -> None:
         trial, words = TRIALS[name]
-        make_office(self.folder / "records.vault", "put", "get", "list", "report", "delete-version")
+        make_office(self.folder / "records.vault", "put", "get", "list", "report", "delete", "delete-version")
         server = Server(self.folder, str(free_port()) if name == "at-a-port" else "")
         server.start(*words)
         try:

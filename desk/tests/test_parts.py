@@ -43,7 +43,7 @@ class Parts(ServedTest):
         self.assertEqual(lawful.out, "lawful; that the records of one move agree, within each part alone\n")
         on_a_copy = self.done("lawful", at=None)
         self.end(server)
-        self.assertEqual([it.out for it in served], [self.done(*it, at=None) for it in ways])
+        self.assertEqual([it.out for it in served], [self.desk(*it, at=None).out for it in ways])
         self.assertEqual((on_a_copy, self.done("lawful", at=None)), ("lawful\n", "lawful\n"))
         self.assertIn("what the server answered", served[2].err)
         self.assertEqual(len(json.loads(served[1].out)), 2)

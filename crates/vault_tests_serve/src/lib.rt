@@ -15,8 +15,6 @@ mod late;
 #[cfg(test)]
 mod loopback;
 #[cfg(test)]
-mod parts;
-#[cfg(test)]
 mod peers;
 #[cfg(test)]
 mod served;
