@@ -149,6 +149,11 @@ fn hosts_of(alloc: Global, names: &[Word]) -> Result<Hosts, AllocError>
     Ok(hosts)
 }
 
+/// Standard error, where a log is asked for.
+fn log_of(rt: &HostRuntime, job: &ServeJob) -> Option<Stderr> {
+    if job.log { Some(rt.stderr()) } else { None }
+}
+
 /// Serves at two doors, that of lines being at this place, requests for these hosts. Where nobody can listen for lines,
 /// it says so in words.
 ///
@@ -177,15 +182,10 @@ fn serve_both<K: Keeper, E: Write>(
         lines,
         hosts,
         version: VERSION,
+        alloc: rt.alloc(),
     };
-    let ended = serve_with_lines(
-        rt,
-        rt.alloc(),
-        keeper,
-        places,
-        most_with_lines(job.count),
-        err,
-    );
+    let most = most_with_lines(job.count);
+    let ended = serve_with_lines(rt, keeper, places, most, err, log_of(rt, job));
     if let Err(fault) = ended {
         say_door(err, fault);
     }
@@ -222,8 +222,9 @@ impl Work for ServeJob {
                     file: self.file.as_str(),
                     port: self.port,
                     hosts: &hosts,
+                    alloc,
                 };
-                served(serve(rt, alloc, keeper, place, self.count, err))
+                served(serve(rt, keeper, place, self.count, err, log_of(rt, self)))
             }
         }
     }
