@@ -25,6 +25,9 @@ LINE, SILENCE, LIMIT = 5, 5, 60
 SLACK = 5
 LONGEST_LINE = 4_194_304
 MALFORMED = b'{"error":{"code":"MalformedBody","n":12}}'
+INVALID = b'{"error":{"code":"InvalidArgument","n":10}}'
+NOT_ADMIN = b'{"error":{"code":"AccessDenied","n":3,"reason":"right:admin"}}'
+UNKNOWN = b'{"error":{"code":"AccessDenied","n":3,"reason":"unknown-caller"}}'
 
 
 def equal(given: object, wanted: object, of: str) -> None:
@@ -198,10 +201,8 @@ def flooding(server: Server) -> None:
 def closing(server: Server) -> None:
     """A caller with the right to administer ends the server, and nobody else does: the file is whole without its log."""
     equal(ok_puts(server.lines(put("a") + put("b"))), [1, 2], "two puts")
-    refused = b'{"error":{"code":"AccessDenied","n":3,"reason":"right:admin"}}'
-    unknown = b'{"error":{"code":"AccessDenied","n":3,"reason":"unknown-caller"}}'
     more = line("registrar", "close", more=1)
-    equal(server.lines(line("ann", "close") + line("zoe", "close") + more), [refused, unknown, MALFORMED], "others")
+    equal(server.lines(line("ann", "close") + line("zoe", "close") + more), [NOT_ADMIN, UNKNOWN, MALFORMED], "others")
     equal(server.lines(line("registrar", "close")), [b'{"ok":{}}'], "the line that ends it")
     equal(server.serving.wait(LIMIT), 0, "the status")
     alone = server.folder / "alone.vault"
@@ -222,10 +223,13 @@ def status(server: Server) -> None:
     entries, failures, version = second["entries"], second["failures"], second["version"]
     equal([first["entries"], entries, failures, second["since"]], [0, 2, 0, first["since"]], "what it counts")
     equal(f"vaultctl {version}", printed("--version").splitlines()[0].partition(", commit")[0], "the version")
-    refused = b'{"error":{"code":"AccessDenied","n":3,"reason":"right:admin"}}'
-    more = line("registrar", "status", more=1)
+    others = [line(caller, "status") for caller in ("ann", "zoe", "")]
+    equal(server.lines(b"".join(others)), [NOT_ADMIN, UNKNOWN, UNKNOWN], "other callers")
     dated = line("registrar", "status", at="2024-01-15T10:30:00Z")
-    equal(server.lines(line("ann", "status") + more + dated), [refused, MALFORMED, MALFORMED], "others")
+    odd = line("registrar", "status", more=1) + dated + line("registrar", "statu")
+    equal(server.lines(odd), [MALFORMED] * 3, "other members, and another word")
+    last = json.loads(server.lines(line("registrar", "status")[:-1] + b"\r")[0])["ok"]
+    equal(last, second, "a last line that lacks its LF")
     script = b'{"at":"2024-01-15T10:30:00Z","as":"registrar","do":"status"}\n'
     said = subprocess.run([PROGRAM, "replay"], input=script, capture_output=True, check=True).stdout
     equal(said, MALFORMED + b"\n", "the same in a script")
@@ -247,9 +251,11 @@ def buckets(server: Server) -> None:
         after = page["buckets"][-1] if page["more"] else None
     equal([len(page) for page in pages], [1_000, 501], "how many names each line has")
     equal(sum(pages, []), names, "the names")
-    refused = b'{"error":{"code":"AccessDenied","n":3,"reason":"right:admin"}}'
-    others = line("ann", "buckets") + line("registrar", "buckets", after=1) + line("registrar", "buckets", most=1)
-    equal(server.lines(others), [refused, MALFORMED, MALFORMED], "others")
+    found = [json.loads(it)["ok"]["buckets"] for it in server.lines(
+        line("registrar", "buckets", after="docs!") + line("registrar", "buckets", after="b1498"))]
+    equal(found, [[], ["b1499", "docs"]], "after a name that no bucket has, and after one")
+    odd = [line("registrar", "buckets", **members) for members in ({"after": 1}, {"after": None}, {"most": 1})]
+    equal(server.lines(line("ann", "buckets") + b"".join(odd)), [NOT_ADMIN, *[MALFORMED] * 3], "others")
     script = b'{"at":"2024-01-15T10:30:00Z","as":"registrar","do":"buckets"}\n'
     said = subprocess.run([PROGRAM, "replay"], input=script, capture_output=True, check=True).stdout
     equal(said, MALFORMED + b"\n", "the same in a script")
@@ -269,9 +275,11 @@ def events(server: Server) -> None:
         server.lines(put("more") + line("ann", "delete-version", bucket="docs", key=f"k{(after + 1) % 7}", id=after + 2))
         after = found["next"]
     equal(len(parts), 2, "the parts")
-    late = [line("registrar", "events", before="2100-01-01T00:00:00Z"), line("ann", "events", before=before)]
-    refusals = [json.loads(it)["error"]["code"] for it in server.lines(b"".join(late))]
-    equal(refusals, ["InvalidArgument", "AccessDenied"], "a moment to come, and another caller")
+    odd = [line("registrar", "events", before=it) for it in ("2100-01-01T00:00:00Z", "soon")]
+    others = [line("registrar", "events"), line("ann", "events", before=before)]
+    equal(server.lines(b"".join(odd + others)), [INVALID, INVALID, MALFORMED, NOT_ADMIN], "others")
+    past = server.lines(line("registrar", "events", before=before, after=4_294_967_295))
+    equal(past, [b'{"ok":{"next":null,"text":""}}'], "after the last entry there can be")
     equal(server.lines(line("registrar", "close")), [b'{"ok":{}}'], "the end")
     equal(server.serving.wait(LIMIT), 0, "the status")
     text = "".join(parts)

@@ -1,6 +1,6 @@
 //! 1,000 peers of each kind in turn that are gone when they are served, and then a request that is answered.
-use crate::loopback::serve_connections;
-use crate::peers::{GonePeers, StandingClock, answered, waiting};
+use crate::loopback::{send, serve_connections};
+use crate::peers::{GonePeers, StandingClock, answered};
 use std::alloc::Global;
 use std::cell::Cell;
 use std::io;
@@ -44,7 +44,7 @@ fn serve_waiting<R: Net<Listener = TcpListener, Stream = TcpStream>, K: Keeper>(
     keeper: &mut K,
     id: u64,
 ) -> Result<(), Fail> {
-    let peer = waiting(net, listener, PUT)?;
+    let peer = send(net, listener.local_addr()?, PUT)?;
     let mut reports = io::sink();
     serve_connections(&StandingClock, alloc, listener, keeper, 1, &mut reports);
     let wanted = format!(in alloc;

@@ -21,18 +21,11 @@ use vaultctl_serve_lines::service::Service;
 /// 2024-01-15T10:30:00Z.
 const READING: i64 = 1_705_314_600;
 
-const GET: &[Part] = &[
-    Part {
-        pause: 0,
-        bytes: "GET /docs/a HTTP/1.1\r\nx-vault-caller: ann\r\n\r\n",
-        times: 1,
-    },
-    Part {
-        pause: 0,
-        bytes: "",
-        times: 1,
-    },
-];
+const GET: &[Part] = &[Part {
+    pause: 0,
+    bytes: "GET /docs/a HTTP/1.1\r\nx-vault-caller: ann\r\n\r\n",
+    times: 1,
+}];
 
 const GOT: &str =
     "HTTP/1.1 200 OK\r\ndate: Mon, 15 Jan 2024 10:30:00 GMT\r\nconnection: close\r\ncontent-type: application/octet-stream\r\ncontent-length: 5\r\nx-amz-version-id: 1\r\nx-amz-object-lock-legal-hold: OFF\r\n\r\nhello";
@@ -43,7 +36,15 @@ const STORED: &str = "{\"ok\":{\"version_id\":1}}\n";
 
 const STATUS: &str = r#"{"as":"registrar","do":"status"}"#;
 
-const BUCKETS: &str = r#"{"as":"registrar","do":"buckets"}"#;
+const MALFORMED: &str = "{\"error\":{\"code\":\"MalformedBody\",\"n\":12}}\n";
+
+const NOT_ADMIN: &str =
+    "{\"error\":{\"code\":\"AccessDenied\",\"n\":3,\"reason\":\"right:admin\"}}\n";
+
+const UNKNOWN: &str =
+    "{\"error\":{\"code\":\"AccessDenied\",\"n\":3,\"reason\":\"unknown-caller\"}}\n";
+
+const FAILED: &str = "{\"error\":{\"code\":\"Device\",\"n\":23}}\n";
 
 /// What comes in a turn.
 #[derive(Clone, Copy)]
@@ -59,7 +60,8 @@ enum Coming {
 #[derive(Drop)]
 struct KnownDoors<'a> {
     clock: &'a MovingClock,
-    turns: &'a [Coming],
+    /// What comes, each with what its client gets.
+    turns: &'a [(Coming, &'static str)],
     /// What all clients took of their answers and replies, in order.
     taken: &'a Cell<Vec<u8>>,
     /// In how many milliseconds a client takes a byte.
@@ -110,7 +112,7 @@ impl<'a> Doors for KnownDoors<'a> {
             return Arrived::Nothing;
         };
         self.turns = later;
-        match *first {
+        match first.0 {
             Coming::Request(parts) => Arrived::Request(self.peer(parts)),
             Coming::Line(line) => self.heard(line, true),
             Coming::Last(line) => self.heard(line, false),
@@ -154,7 +156,7 @@ struct Served {
 fn serve<K: Keeper>(
     alloc: Global,
     keeper: &mut K,
-    turns: &[Coming],
+    turns: &[(Coming, &'static str)],
     pace: u64,
     n: u32,
 ) -> Result<Served, Fail> {
@@ -194,161 +196,56 @@ fn serve<K: Keeper>(
     })
 }
 
+/// Serves up to n requests and lines of these turns. Fails where their clients don't take what they should.
+fn serve_turns<K: Keeper>(
+    alloc: Global,
+    keeper: &mut K,
+    turns: &[(Coming, &'static str)],
+    n: u32,
+) -> Result<Served, Fail> {
+    let served = serve(alloc, keeper, turns, 0, n)?;
+    let come = turns.len().saturating_sub(served.left);
+    let mut wanted = String::new(alloc);
+    for (_, text) in turns.iter().take(come) {
+        wanted.push_str(text)?;
+    }
+    if served.taken.as_str() == wanted.as_str() {
+        return Ok(served);
+    }
+    Err(Fail::new(format_args!("wanted {wanted}, got {}", served.taken)))
+}
+
 /// Requests and lines are answered in the order in which they come, at the clock's reading. A line's own reading is another
 /// member than it may have. The server ends by the line of a caller who has the right to administer, and by no other.
 #[test]
 fn lines_between_requests(rt: HostRuntime) -> Result<(), Fail> {
-    let alloc = rt.alloc();
-    let mut keeper = opened(alloc)?;
+    let mut keeper = opened(rt.alloc())?;
     let turns = [
-        Coming::Line(PUT),
-        Coming::Request(GET),
-        Coming::Line(r#"{"at":"2024-01-15T10:30:00Z","as":"ann","do":"report","dept":"records"}"#),
-        Coming::Line(""),
-        Coming::Nothing,
-        Coming::Line(r#"{"as":"ann","do":"report","dept":"records"}"#),
-        Coming::Line(r#"{"as":"ann","do":"close"}"#),
-        Coming::Line(r#"{"as":"registrar","do":"close"}"#),
-        Coming::Line(PUT),
+        (Coming::Line(PUT), STORED),
+        (Coming::Request(GET), GOT),
+        (
+            Coming::Line(
+                r#"{"at":"2024-01-15T10:30:00Z","as":"ann","do":"report","dept":"records"}"#,
+            ),
+            MALFORMED,
+        ),
+        (Coming::Line(""), ""),
+        (Coming::Nothing, ""),
+        (
+            Coming::Line(r#"{"as":"ann","do":"report","dept":"records"}"#),
+            "{\"ok\":{\"admitted\":5,\"at\":\"2024-01-15T10:30:00Z\",\"byte_days\":0,\"dept\":\"records\",\"handed\":0,\"held\":5,\"received\":0,\"removed\":0}}\n",
+        ),
+        (Coming::Line(r#"{"as":"ann","do":"close"}"#), NOT_ADMIN),
+        (
+            Coming::Line(r#"{"as":"registrar","do":"close"}"#),
+            "{\"ok\":{}}\n",
+        ),
+        (Coming::Line(PUT), STORED),
     ];
-    let served = serve(alloc, &mut keeper, &turns, 0, 100)?;
-    let wanted = [
-        STORED,
-        GOT,
-        "{\"error\":{\"code\":\"MalformedBody\",\"n\":12}}\n",
-        "{\"ok\":{\"admitted\":5,\"at\":\"2024-01-15T10:30:00Z\",\"byte_days\":0,\"dept\":\"records\",\"handed\":0,\"held\":5,\"received\":0,\"removed\":0}}\n",
-        "{\"error\":{\"code\":\"AccessDenied\",\"n\":3,\"reason\":\"right:admin\"}}\n",
-        "{\"ok\":{}}\n",
-    ];
-    let mut all = String::new(alloc);
-    for text in &wanted {
-        all.push_str(text)?;
-    }
-    assert_eq!(rt; served.taken.as_str(), all.as_str());
+    let served = serve_turns(rt.alloc(), &mut keeper, &turns, 100)?;
     assert!(rt; served.next == Next::End);
     assert_eq!(rt; served.left, 1);
     assert_eq!(rt; served.kept, 5);
-    Ok(())
-}
-
-/// How things are is for a caller with the right to administer: how many entries there were, when the last change was, when
-/// the server began, and which program it is. Such a line has no other member, and changes nothing.
-#[test]
-fn how_things_are(rt: HostRuntime) -> Result<(), Fail> {
-    let alloc = rt.alloc();
-    let mut keeper = opened(alloc)?;
-    let turns = [
-        Coming::Line(PUT),
-        Coming::Line(STATUS),
-        Coming::Line(r#"{"as":"ann","do":"status"}"#),
-        Coming::Line(r#"{"as":"zoe","do":"status"}"#),
-        Coming::Line(r#"{"as":"","do":"status"}"#),
-        Coming::Line(r#"{"as":"registrar","do":"status","dept":"records"}"#),
-        Coming::Line(r#"{"as":"registrar","do":"statu"}"#),
-        Coming::Last("{\"do\":\"status\",\"as\":\"registrar\"}\r"),
-    ];
-    let served = serve(alloc, &mut keeper, &turns, 0, 8)?;
-    let stated =
-        "{\"ok\":{\"entries\":1,\"failures\":0,\"last\":\"2024-01-15T10:30:00Z\",\"since\":\"2024-01-15T10:29:00Z\",\"version\":\"1.2 (schema 3)\"}}\n";
-    let unknown = "{\"error\":{\"code\":\"AccessDenied\",\"n\":3,\"reason\":\"unknown-caller\"}}\n";
-    let malformed = "{\"error\":{\"code\":\"MalformedBody\",\"n\":12}}\n";
-    let wanted = [
-        STORED,
-        stated,
-        "{\"error\":{\"code\":\"AccessDenied\",\"n\":3,\"reason\":\"right:admin\"}}\n",
-        unknown,
-        unknown,
-        malformed,
-        malformed,
-        stated,
-    ];
-    let mut all = String::new(alloc);
-    for text in &wanted {
-        all.push_str(text)?;
-    }
-    assert_eq!(rt; served.taken.as_str(), all.as_str());
-    assert!(rt; served.next == Next::On);
-    assert_eq!(rt; served.kept, 7);
-    Ok(())
-}
-
-/// The names of buckets come in the order of their bytes, all of them or those after a text, to a caller with the right to
-/// administer. Such a line has no other member, and changes nothing.
-#[test]
-fn names_of_buckets(rt: HostRuntime) -> Result<(), Fail> {
-    let alloc = rt.alloc();
-    let mut keeper = opened(alloc)?;
-    let turns = [
-        Coming::Line(BUCKETS),
-        Coming::Line(r#"{"as":"registrar","do":"add-bucket","bucket":"maps","dept":"records"}"#),
-        Coming::Line(r#"{"as":"registrar","do":"add-bucket","bucket":"deeds","dept":"records"}"#),
-        Coming::Line(BUCKETS),
-        Coming::Line(r#"{"as":"registrar","do":"buckets","after":""}"#),
-        Coming::Line(r#"{"after":"deeds","as":"registrar","do":"buckets"}"#),
-        Coming::Line(r#"{"as":"registrar","do":"buckets","after":"docs!"}"#),
-        Coming::Line(r#"{"as":"registrar","do":"buckets","after":"maps"}"#),
-        Coming::Line(r#"{"as":"ann","do":"buckets"}"#),
-        Coming::Line(r#"{"as":"registrar","do":"buckets","after":null}"#),
-        Coming::Line(r#"{"as":"registrar","do":"buckets","dept":"records"}"#),
-    ];
-    let served = serve(alloc, &mut keeper, &turns, 0, 11)?;
-    let all_names = "{\"ok\":{\"buckets\":[\"deeds\",\"docs\",\"maps\"],\"more\":false}}\n";
-    let malformed = "{\"error\":{\"code\":\"MalformedBody\",\"n\":12}}\n";
-    let wanted = [
-        "{\"ok\":{\"buckets\":[\"docs\"],\"more\":false}}\n",
-        "{\"ok\":{}}\n",
-        "{\"ok\":{}}\n",
-        all_names,
-        all_names,
-        "{\"ok\":{\"buckets\":[\"docs\",\"maps\"],\"more\":false}}\n",
-        "{\"ok\":{\"buckets\":[\"maps\"],\"more\":false}}\n",
-        "{\"ok\":{\"buckets\":[],\"more\":false}}\n",
-        "{\"error\":{\"code\":\"AccessDenied\",\"n\":3,\"reason\":\"right:admin\"}}\n",
-        malformed,
-        malformed,
-    ];
-    let mut all = String::new(alloc);
-    for text in &wanted {
-        all.push_str(text)?;
-    }
-    assert_eq!(rt; served.taken.as_str(), all.as_str());
-    assert!(rt; served.next == Next::On);
-    assert_eq!(rt; served.kept, 11);
-    Ok(())
-}
-
-/// What happened before a moment comes in parts; a moment that the vault hasn't reached has none.
-#[test]
-fn what_happened(rt: HostRuntime) -> Result<(), Fail> {
-    let alloc = rt.alloc();
-    let mut keeper = opened(alloc)?;
-    let turns = [
-        Coming::Line(PUT),
-        Coming::Line(r#"{"as":"registrar","do":"events","before":"2024-01-15T10:30:00Z"}"#),
-        Coming::Line(r#"{"as":"registrar","do":"events","before":"2024-01-15T10:30:01Z"}"#),
-        Coming::Line(
-            r#"{"as":"registrar","do":"events","before":"2024-01-15T10:30:00Z","after":1}"#,
-        ),
-        Coming::Line(r#"{"as":"registrar","do":"events","before":"soon"}"#),
-        Coming::Line(r#"{"as":"registrar","do":"events"}"#),
-        Coming::Line(r#"{"as":"ann","do":"events","before":"2024-01-15T10:30:00Z"}"#),
-    ];
-    let served = serve(alloc, &mut keeper, &turns, 0, 7)?;
-    let invalid = "{\"error\":{\"code\":\"InvalidArgument\",\"n\":10}}\n";
-    let wanted = [
-        STORED,
-        "{\"ok\":{\"next\":null,\"text\":\"version,event,moment,by,bucket,key,kind,size,sha256,mode,until,hold,bypass,cause,department,move\\n\"}}\n",
-        invalid,
-        "{\"ok\":{\"next\":null,\"text\":\"\"}}\n",
-        invalid,
-        "{\"error\":{\"code\":\"MalformedBody\",\"n\":12}}\n",
-        "{\"error\":{\"code\":\"AccessDenied\",\"n\":3,\"reason\":\"right:admin\"}}\n",
-    ];
-    let mut all = String::new(alloc);
-    for text in &wanted {
-        all.push_str(text)?;
-    }
-    assert_eq!(rt; served.taken.as_str(), all.as_str());
     Ok(())
 }
 
@@ -356,20 +253,15 @@ fn what_happened(rt: HostRuntime) -> Result<(), Fail> {
 /// line there.
 #[test]
 fn as_many_as_it_should(rt: HostRuntime) -> Result<(), Fail> {
-    let alloc = rt.alloc();
-    let mut keeper = opened(alloc)?;
+    let mut keeper = opened(rt.alloc())?;
     let turns = [
-        Coming::Nothing,
-        Coming::Last(PUT),
-        Coming::Nothing,
-        Coming::Last("\r"),
-        Coming::Line(PUT),
+        (Coming::Nothing, ""),
+        (Coming::Last(PUT), STORED),
+        (Coming::Nothing, ""),
+        (Coming::Last("\r"), MALFORMED),
+        (Coming::Line(PUT), STORED),
     ];
-    let served = serve(alloc, &mut keeper, &turns, 0, 2)?;
-    assert_eq!(rt;
-        served.taken.as_str(),
-        "{\"ok\":{\"version_id\":1}}\n{\"error\":{\"code\":\"MalformedBody\",\"n\":12}}\n"
-    );
+    let served = serve_turns(rt.alloc(), &mut keeper, &turns, 2)?;
     assert!(rt; served.next == Next::On);
     assert_eq!(rt; served.left, 1);
     assert_eq!(rt; served.kept, 0);
@@ -381,11 +273,10 @@ fn as_many_as_it_should(rt: HostRuntime) -> Result<(), Fail> {
 fn a_reply_that_is_not_taken(rt: HostRuntime) -> Result<(), Fail> {
     let alloc = rt.alloc();
     let mut keeper = opened(alloc)?;
-    let served = serve(alloc, &mut keeper, &[Coming::Line(PUT)], 4_000, 1)?;
+    let served = serve(alloc, &mut keeper, &[(Coming::Line(PUT), STORED)], 4_000, 1)?;
     assert_eq!(rt; served.taken.as_str(), "{\"");
     assert_eq!(rt; served.kept, 0);
-    let served = serve(alloc, &mut keeper, &[Coming::Request(GET)], 0, 1)?;
-    assert_eq!(rt; served.taken.as_str(), GOT);
+    serve_turns(alloc, &mut keeper, &[(Coming::Request(GET), GOT)], 1)?;
     Ok(())
 }
 
@@ -395,16 +286,15 @@ fn a_device_that_fails(rt: HostRuntime) -> Result<(), Fail> {
     let alloc = rt.alloc();
     let mut keeper = FuseKeeper::new(FuseKeeper::new(opened(alloc)?, 0), 0);
     let turns = [
-        Coming::Line(PUT),
-        Coming::Line(PUT),
-        Coming::Line(PUT),
-        Coming::Line(STATUS),
+        (Coming::Line(PUT), FAILED),
+        (Coming::Line(PUT), FAILED),
+        (Coming::Line(PUT), STORED),
+        (
+            Coming::Line(STATUS),
+            "{\"ok\":{\"entries\":1,\"failures\":2,\"last\":\"2024-01-15T10:30:00Z\",\"since\":\"2024-01-15T10:29:00Z\",\"version\":\"1.2 (schema 3)\"}}\n",
+        ),
     ];
-    let served = serve(alloc, &mut keeper, &turns, 0, 4)?;
-    assert_eq!(rt;
-        served.taken.as_str(),
-        "{\"error\":{\"code\":\"Device\",\"n\":23}}\n{\"error\":{\"code\":\"Device\",\"n\":23}}\n{\"ok\":{\"version_id\":1}}\n{\"ok\":{\"entries\":1,\"failures\":2,\"last\":\"2024-01-15T10:30:00Z\",\"since\":\"2024-01-15T10:29:00Z\",\"version\":\"1.2 (schema 3)\"}}\n"
-    );
+    let served = serve_turns(alloc, &mut keeper, &turns, 4)?;
     assert_eq!(rt;
         served.reports.as_slice(),
         b"serve: the vault's file failed: where requests are answered 500, start the server anew\n".as_slice()
@@ -412,32 +302,28 @@ fn a_device_that_fails(rt: HostRuntime) -> Result<(), Fail> {
     Ok(())
 }
 
-/// A line each of what became of lines and requests: who asked for what, what came of it, how many bytes, how long.
+/// A line each of what became of lines and requests: who asked for what, what came of it, how many bytes, how long. Turns in
+/// which nothing came have none.
 #[test]
 fn a_trail(rt: HostRuntime) -> Result<(), Fail> {
     let alloc = rt.alloc();
     let mut keeper = opened(alloc)?;
     let turns = [
-        Coming::Line(PUT),
-        Coming::Request(GET),
-        Coming::Line(r#"{"as":"zoe","do":"status"}"#),
-        Coming::Nothing,
-        Coming::Line("{\"a"),
-        Coming::Line(""),
+        (Coming::Line(PUT), STORED),
+        (Coming::Request(GET), GOT),
+        (Coming::Line(r#"{"as":"zoe","do":"status"}"#), UNKNOWN),
+        (Coming::Nothing, ""),
+        (Coming::Line("{\"a"), MALFORMED),
+        (Coming::Line(""), ""),
     ];
-    let served = serve(alloc, &mut keeper, &turns, 0, 5)?;
-    let wanted = [
-        r#"{"door":"lines","at":"2024-01-15T10:30:00Z","as":"ann","do":"put","bucket":"docs","key":"a","result":"ok","in":64,"out":24,"ms":0}"#,
-        r#"{"door":"http","at":"2024-01-15T10:30:00Z","as":"ann","do":"GET","target":"/docs/a","status":200,"result":"ok","in":45,"out":195,"ms":0}"#,
-        r#"{"door":"lines","at":"2024-01-15T10:30:00Z","as":"zoe","do":"status","result":"AccessDenied","reason":"unknown-caller","in":26,"out":66,"ms":0}"#,
-        r#"{"door":"lines","at":"2024-01-15T10:30:00Z","result":"MalformedBody","in":3,"out":42,"ms":0}"#,
-        r#"{"door":"lines","at":"2024-01-15T10:30:00Z","result":"nothing","in":0,"out":0,"ms":0}"#,
-    ];
-    let mut all = String::new(alloc);
-    for text in &wanted {
-        all.push_str(text)?;
-        all.push_str("\n")?;
-    }
-    assert_eq!(rt; served.log.as_str(), all.as_str());
+    let served = serve_turns(alloc, &mut keeper, &turns, 5)?;
+    let wanted =
+        r#"{"door":"lines","at":"2024-01-15T10:30:00Z","as":"ann","do":"put","bucket":"docs","key":"a","result":"ok","in":64,"out":24,"ms":0}
+{"door":"http","at":"2024-01-15T10:30:00Z","as":"ann","do":"GET","target":"/docs/a","status":200,"result":"ok","in":45,"out":195,"ms":0}
+{"door":"lines","at":"2024-01-15T10:30:00Z","as":"zoe","do":"status","result":"AccessDenied","reason":"unknown-caller","in":26,"out":66,"ms":0}
+{"door":"lines","at":"2024-01-15T10:30:00Z","result":"MalformedBody","in":3,"out":42,"ms":0}
+{"door":"lines","at":"2024-01-15T10:30:00Z","result":"nothing","in":0,"out":0,"ms":0}
+"#;
+    assert_eq!(rt; served.log.as_str(), wanted);
     Ok(())
 }

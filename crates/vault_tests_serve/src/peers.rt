@@ -1,5 +1,5 @@
 //! Peers that connect, send what they send, and are gone before their connection is taken.
-use crate::loopback::{READING, send};
+use crate::loopback::READING;
 use std::alloc::Global;
 use std::cell::Cell;
 use std::io;
@@ -63,15 +63,6 @@ impl<R: Net<Listener = TcpListener, Stream = TcpStream>> OpenListener for GonePe
         self.taken.set(self.taken.get().saturating_add(1));
         Ok(taken)
     }
-}
-
-/// A peer that sends a whole request and waits.
-pub fn waiting<R: Net<Stream = TcpStream>>(
-    net: &R,
-    listener: &TcpListener,
-    request: &str,
-) -> io::Result<TcpStream> {
-    send(net, listener.local_addr()?, request)
 }
 
 /// Reads the answer to its end, and fails where it isn't as wanted.

@@ -1,5 +1,5 @@
 //! A register, a script, and requests.
-ghost use Rattle.std.specs.Prelude.{◌≡◌, ⊤, IfOk, OnOk};
+ghost use Rattle.std.specs.Prelude.{◌≡◌, ⊤, IfOk, is_some, OnOk};
 ghost use Rattle.vaultctl_serve.specs.Serving.{Stepped};
 ghost use Rattle.vaultctl_work.specs.Done.{IsAnswered, IsServed, most_with_lines as served_with_lines};
 ghost use Rattle.vaultctl_work.specs.Outcomes as spec;
@@ -150,7 +150,9 @@ fn hosts_of(alloc: Global, names: &[Word]) -> Result<Hosts, AllocError>
 }
 
 /// Standard error, where a log is asked for.
-fn log_of(rt: &HostRuntime, job: &ServeJob) -> Option<Stderr> {
+fn log_of(rt: &HostRuntime, job: &ServeJob) -> Option<Stderr>
+    ensures { is_some result ≡ job.now.log }
+{
     if job.log { Some(rt.stderr()) } else { None }
 }
 
