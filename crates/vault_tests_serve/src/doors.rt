@@ -180,7 +180,6 @@ fn serve<K: Keeper>(
         alloc,
         version: "1.2 (schema 3)",
         since: Moment::from_secs(READING - 60),
-        is_logged: true,
     };
     let next = serve_doors(&clock, &service, &mut doors, keeper, n, &mut reports);
     let (left, kept) = (doors.turns.len(), doors.kept);

@@ -127,10 +127,6 @@ impl Arrivals for KnownArrivals<'_> {
 
     ghost logs = { λ _ _ _ _ _. Unit {0} };
 
-    fn is_logged(&self) -> bool {
-        false
-    }
-
     fn log(&mut self, _entry: &Entry<'_>) {}
 
     fn pause(&mut self) {}

@@ -39,9 +39,6 @@ pub trait Arrivals {
     /// The hosts that requests may be for.
     fn hosts(&self) -> &Hosts;
 
-    /// Whether what becomes of each connection is logged.
-    fn is_logged(&self) -> bool;
-
     /// What hears of an entry: who hears it, the entry's facts, the fronts of what was asked and answered, who heard it.
     ghost logs: { Self → Facts → List ℕ → List ℕ → Self → Type 0 };
 
@@ -92,10 +89,6 @@ impl<C: Clock, P: Peer + Drop, L: OpenListener<Stream = P>, W: Write + Drop> Arr
 
     fn hosts(&self) -> &Hosts {
         self.hosts
-    }
-
-    fn is_logged(&self) -> bool {
-        self.log.is_some()
     }
 
     fn log(&mut self, entry: &Entry<'_>) {

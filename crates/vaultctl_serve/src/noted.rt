@@ -92,13 +92,12 @@ pub struct Noted {
 }
 
 impl Noted {
-    /// Nothing went by. Of what does the front is kept where it is for the log.
-    pub fn new(alloc: Global, is_logged: bool) -> Noted {
-        let (asked, answered) = if is_logged { (ASKED, ANSWERED) } else { (0, 0) };
+    /// Nothing went by.
+    pub fn new(alloc: Global) -> Noted {
         Noted {
             alloc,
-            asked: Seen::new(alloc, asked),
-            answered: Seen::new(alloc, answered),
+            asked: Seen::new(alloc, ASKED),
+            answered: Seen::new(alloc, ANSWERED),
             took: Duration::ZERO,
         }
     }

@@ -48,7 +48,7 @@ fn serve_taken<C: Clock, A: Arrivals, K: Keeper>(
     ensures logged { K.is_honest keeper.new → IsAccounted A.logs arrivals.old arrivals.new (moment_at reading) (K.vault keeper.old) (K.vault keeper.new) }
     ensures leaves { LeavesNoLess K.Kept keeper.old keeper.new }
 {
-    let mut noted = Noted::new(alloc, arrivals.is_logged());
+    let mut noted = Noted::new(alloc);
     // A fault of the connection is its own.
     let served = serve_connection(clock, &mut noted, peer, keeper, reading, arrivals.hosts());
     arrivals.log(&noted.request(reading, trouble_of(served)));

@@ -103,7 +103,6 @@ pub fn serve_with_lines<
         alloc: places.alloc,
         version: places.version,
         since: now(rt),
-        is_logged: log.is_some(),
     };
     let mut doors = TwoDoors {
         clock: rt,

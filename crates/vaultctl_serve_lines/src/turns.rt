@@ -58,7 +58,7 @@ fn answer_talker<C: Clock, P: Peer, K: Keeper>(
     ensures end { result.answered ≡ Ok Next.End → K.is_honest keeper.new → MayEnd (K.vault keeper.new) (moment_at reading) heard.now.bytes.items }
     ensures leaves { LeavesNoLess K.Kept keeper.old keeper.new }
 {
-    let mut noted = Noted::new(service.alloc, service.is_logged);
+    let mut noted = Noted::new(service.alloc);
     let Ok(since) = Instant::now(clock) else {
         return Answering {
             answered: Err(ReplayFault::Read),
@@ -134,7 +134,7 @@ fn serve_request<C: Clock, D: Doors, K: Keeper>(
     ensures leaves { LeavesNoLess K.Kept keeper.old keeper.new }
 {
     let reading = doors.reading();
-    let mut noted = Noted::new(service.alloc, service.is_logged);
+    let mut noted = Noted::new(service.alloc);
     // A fault of the connection is its own.
     let served = serve_connection(clock, &mut noted, peer, keeper, reading, doors.hosts());
     doors.log(&noted.request(reading, trouble_of(served)));

@@ -11,6 +11,4 @@ pub struct Service {
     pub version: &'static str,
     /// When the server began to listen; none where the clock showed no moment then.
     pub since: Option<Moment>,
-    /// What becomes of requests and lines is logged.
-    pub is_logged: bool,
 }
