@@ -301,8 +301,8 @@ fn a_device_that_fails(rt: HostRuntime) -> Result<(), Fail> {
     Ok(())
 }
 
-/// A line each of what became of lines and requests: who asked for what, what came of it, how many bytes, how long. Turns in
-/// which nothing came have none.
+/// A line each of what became of lines and requests: who asked for what, what came of it, how many bytes, how long. A turn in
+/// which nothing came has none. The clients take a byte in 5 milliseconds.
 #[test]
 fn a_trail(rt: HostRuntime) -> Result<(), Fail> {
     let alloc = rt.alloc();
@@ -315,12 +315,12 @@ fn a_trail(rt: HostRuntime) -> Result<(), Fail> {
         (Coming::Line("{\"a"), MALFORMED),
         (Coming::Line(""), ""),
     ];
-    let served = serve_turns(alloc, &mut keeper, &turns, 5)?;
+    let served = serve(alloc, &mut keeper, &turns, 5, 5)?;
     let wanted =
-        r#"{"door":"lines","at":"2024-01-15T10:30:00Z","as":"ann","do":"put","bucket":"docs","key":"a","result":"ok","in":64,"out":24,"ms":0}
-{"door":"http","at":"2024-01-15T10:30:00Z","as":"ann","do":"GET","target":"/docs/a","status":200,"result":"ok","in":45,"out":195,"ms":0}
-{"door":"lines","at":"2024-01-15T10:30:00Z","as":"zoe","do":"status","result":"AccessDenied","reason":"unknown-caller","in":26,"out":66,"ms":0}
-{"door":"lines","at":"2024-01-15T10:30:00Z","result":"MalformedBody","in":3,"out":42,"ms":0}
+        r#"{"door":"lines","at":"2024-01-15T10:30:00Z","as":"ann","do":"put","bucket":"docs","key":"a","result":"ok","in":64,"out":24,"ms":120}
+{"door":"http","at":"2024-01-15T10:30:00Z","as":"ann","do":"GET","target":"/docs/a","status":200,"result":"ok","in":45,"out":195,"ms":975}
+{"door":"lines","at":"2024-01-15T10:30:00Z","as":"zoe","do":"status","result":"AccessDenied","reason":"unknown-caller","in":26,"out":66,"ms":330}
+{"door":"lines","at":"2024-01-15T10:30:00Z","result":"MalformedBody","in":3,"out":42,"ms":210}
 {"door":"lines","at":"2024-01-15T10:30:00Z","result":"nothing","in":0,"out":0,"ms":0}
 "#;
     assert_eq!(rt; served.log.as_str(), wanted);
