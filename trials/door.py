@@ -14,8 +14,9 @@ import subprocess
 import threading
 import time
 from collections.abc import Callable
+from typing import Any
 
-from trials.program import PROGRAM, Case, a_test_each, check, make_office, printed
+from trials.program import PROGRAM, Case, a_test_each, carry_out, check, make_office, printed
 from trials.servers import HOST, free_port, read_all
 
 # The deadlines, in seconds: for a line from its first byte; for silence where another waits; and how long a client waits
@@ -288,6 +289,64 @@ def events(server: Server) -> None:
     equal(printed("seal", server.file, "--before", before).splitlines()[-1], f"sha256: {digest}", "the seal")
 
 
+def in_parts(server: Server, do: str) -> list[dict[str, Any]]:
+    """The parts that a line asks for, one after another."""
+    parts: list[dict[str, Any]] = []
+    after: int | None = 0
+    while after is not None:
+        parts.append(json.loads(server.lines(line("registrar", do, after=after))[0])["ok"])
+        after = parts[-1]["next"]
+    return parts
+
+
+def removals(server: Server) -> None:
+    """The register comes in parts, which are together what the program prints; one that is taken while a removal comes in
+    between has all that was removed before, as it is afterwards."""
+    server.lines(b"".join(put(f"k{number}", str(number)) for number in range(1, 2_101)))
+    gone = [1, 2, 999, 1_000, 1_001, 1_999, 2_100]
+    server.lines(b"".join(line("ann", "delete-version", bucket="docs", key=f"k{it}", id=it) for it in gone))
+    server.lines(line("ann", "delete", bucket="docs", key="k5") + line("ann", "delete-version", bucket="docs", key="k5", id=2_101))
+    parts = in_parts(server, "register")
+    equal([it["next"] for it in parts], [1_000, 2_000, None], "where the next parts begin")
+    text = "".join(it["text"] for it in parts)
+    ids = [int(row.split(",")[0]) for row in text.splitlines()[1:]]
+    equal(ids, [*gone, 2_101], "which were removed, and a marker")
+    again = [json.loads(server.lines(line("registrar", "register"))[0])["ok"]["text"]]
+    server.lines(line("ann", "delete-version", bucket="docs", key="k7", id=7))
+    server.lines(line("ann", "delete-version", bucket="docs", key="k1500", id=1_500))
+    again += [json.loads(server.lines(line("registrar", "register", after=it))[0])["ok"]["text"] for it in (1_000, 2_000)]
+    nothing = [json.loads(server.lines(line("registrar", "register", after=it))[0])["ok"] for it in (2_101, 4_294_967_295)]
+    equal(nothing, [{"next": None, "text": ""}] * 2, "parts after the last entry")
+    odd = [line("registrar", "register", **members) for members in ({"before": "2024-01-15"}, {"after": -1}, {"after": 4_294_967_296})]
+    equal(server.lines(line("ann", "register") + b"".join(odd)), [NOT_ADMIN, MALFORMED, INVALID, INVALID], "others")
+    equal(server.lines(line("registrar", "close")), [b'{"ok":{}}'], "the end")
+    equal(server.serving.wait(LIMIT), 0, "the status")
+    printed_then = printed("register", server.file).splitlines(keepends=True)
+    without = [row for row in printed_then if not row.startswith(("7,", "1500,"))]
+    equal(text, "".join(without), "the register before the last two removals")
+    equal("".join(again), "".join(row for row in printed_then if not row.startswith("7,")), "with the one that came in time")
+
+
+def rules_kept(server: Server) -> None:
+    """Whether the rules were kept is answered part by part: of a forged history each part names its own first breach."""
+    server.lines(b"".join(put(f"k{number}", str(number)) for number in range(1, 2_101)))
+    equal(in_parts(server, "lawful"), [{"breach": None, "next": it} for it in (1_000, 2_000, None)], "a lawful vault")
+    past = server.lines(line("registrar", "lawful", after=4_294_967_295))
+    equal(past, [b'{"ok":{"breach":null,"next":null}}'], "after the last entry there can be")
+    odd = [line("registrar", "lawful", **members) for members in ({"id": 1}, {"after": -1})]
+    equal(server.lines(line("ann", "lawful") + b"".join(odd)), [NOT_ADMIN, MALFORMED, INVALID], "others")
+    equal(server.lines(line("registrar", "close")), [b'{"ok":{}}'], "the end")
+    equal(server.serving.wait(LIMIT), 0, "the status")
+    carry_out(pathlib.Path(server.file), ["UPDATE settings SET caller = 'registrar' WHERE id IN (5, 6, 1001)"])
+    server.start()
+    found = [{"law": "first-setting", "version_id": it} for it in (5, 1_001)] + [None]
+    equal([it["breach"] for it in in_parts(server, "lawful")], found, "the first breach of each part")
+    equal(server.lines(line("registrar", "close")), [b'{"ok":{}}'], "the end once more")
+    equal(server.serving.wait(LIMIT), 0, "the status once more")
+    said = subprocess.run([PROGRAM, "lawful", str(server.file)], capture_output=True, text=True, check=False)
+    equal((said.returncode, said.stdout), (1, "unlawful 5 first-setting\n"), "what the program says of the file")
+
+
 def at_a_port(server: Server) -> None:
     """Lines at a port."""
     equal(server.said, f"serving {server.file} at {HOST}:{server.port}, lines at {HOST}:{server.where}\n", "what it says")
@@ -334,6 +393,8 @@ TRIALS: dict[str, Trial] = {
     "status": (status, []),
     "buckets": (buckets, []),
     "events": (events, []),
+    "removals": (removals, []),
+    "rules-kept": (rules_kept, []),
     "at-a-port": (at_a_port, []),
     "counted": (counted, ["--count", "3"]),
     "no-places": (no_places, []),
@@ -346,7 +407,7 @@ class Door(Case):
 
     def look_at(self, name: str) -> None:
         trial, words = TRIALS[name]
-        make_office(self.folder / "records.vault", "put", "get", "list", "report", "delete-version")
+        make_office(self.folder / "records.vault", "put", "get", "list", "report", "delete", "delete-version")
         server = Server(self.folder, str(free_port()) if name == "at-a-port" else "")
         server.start(*words)
         try:

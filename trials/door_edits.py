@@ -8,6 +8,7 @@ DOORS, CLOSE, ALONE = "test_door.Doors.", "test_door.Close.", "test_door.DoorAlo
 NIGHT, STOP, STARTED = "test_served_units.NightByTheDoor.", "test_served_units.Stop.", "test_served_units.Started."
 LOCKS, VAULT, LOG, S3 = "test_served_units.Locks.", "test_snapshot.OfAVault.", "test_snapshot.OfALog.", "test_s3_served."
 SAME = ASKED + "test_what_is_read_of_the_vault_is_what_it_has_after_its_end"
+PARTS = "test_parts.Parts."
 BATCH = DELIVERED + "test_what_is_taken_in_by_lines_is_known_to_the_program_and_the_other_way_round"
 EDITS = [
     # moments
@@ -95,6 +96,14 @@ EDITS = [
     ("status", "    if found[\"failures\"]:\n", "    if False:\n", "test_status.Status.test_a_file_that_failed"),
     ("status", "    if engine.at is not None:\n", "    if False:\n", "test_status.Status.test_it_is_of_now"),
     ("status", "    if door is None:\n", "    if False:\n", "test_status.Status.test_where_no_server_is_it_says_so"),
+    # what is answered in parts
+    ("parts", "        after = found[\"next\"]\n", "        after = None\n", PARTS + "test_each_part_begins_after_the_one_before_it"),
+    ("parts", "        header = \"\"\n", "", PARTS + "test_a_seal_counts_the_events_of_all_parts"),
+    ("parts", "happened.count(\"admitted\")", "len(happened)", PARTS + "test_a_seal_counts_the_events_of_all_parts"),
+    ("parts", "        if not it[\"text\"].startswith(header):\n", "        if False:\n", PARTS + "test_a_seal_counts_the_events_of_all_parts"),
+    ("evidence", "parts.seal(engine, before) if words.parts else seal_of(engine.tables, before)", "seal_of(engine.tables, before)",
+     PARTS + "test_a_seal_counts_the_events_of_all_parts"),
+    ("evidence", "    if verdict != \"lawful\":\n", "    if False:\n", PARTS + "test_the_first_breach_of_all_parts"),
     # the gateway
     ("s3/objects", "told.at if told.is_certain else _admission(asked, version)", "told.at",
      S3 + "Served.test_an_etag_is_noted_for_just_the_second_of_the_admission"),

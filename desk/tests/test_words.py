@@ -67,6 +67,7 @@ ROWS = {
     "report": Row("records", "court"),
     "charges": Row(*(f"--since 2024-01-15 --before 2024-01-15T09:30:00Z {it}" for it in ("", NO_VAULT))),
     "verify": Row("", NO_VAULT),
+    "lawful": Row("", NO_VAULT),
     "seal": Row("--append", NO_VAULT),
     "check-seals": Row("", "{folder}/none.seals"),
     "compare": Row("{copy} {file}", "{folder}/none.vault {file}"),

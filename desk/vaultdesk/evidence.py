@@ -1,6 +1,8 @@
-"""Whether the vault is sound, and what holds against whoever may write to its file: verify, seal, check-seals, compare.
+"""Whether the vault is sound, and what holds against whoever may write to its file: verify, lawful, seal, check-seals,
+compare.
 
-The answers of all but `verify` are vault-recheck's, which shares no code with the program that writes the vault.
+The answers of the last three are vault-recheck's, which shares no code with the program that writes the vault; but
+with `--parts` a seal is of what the server answers.
 """
 
 from __future__ import annotations
@@ -12,12 +14,13 @@ from collections.abc import Iterable, Sequence
 from pathlib import Path
 from typing import Any
 
-from vaultdesk import moments, recheck
+from vaultdesk import moments, parts, recheck
 from vaultdesk.engine import Engine
-from vaultdesk.errors import DeskError, UsageError
+from vaultdesk.errors import DeskError, EngineError, UsageError
 from vaultdesk.output import print_json, say, say_while_long
 
 Seal = recheck.events.Seal
+PARTS = "ask the server that has the vault, part by part, and read no file: as a caller with the right admin"
 
 
 def seals_beside(file: Path) -> Path:
@@ -82,9 +85,11 @@ def append(path: Path, seal: Seal) -> bool:
 
 def seal(engine: Engine, words: argparse.Namespace) -> None:
     """Prints the seal of a moment, and appends it to a file where that is asked."""
-    found = seal_of(engine.tables, moments.read(words.before) if words.before else None)
+    before = moments.read(words.before) if words.before else None
+    found = parts.seal(engine, before) if words.parts else seal_of(engine.tables, before)
+    who = "what the server answered, part by part" if words.parts else recheck.WHO
     if words.json:
-        print_json({**seal_json(found), "by": recheck.WHO})
+        print_json({**seal_json(found), "by": who})
     else:
         print(found.text(), end="")
     if words.append is not None:
@@ -92,7 +97,7 @@ def seal(engine: Engine, words: argparse.Namespace) -> None:
         done = "is appended to" if append(path, found) else "stood already in"
         say(f"the seal {done} {path}: keep a copy of that file where the office can't write")
     if not words.json:
-        say(f"sealed by {recheck.WHO}")
+        say(f"sealed by {who}")
 
 
 def differing(file: Path, seals: Sequence[Seal]) -> list[str]:
@@ -156,11 +161,42 @@ def verify(engine: Engine, words: argparse.Namespace) -> None:
         raise DeskError(f"{engine.desk.file}: {verdict}: docs/ENGINE.md says what each verdict means")
 
 
+def _judged(engine: Engine) -> str:
+    """What the engine says of whether the rules were kept: of a copy as it is now, while a server has the vault."""
+    done = subprocess.run([engine.desk.program, "lawful", str(engine.tables)], capture_output=True, check=False)
+    verdict = done.stdout.decode("utf-8", "replace").strip()
+    if done.returncode != 0 and not verdict.startswith("unlawful"):
+        raise EngineError(done.stderr.decode(errors="replace").strip())
+    return verdict
+
+
+def lawful(engine: Engine, words: argparse.Namespace) -> None:
+    """Says whether each setting and each removal keeps the rules, as the engine judges them."""
+    if words.parts:
+        found = parts.breach(engine)
+        verdict = f"unlawful {found['version_id']} {found['law']}" if found else "lawful"
+    else:
+        verdict = _judged(engine)
+    if words.json:
+        print_json({"lawful": verdict == "lawful", "verdict": verdict, "in_parts": words.parts})
+    elif verdict == "lawful":
+        more = "; that the records of one move agree, within each part alone" if words.parts else ""
+        print(f"lawful{more}")
+    if verdict != "lawful":
+        raise DeskError(f"{engine.desk.file}: {verdict}: docs/formats/PROGRAM.md says what each rule is")
+
+
 def add(commands: argparse._SubParsersAction[argparse.ArgumentParser], common: argparse.ArgumentParser) -> None:
     """Adds the subcommands to the desk's words."""
     what = "audit the vault: each table, and each byte of content; also while a server has it"
     it = commands.add_parser("verify", parents=[common], help=what, epilog="Example: vaultdesk verify --vault records")
     it.set_defaults(run=verify)
+
+    what = "whether commands can have made this history: each setting and each removal keeps the rules"
+    example = "Example: vaultdesk lawful --vault records"
+    it = commands.add_parser("lawful", parents=[common], help=what, epilog=example)
+    it.add_argument("--parts", action="store_true", help=PARTS)
+    it.set_defaults(run=lawful)
 
     what = "the seal of all that happened before a moment: four lines to be deposited with somebody else"
     example = "Example: vaultdesk seal --vault records.vault --append"
@@ -168,6 +204,7 @@ def add(commands: argparse._SubParsersAction[argparse.ArgumentParser], common: a
     it.add_argument("--before", metavar="DATE", help="the moment (default: that of the vault's last change)")
     more = "append it to the seals of FILE (default: NAME.seals beside NAME.vault)"
     it.add_argument("--append", nargs="?", const="", metavar="FILE", help=more)
+    it.add_argument("--parts", action="store_true", help=PARTS)
     it.set_defaults(run=seal)
 
     what = "whether seals come out of the vault again, a whole year of them in one pass"

@@ -19,20 +19,25 @@ NAMED = (("since", "served since"), ("version", "version"), ("entries", "entries
          ("failures", "failures"))  # fmt: skip
 
 
-def state(engine: Engine) -> Mapping[str, Any]:
-    """What the server of the vault says of itself. `Refused` where the caller may not ask, `DeskError` where no server
-    takes lines, or one of an earlier version does."""
+def asked(engine: Engine, do: str, **members: Any) -> Mapping[str, Any]:
+    """What the server of the vault answers to a line that isn't a command. `Refused` where it refuses that, `DeskError`
+    where no server takes lines, or one of an earlier version does."""
     if engine.at is not None:
         raise UsageError(f"--at {engine.at}: a server says how things are now: leave --at out")
     door = engine.door
     if door is None:
         raise DeskError("no server of the vault takes lines: there is none that could be asked")
-    reply = door.answer({"as": engine.desk.caller, "do": "status"}, None).reply
+    reply = door.answer({"as": engine.desk.caller, "do": do, **members}, None).reply
     if "ok" in reply:
         return dict(reply["ok"])
     if reply["error"]["code"] == "MalformedBody":
-        raise DeskError("the server is of an earlier version, which doesn't say how things are")
+        raise DeskError(f"the server is of an earlier version, which doesn't answer `{do}`")
     raise refused(reply["error"])
+
+
+def state(engine: Engine) -> Mapping[str, Any]:
+    """What the server of the vault says of itself. The faults are those of `asked`."""
+    return asked(engine, "status")
 
 
 def status(engine: Engine, words: argparse.Namespace) -> None:

@@ -11,7 +11,7 @@ from collections.abc import Callable, Iterable, Iterator, Mapping, Sequence
 from pathlib import Path
 from typing import Any
 
-from vaultdesk import moments, reading, spreadsheet
+from vaultdesk import evidence, moments, parts, reading, spreadsheet
 from vaultdesk.engine import Engine
 from vaultdesk.errors import DeskError, Refused, UsageError
 from vaultdesk.history import number
@@ -33,10 +33,11 @@ PAGE = """<!DOCTYPE html>
 """
 
 
-def register(engine: Engine) -> list[Row]:
-    """The rows of the register of removals, as the engine prints it."""
+def register(engine: Engine, in_parts: bool = False) -> list[Row]:
+    """The rows of the register of removals, as the engine prints it; or as the server answers it, part by part."""
+    text = parts.register(engine) if in_parts else engine.printed("register")
     # Split at LF alone: keys may have other characters that end a line elsewhere.
-    return list(csv.DictReader(io.StringIO(engine.printed("register"), newline="")))
+    return list(csv.DictReader(io.StringIO(text, newline="")))
 
 
 def _span(words: argparse.Namespace) -> tuple[str | None, str | None]:
@@ -123,7 +124,7 @@ def _print_csv(rows: Iterable[Mapping[str, Any]], columns: Sequence[str]) -> Non
 
 def print_register(engine: Engine, words: argparse.Namespace) -> None:
     """Prints the register of removals, or writes it as a spreadsheet."""
-    rows = _within(register(engine), *_span(words))
+    rows = _within(register(engine, words.parts), *_span(words))
     if words.documents:
         rows = [it for it in rows if it["kind"] == "version"]
     if words.xlsx:
@@ -213,6 +214,7 @@ def add(commands: argparse._SubParsersAction[argparse.ArgumentParser], common: a
     it.add_argument("--since", metavar="DATE", help="only of removals from then on")
     it.add_argument("--before", metavar="DATE", help="only of earlier removals")
     it.add_argument("--documents", action="store_true", help="without delete markers")
+    it.add_argument("--parts", action="store_true", help=evidence.PARTS)
     it.add_argument("--xlsx", metavar="FILE", help="a spreadsheet in which every cell is a text")
     it.add_argument("--force", action="store_true", help="write over a file that is there")
 

@@ -1,5 +1,5 @@
--- The history at a place of a sound vault is found by its id: so a walk over all ids is one over all histories.
-use Rattle.std.proofs.Common.{◌≡◌, ℕ, zero, suc, ◌+◌, ◌≤◌, ◌<◌, List, [], ◌∷◌, ◌++◌, Bool, true, false, Option, Some, None, refl, sym, ap, subst, ◌∙◌, arith, drop, length}
+-- The history at a place of a sound vault is found by its id: so a walk over ids is one over histories.
+use Rattle.std.proofs.Common.{◌≡◌, ℕ, zero, suc, ◌+◌, ◌-◌, ◌≤◌, ◌<◌, List, [], ◌∷◌, ◌++◌, Bool, true, false, Option, Some, None, refl, sym, ap, subst, ◌∙◌, arith, drop, take, length, length-drop, length-take-le}
 use Rattle.std.specs.Prelude.{if◌then◌else◌, find, option_map, unwrap_or, ◌==◌, slice_get}
 use Rattle.std.proofs.lemmas.List.{drop_all}
 use Rattle.vault_core_model.specs.declared.records.History.{History}
@@ -11,7 +11,8 @@ use Rattle.vault_core_evidence.specs.declared.breach.Law.{Law}
 use Rattle.vault_core_evidence.specs.declared.breach.Law.TheVariants as law
 use Rattle.vault_core_evidence.specs.declared.seen_moves.Move.{Move}
 use Rattle.vault_core_evidence.specs.declared.seen_moves.SeenMoves.{SeenMoves}
-use Rattle.vault_core_evidence.specs.Moves.{seen_after, seen_of}
+use Rattle.vault_core_evidence.specs.Moves.{none_seen, seen_after, seen_of}
+use Rattle.vault_core_evidence.specs.Parts.{range}
 use Rattle.vault_core_evidence.specs.Breaches.{test, broken, breach, breach_or, first_breach_after, rule_tests}
 use Rattle.vault_core_evidence.specs.Walk.{Finds}
 use Rattle.vault_core_evidence.proofs.MoveTests.{IsSameBook, are_seen-same, after-same}
@@ -43,7 +44,26 @@ own_id n (suc i) (g ∷ gs) h ids is =
     let next : n + 1 + i ≡ n + suc i = omega arith in
     own_id (n + 1) i gs h ids.1 is ∙ next
 
--- ---- a walk over all ids
+-- ---- the entries of a range
+
+get-take : (n i : ℕ) (hs : List History) → i < n → slice_get (take n hs) i ≡ slice_get hs i
+get-take zero i hs low = absurd (omega (arith, low))
+get-take (suc n) i [] low = refl
+get-take (suc n) zero (h ∷ hs) low = refl
+get-take (suc n) (suc i) (h ∷ hs) low = get-take n i hs (omega (arith, low))
+
+pub get-drop : (a i : ℕ) (hs : List History) → slice_get (drop a hs) i ≡ slice_get hs (a + i)
+get-drop zero i hs = let e : i ≡ 0 + i = omega arith in ap (slice_get hs) e
+get-drop (suc a) i [] = refl
+get-drop (suc a) i (h ∷ hs) = let e : suc (a + i) ≡ suc a + i = omega arith in get-drop a i hs ∙ ap (slice_get (h ∷ hs)) e
+
+in_range : (v : Vault) (from most i : ℕ) → i < most → slice_get (range v from most) i ≡ slice_get v.histories (from + i)
+in_range v from most i low = get-take most i (drop from v.histories) low ∙ get-drop from i v.histories
+
+length_of : (v : Vault) (from most : ℕ) → most ≤ length v.histories - from → length (range v from most) ≡ most
+length_of v from most within = length-take-le most (drop from v.histories) (omega (arith, within, length-drop from v.histories))
+
+-- ---- a walk over ids
 
 breach-same : (v : Vault) (book other : ℕ → Option Move) (h : History) → IsSameBook book other → breach v book h ≡ breach v other h
 breach-same v book other h same =
@@ -56,9 +76,9 @@ first-same v book other (h ∷ hs) same =
     ∙ ap (λ (o : Option Breach). breach_or h.entry.id (breach v other h) o)
     (first-same v (seen_after book h.entry.bucket h.tenures) (seen_after other h.entry.bucket h.tenures) hs (after-same book other h.entry.bucket h.tenures same))
 
--- the first breach of the histories from a place on
-abbrev pub left_from : Vault → SeenMoves → ℕ → Option Breach
-left_from v seen i = first_breach_after v (seen_of seen) (drop i v.histories)
+-- the first breach of the histories of a range from a place on
+abbrev pub left_from : Vault → ℕ → ℕ → SeenMoves → ℕ → Option Breach
+left_from v from most seen i = first_breach_after v (seen_of seen) (drop i (range v from most))
 
 -- a history and those after it
 abbrev with_rest : Vault → (ℕ → Option Move) → Option History → List History → Option Breach
@@ -88,35 +108,57 @@ finds_its v seen after i id found o sound same is finds =
     let P : Option History → Type 0 = λ p. FindsOf v seen p found after in
     subst P (history_at v i id sound same ∙ is) finds
 
-pub left_stops : (v : Vault) (seen after : SeenMoves) (i id : ℕ) (found : Option Law) (l : Law) → Sound v → i < length v.histories → i + 1 ≡ id → FindsAt v seen id found after → found ≡ Some l → left_from v seen i ≡ Some (record { id = id; law = l })
-left_stops v seen after i id found l sound low same finds some = by (slice_get v.histories i) refl
+pub left_stops : (v : Vault) (from most : ℕ) (seen after : SeenMoves) (i id : ℕ) (found : Option Law) (l : Law) → Sound v → most ≤ length v.histories - from → i < most → from + (i + 1) ≡ id
+    → FindsAt v seen id found after → found ≡ Some l → left_from v from most seen i ≡ Some (record { id = id; law = l })
+left_stops v from most seen after i id found l sound within below same finds some = by (slice_get hs i) refl
   where
-    by : (o : Option History) → slice_get v.histories i ≡ o → left_from v seen i ≡ Some (record { id = id; law = l })
-    by None is = absurd (no_history v.histories i low is)
+    hs : List History
+    hs = range v from most
+
+    low : i < length hs
+    low = omega (arith, below, length_of v from most within)
+
+    by : (o : Option History) → slice_get hs i ≡ o → left_from v from most seen i ≡ Some (record { id = id; law = l })
+    by None is = absurd (no_history hs i low is)
     by (Some h) is =
-        let its = finds_its v seen after i id found (Some h) sound same is finds in
-        let own : h.entry.id ≡ id = omega (arith, own_id 1 i v.histories h sound.ids is, same) in
-        one_on v (seen_of seen) v.histories i low
-        ∙ (ap (λ (o : Option History). with_rest v (seen_of seen) o (drop (suc i) v.histories)) is
-        ∙ (ap (λ (o : Option Law). breach_or h.entry.id o (first_breach_after v (seen_after (seen_of seen) h.entry.bucket h.tenures) (drop (suc i) v.histories))) (sym its.0 ∙ some)
+        let there = sym (in_range v from most i below) ∙ is in
+        let its = finds_its v seen after (from + i) id found (Some h) sound (omega (arith, same)) there finds in
+        let own : h.entry.id ≡ id = omega (arith, own_id 1 (from + i) v.histories h sound.ids there, same) in
+        one_on v (seen_of seen) hs i low
+        ∙ (ap (λ (o : Option History). with_rest v (seen_of seen) o (drop (suc i) hs)) is
+        ∙ (ap (λ (o : Option Law). breach_or h.entry.id o (first_breach_after v (seen_after (seen_of seen) h.entry.bucket h.tenures) (drop (suc i) hs))) (sym its.0 ∙ some)
         ∙ ap (λ (n : ℕ). Some (record { id = n; law = l })) own))
 
-pub left_goes_on : (v : Vault) (seen after : SeenMoves) (i id : ℕ) (found : Option Law) → Sound v → i < length v.histories → i + 1 ≡ id → FindsAt v seen id found after → found ≡ None → left_from v seen i ≡ left_from v after (i + 1)
-left_goes_on v seen after i id found sound low same finds none = by (slice_get v.histories i) refl
+pub left_goes_on : (v : Vault) (from most : ℕ) (seen after : SeenMoves) (i id : ℕ) (found : Option Law) → Sound v → most ≤ length v.histories - from → i < most → from + (i + 1) ≡ id
+    → FindsAt v seen id found after → found ≡ None → left_from v from most seen i ≡ left_from v from most after (i + 1)
+left_goes_on v from most seen after i id found sound within below same finds none = by (slice_get hs i) refl
   where
-    by : (o : Option History) → slice_get v.histories i ≡ o → left_from v seen i ≡ left_from v after (i + 1)
-    by None is = absurd (no_history v.histories i low is)
-    by (Some h) is =
-        let its = finds_its v seen after i id found (Some h) sound same is finds in
-        let next : suc i ≡ i + 1 = omega arith in
-        one_on v (seen_of seen) v.histories i low
-        ∙ (ap (λ (o : Option History). with_rest v (seen_of seen) o (drop (suc i) v.histories)) is
-        ∙ (ap (λ (o : Option Law). breach_or h.entry.id o (first_breach_after v (seen_after (seen_of seen) h.entry.bucket h.tenures) (drop (suc i) v.histories))) (sym its.0 ∙ none)
-        ∙ (first-same v (seen_after (seen_of seen) h.entry.bucket h.tenures) (seen_of after) (drop (suc i) v.histories) (λ n. sym (its.1 none n))
-        ∙ ap (λ k. left_from v after k) next)))
+    hs : List History
+    hs = range v from most
 
-pub left_none : (v : Vault) (seen : SeenMoves) (i : ℕ) → length v.histories ≤ i → left_from v seen i ≡ None
-left_none v seen i le = ap (λ (hs : List History). first_breach_after v (seen_of seen) hs) (drop_all i v.histories le)
+    low : i < length hs
+    low = omega (arith, below, length_of v from most within)
+
+    by : (o : Option History) → slice_get hs i ≡ o → left_from v from most seen i ≡ left_from v from most after (i + 1)
+    by None is = absurd (no_history hs i low is)
+    by (Some h) is =
+        let there = sym (in_range v from most i below) ∙ is in
+        let its = finds_its v seen after (from + i) id found (Some h) sound (omega (arith, same)) there finds in
+        let next : suc i ≡ i + 1 = omega arith in
+        one_on v (seen_of seen) hs i low
+        ∙ (ap (λ (o : Option History). with_rest v (seen_of seen) o (drop (suc i) hs)) is
+        ∙ (ap (λ (o : Option Law). breach_or h.entry.id o (first_breach_after v (seen_after (seen_of seen) h.entry.bucket h.tenures) (drop (suc i) hs))) (sym its.0 ∙ none)
+        ∙ (first-same v (seen_after (seen_of seen) h.entry.bucket h.tenures) (seen_of after) (drop (suc i) hs) (λ n. sym (its.1 none n))
+        ∙ ap (λ k. left_from v from most after k) next)))
+
+pub left_none : (v : Vault) (from most : ℕ) (seen : SeenMoves) (i : ℕ) → most ≤ length v.histories - from → most ≤ i → left_from v from most seen i ≡ None
+left_none v from most seen i within le =
+    let high : length (range v from most) ≤ i = omega (arith, le, length_of v from most within) in
+    ap (λ (hs : List History). first_breach_after v (seen_of seen) hs) (drop_all i (range v from most) high)
+
+-- before the walk nothing was seen
+pub left_first : (v : Vault) (from most : ℕ) (seen : SeenMoves) → ((n : ℕ) → seen_of seen n ≡ None) → first_breach_after v none_seen (range v from most) ≡ left_from v from most seen 0
+left_first v from most seen none = first-same v none_seen (seen_of seen) (range v from most) (λ n. sym (none n))
 
 pub its_id : (b : Bool) (n id : ℕ) (o : Option ℕ) → o ≡ (if b then Some n else None) → o ≡ Some id → n ≡ id
 its_id true n id o new some = cc (sym new ∙ some)

@@ -77,3 +77,11 @@ clean v moves book (h ∷ hs) of lawful agree =
 
 pub lawful-first : (v : Vault) → Lawful v → MovesAgree v → first_breach v ≡ None
 lawful-first v lawful agree = clean v agree.0 none_seen v.histories (λ n m is. absurd (cc is)) lawful agree.1
+
+-- ---- the same of some of its entries
+
+pub list-lawful : (v : Vault) (hs : List History) → first_breach_after v none_seen hs ≡ None → AllByRecursion (IsLawful v) hs
+list-lawful v hs e = (passed v none_seen hs e).lawful
+
+pub lawful-list : (v : Vault) (moves : ℕ → Move) (hs : List History) → AllByRecursion (IsLawful v) hs → AreByMoves moves hs → first_breach_after v none_seen hs ≡ None
+lawful-list v moves hs lawful agree = clean v moves none_seen hs (λ n m is. absurd (cc is)) lawful agree

@@ -12,3 +12,5 @@ pub mod MovesRuns
 pub mod FirstBreach
 pub mod ByIds
 pub mod Samples
+pub mod PartLemmas
+pub mod JudgedParts

@@ -2,4 +2,5 @@ pub mod Events
 pub mod Lawful
 pub mod Moves
 pub mod Breaches
+pub mod Parts
 pub mod Walk

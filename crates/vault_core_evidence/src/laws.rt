@@ -1,5 +1,5 @@
 //! Laws of histories. Each is the contract of a public function that does nothing.
-ghost use Rattle.std.specs.Prelude.{◌≡◌, ◌≤◌, ◌≡◌, ℕ, List, Option, None, true};
+ghost use Rattle.std.specs.Prelude.{◌≡◌, ◌≤◌, ◌≡◌, ℕ, List, length, Option, Some, None, true};
 ghost use Rattle.vault_core_model.specs.declared.change.Change.{Change};
 ghost use Rattle.vault_core_model.specs.declared.command.Timed.{Timed};
 ghost use Rattle.vault_core_model.specs.declared.records.History.{History};
@@ -16,6 +16,7 @@ ghost use Rattle.vault_core_evidence.specs.Breaches.{breach, first_breach};
 ghost use Rattle.vault_core_evidence.specs.Events.{events_before};
 ghost use Rattle.vault_core_evidence.specs.Lawful.{IsLawful, Lawful};
 ghost use Rattle.vault_core_evidence.specs.Moves.{MovesAgree, are_as_seen};
+ghost use Rattle.vault_core_evidence.specs.Parts.{LawfulAfter, next_of, part_breach};
 
 /// Over any run from a sound vault, what happened before a moment that isn't past its last one stays what it
 /// was. So it does over each change that a vault allows, permitted or not.
@@ -54,4 +55,14 @@ pub fn breaches_are_decided()
     ensures moves { (v : Vault) → first_breach v ≡ None → MovesAgree v }
     ensures none { (v : Vault) → Lawful v → MovesAgree v → first_breach v ≡ None }
     ensures reached { (v : Vault) → Reached v → first_breach v ≡ None }
+{}
+
+/// Parts of a vault are judged, each after the id that the one before it names. Where none of them has a breach, every
+/// history is lawful; and where the vault has none, no part has one. That tenures of one number agree shows within a part
+/// alone, and not between two.
+pub fn parts_are_judged()
+    ensures whole { (v : Vault) → LawfulAfter 0 v → Lawful v }
+    ensures next { (v : Vault) (after next : ℕ) → next_of (length v.histories) after ≡ Some next → part_breach after v ≡ None → LawfulAfter next v → LawfulAfter after v }
+    ensures last { (v : Vault) (after : ℕ) → next_of (length v.histories) after ≡ None → part_breach after v ≡ None → LawfulAfter after v }
+    ensures clean { (v : Vault) (after : ℕ) → first_breach v ≡ None → part_breach after v ≡ None }
 {}

@@ -6,6 +6,7 @@ pub mod breach;
 mod history;
 pub mod laws;
 mod locks;
+pub mod parts;
 mod rights;
 pub mod seen_moves;
 pub mod walk;

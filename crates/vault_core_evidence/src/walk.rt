@@ -1,12 +1,14 @@
-//! The first entry that breaks a law: a walk over all ids.
-ghost use Rattle.std.specs.Prelude.{◌≡◌, IfOk, Some, length};
+//! The first entry that breaks a law, of a vault or of a part of it: a walk over ids.
+ghost use Rattle.std.specs.Prelude.{◌≡◌, ◌≤◌, ◌-◌, IfOk, Some, length};
 ghost use Rattle.vault_core_model.specs.Leaves.{ReadsAs};
 ghost use Rattle.vault_core_model.specs.Reads.{entry_of, settings_of, tenures_of};
 ghost use Rattle.vault_core_evidence.specs.Breaches.{first_breach};
+ghost use Rattle.vault_core_evidence.specs.Parts.{judged_part, range_breach};
 ghost use Rattle.vault_core_evidence.specs.Walk.{FindsAt, FindsMoves};
 
 use crate::breach::{Breach, Law};
 use crate::history::rule_breach;
+use crate::parts::{count_entries, most_of, next_of};
 use crate::seen_moves::SeenMoves;
 use std::alloc::{AllocError, Global};
 use vault_base::moment::Moment;
@@ -88,31 +90,27 @@ fn breach_of<K: Keeper>(
     Ok(move_breach(seen, &entry, tenures.as_slice())?)
 }
 
-/// How many entries there are, held or removed.
-fn count_entries<K: Keeper>(keeper: &mut K) -> Result<u32, Fault>
-    ensures value { K.is_honest keeper.new → IfOk result (λ n. n ≡ length (K.vault keeper.old).histories) }
-    ensures leaves { ReadsAs K.Kept keeper.old keeper.new result }
-{
-    let next = keeper.next_id()?;
-    Ok(u32::try_from(next.saturating_sub(1)).unwrap_or(u32::MAX))
-}
-
-/// The first of n entries that breaks a law. `now` is the last moment.
+/// The first of the `most` entries after an id that breaks a law, beside the moves that these entries show. `now` is the
+/// last moment.
 fn find_breach<K: Keeper>(
     alloc: Global,
     keeper: &mut K,
     now: Moment,
-    entries: u32,
+    after: u32,
+    most: u32,
 ) -> Result<Option<Breach>, Fault>
     requires now { K.is_honest keeper.old → now ≡ (K.vault keeper.old).last }
-    requires entries { K.is_honest keeper.old → entries ≡ length (K.vault keeper.old).histories }
-    ensures value { K.is_honest keeper.new → IfOk result (λ found. found ≡ first_breach (K.vault keeper.old)) }
+    requires range { K.is_honest keeper.old → most ≤ length (K.vault keeper.old).histories - after }
+    ensures value { K.is_honest keeper.new → IfOk result (λ found. found ≡ range_breach (K.vault keeper.old) after most) }
     ensures leaves { ReadsAs K.Kept keeper.old keeper.new result }
 {
     let mut seen = SeenMoves::new(alloc);
-    for place in 0..entries {
-        let Some(id) = VersionId::new(place + 1) else {
-            return Ok(None);
+    for place in 0..most {
+        let Some(number) = after.checked_add(place + 1) else {
+            return Err(Fault::Memory);
+        };
+        let Some(id) = VersionId::new(number) else {
+            return Err(Fault::Memory);
         };
         if let Some(law) = breach_of(alloc, keeper, &mut seen, now, id)? {
             return Ok(Some(Breach { id, law }));
@@ -132,5 +130,33 @@ pub fn lawful<K: Keeper>(alloc: Global, keeper: &mut K) -> Result<Option<Breach>
 {
     let now = keeper.last()?;
     let entries = count_entries(keeper)?;
-    find_breach(alloc, keeper, now, entries)
+    find_breach(alloc, keeper, now, 0, entries)
+}
+
+/// What `lawful` says of a part of the entries, and where the next part begins.
+#[derive(Clone, Copy)]
+pub struct JudgedPart {
+    /// The first entry of the part that breaks a law, and which.
+    pub breach: Option<Breach>,
+    /// The id after which the next part begins; none after the last entry.
+    pub next: Option<u32>,
+}
+
+/// Judges the entries after an id, 1,000 of them at most, as `lawful` does, beside the moves that these entries show. The
+/// part after 0 is the first.
+pub fn lawful_part<K: Keeper>(
+    alloc: Global,
+    keeper: &mut K,
+    after: u32,
+) -> Result<JudgedPart, Fault>
+    ensures value { K.is_honest keeper.new → IfOk result (λ found. found ≡ judged_part after (K.vault keeper.old)) }
+    ensures leaves { ReadsAs K.Kept keeper.old keeper.new result }
+{
+    let now = keeper.last()?;
+    let entries = count_entries(keeper)?;
+    let breach = find_breach(alloc, keeper, now, after, most_of(entries, after))?;
+    Ok(JudgedPart {
+        breach,
+        next: next_of(entries, after),
+    })
 }

@@ -1,5 +1,6 @@
 mod Adding
 mod Parts
+mod RegisterParts
 mod Staying
 mod Walking
 mod Written

@@ -1,24 +1,20 @@
--- Parts of the entries of a vault, one after another.
-use Rattle.std.proofs.Common.{◌≡◌, ℕ, zero, suc, ◌+◌, ◌-◌, ◌<◌, ◌≤◌, List, [], ◌∷◌, ◌++◌, length, take, drop, Bool, true, false, refl, sym, ap, ◌∙◌, take-append-drop, take_all, append_assoc, arith}
-use Rattle.std.specs.Prelude.{Option, Some, None, if◌then◌else◌, nat_lt, slice_get}
-use Rattle.std.proofs.lemmas.Bool.{ltb-true, ltb-false}
-use Rattle.std.proofs.lemmas.List.{drop-drop, length-drop}
+-- Parts of the text of events, one after another.
+use Rattle.std.proofs.Common.{◌≡◌, ℕ, suc, ◌+◌, ◌-◌, ◌<◌, List, ◌++◌, length, take, drop, refl, sym, ap, ◌∙◌, append_assoc, length-drop, arith}
+use Rattle.std.specs.Prelude.{Option, Some, None}
 use Rattle.vault_core_model.specs.declared.records.History.{History}
 use Rattle.vault_core_model.specs.Vault.{Vault, history_of}
 use Rattle.vault_core_model.specs.Sound.{Sound}
 use Rattle.std.proofs.lemmas.List.Concat.{flat_map-append}
+use Rattle.vault_core_evidence.proofs.ByIds.{get-drop}
+use Rattle.vault_core_evidence.proofs.PartLemmas.{part-and-rest, part-is-rest}
 use Rattle.vault_core_evidence.specs.Events.{events_asked_of}
+use Rattle.vault_core_evidence.specs.Parts.{next_of, part}
 use Rattle.vault_files_events.specs.EventsText.{asked_found, asked_in, event_rows}
-use Rattle.vault_files_events.specs.Page.{most_of, next_of, part, rest_text}
+use Rattle.vault_files_events.specs.Page.{rest_text}
+use Rattle.vault_files_events.specs.Past.{asked_of_past, past_of}
+use Rattle.vault_files_events.specs.declared.past.Past.{Past}
 use Rattle.vault_files_events.proofs.Adding.{rows_append}
 use Rattle.vault_files_events.proofs.Walking.{history_at, one_more}
-
--- ---- lists
-
-get-drop : (a i : ℕ) (hs : List History) → slice_get (drop a hs) i ≡ slice_get hs (a + i)
-get-drop zero i hs = let e : i ≡ 0 + i = omega arith in ap (slice_get hs) e
-get-drop (suc a) i [] = refl
-get-drop (suc a) i (h ∷ hs) = let e : suc (a + i) ≡ suc a + i = omega arith in get-drop a i hs ∙ ap (slice_get (h ∷ hs)) e
 
 -- ---- the records of one entry more
 
@@ -45,46 +41,22 @@ rows_more before v after i id start so_far now sound low same first next =
     ∙ (append_assoc start (event_rows front) (event_rows back)
     ∙ ap (λ l. start ++ l) (sym whole)))
 
+-- what is asked for of what was read
+past_asked : (asked : Option ℕ) (o : Option History) → asked_of_past asked (past_of o) ≡ asked_found asked o
+past_asked asked None = refl
+past_asked None (Some h) = refl
+past_asked (Some m) (Some h) = refl
+
+pub rows_of_past : (asked : Option ℕ) (o : Option History) (past : Option Past) (so_far now : List ℕ) → past ≡ past_of o → now ≡ so_far ++ event_rows (asked_of_past asked past) → now ≡ so_far ++ event_rows (asked_found asked o)
+rows_of_past asked o past so_far now is added = added ∙ ap (λ es. so_far ++ event_rows es) (ap (asked_of_past asked) is ∙ past_asked asked o)
+
 -- ---- the parts are the whole
-
-more-cases : (short : Bool) (n : ℕ) → nat_lt 1000 n ≡ short → 1000 < n → (if short then 1000 else n) ≡ 1000
-more-cases true n e more = refl
-more-cases false n e more = absurd (omega (arith, more, ltb-false 1000 n e))
-
--- where entries are left, a part has 1,000
-full-part : (hs : List History) (after : ℕ) → after + 1000 < length hs → most_of (length hs) after ≡ 1000
-full-part hs after more = more-cases (nat_lt 1000 (length hs - after)) (length hs - after) refl (omega (arith, more))
-
-last-cases : (short : Bool) (hs rest : List History) (n : ℕ) → nat_lt 1000 n ≡ short → n ≤ 1000 → length rest ≡ n → take (if short then 1000 else n) rest ≡ rest
-last-cases true hs rest n e few long = absurd (omega (arith, few, ltb-true 1000 n e))
-last-cases false hs rest n e few long = take_all n rest (omega (arith, long))
-
--- where none is left, it has all that there are
-last-part : (hs : List History) (after : ℕ) → length hs ≤ after + 1000 → take (most_of (length hs) after) (drop after hs) ≡ drop after hs
-last-part hs after few =
-    last-cases (nat_lt 1000 (length hs - after)) hs (drop after hs) (length hs - after) refl (omega (arith, few)) (length-drop after hs)
-
-next-cases : (more : Bool) (entries after next : ℕ) → nat_lt (after + 1000) entries ≡ more → (if more then Some (after + 1000) else None) ≡ Some next → (after + 1000 < entries) × (next ≡ after + 1000)
-next-cases true entries after next e is = (ltb-true (after + 1000) entries e, cc)
-next-cases false entries after next e is = absurd cc
-
-none-cases : (more : Bool) (entries after : ℕ) → nat_lt (after + 1000) entries ≡ more → (let o : Option ℕ = if more then Some (after + 1000) else None in o) ≡ None → entries ≤ after + 1000
-none-cases true entries after e is = absurd cc
-none-cases false entries after e is = ltb-false (after + 1000) entries e
 
 pub next-rest : (v : Vault) (m after next : ℕ) → next_of (length v.histories) after ≡ Some next → rest_text m after v ≡ event_rows (asked_in (Some m) (part after v)) ++ rest_text m next v
 next-rest v m after next is =
-    let hs = v.histories in
-    let both = next-cases (nat_lt (after + 1000) (length hs)) (length hs) after next refl is in
-    let full : part after v ≡ take 1000 (drop after hs) = ap (λ n. take n (drop after hs)) (full-part hs after both.0) in
-    let beyond : drop 1000 (drop after hs) ≡ drop next hs = drop-drop 1000 after hs ∙ ap (λ n. drop n hs) (sym both.1) in
-    ap (λ (l : List History). event_rows (asked_in (Some m) l)) (sym (take-append-drop 1000 (drop after hs)))
-    ∙ (ap event_rows (flat_map-append (events_asked_of (Some m)) (take 1000 (drop after hs)) (drop 1000 (drop after hs)))
-    ∙ (rows_append (asked_in (Some m) (take 1000 (drop after hs))) (asked_in (Some m) (drop 1000 (drop after hs)))
-    ∙ (ap (λ (l : List History). event_rows (asked_in (Some m) l) ++ event_rows (asked_in (Some m) (drop 1000 (drop after hs)))) (sym full)
-    ∙ ap (λ (l : List History). event_rows (asked_in (Some m) (part after v)) ++ event_rows (asked_in (Some m) l)) beyond)))
+    ap (λ (l : List History). event_rows (asked_in (Some m) l)) (part-and-rest v after next is)
+    ∙ (ap event_rows (flat_map-append (events_asked_of (Some m)) (part after v) (drop next v.histories))
+    ∙ rows_append (asked_in (Some m) (part after v)) (asked_in (Some m) (drop next v.histories)))
 
 pub last-rest : (v : Vault) (m after : ℕ) → next_of (length v.histories) after ≡ None → rest_text m after v ≡ event_rows (asked_in (Some m) (part after v))
-last-rest v m after is =
-    let few = none-cases (nat_lt (after + 1000) (length v.histories)) (length v.histories) after refl is in
-    ap (λ (l : List History). event_rows (asked_in (Some m) l)) (sym (last-part v.histories after few))
+last-rest v m after is = ap (λ (l : List History). event_rows (asked_in (Some m) l)) (part-is-rest v after is)

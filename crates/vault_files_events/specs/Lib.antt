@@ -4,6 +4,7 @@ pub mod Asked
 pub mod Adds
 pub mod Past
 pub mod Page
+pub mod RegisterPage
 pub mod Taking
 pub mod Takers
 pub mod Faults

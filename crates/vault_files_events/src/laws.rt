@@ -1,13 +1,18 @@
-//! The laws of seals, and of the parts of a text.
-ghost use Rattle.std.specs.Prelude.{◌≡◌, ◌≤◌, ◌++◌, ℕ, List, length, Some, None};
+//! The laws of seals, and of the parts of texts.
+ghost use Rattle.std.specs.Prelude.{◌≡◌, ◌≤◌, ◌++◌, ℕ, List, length, IsSome, Some, None};
 ghost use Rattle.vault_core_evidence.specs.Events.{events_before};
+ghost use Rattle.vault_core_evidence.specs.Parts.{next_of, part};
 ghost use Rattle.vault_core_model.specs.declared.command.Timed.{Timed};
+ghost use Rattle.vault_core_model.specs.declared.records.Entry.{Entry};
 ghost use Rattle.vault_core_model.specs.declared.reply.Reply.{Reply};
+ghost use Rattle.vault_core_model.specs.Reads.{entry_of, removed_entries};
 ghost use Rattle.vault_core_model.specs.Sound.{Sound};
 ghost use Rattle.vault_core_model.specs.Step.{IsRun};
 ghost use Rattle.vault_core_model.specs.Vault.{Vault};
 ghost use Rattle.vault_files_events.specs.EventsText.{asked_in, event_rows, events_header, events_text};
-ghost use Rattle.vault_files_events.specs.Page.{next_of, part, rest_text};
+ghost use Rattle.vault_files_events.specs.Page.{rest_text};
+ghost use Rattle.vault_files_events.specs.RegisterPage as removals;
+ghost use Rattle.vault_files_texts.specs.Register.{header, register};
 ghost use Rattle.vault_files_events.specs.Seal.{seal_of};
 
 /// The parts of the text of what was before a moment, each after the id that the one before it names, make that text.
@@ -20,6 +25,20 @@ pub fn parts_make_the_text()
     ensures last { (v : Vault) (m after : ℕ) → next_of (length v.histories) after ≡ None → rest_text m after v ≡ event_rows (asked_in (Some m) (part after v)) }
     ensures stays { (v later : Vault) (commands : List Timed) (replies : List Reply) (m after : ℕ) →
         Sound v → m ≤ v.last → IsRun v commands replies later → rest_text m after later ≡ rest_text m after v }
+{}
+
+/// The parts of the register, each after the id that the one before it names, make the register. They do so too where the
+/// vault changes between any two of them, as long as the removed entries stay the same. Over any run a removed entry stays
+/// as it is, and so does its record.
+pub fn parts_make_the_register()
+    ensures whole { (v : Vault) → register (removed_entries v) ≡ header ++ removals.rest_text 0 v }
+    ensures next { (v : Vault) (after next : ℕ) → next_of (length v.histories) after ≡ Some next →
+        removals.rest_text after v ≡ removals.rows_in (part after v) ++ removals.rest_text next v }
+    ensures last { (v : Vault) (after : ℕ) → next_of (length v.histories) after ≡ None → removals.rest_text after v ≡ removals.rows_in (part after v) }
+    ensures stays { (v later : Vault) (commands : List Timed) (replies : List Reply) (after : ℕ) →
+        Sound v → IsRun v commands replies later → removed_entries later ≡ removed_entries v → removals.rest_text after later ≡ removals.rest_text after v }
+    ensures kept { (v later : Vault) (commands : List Timed) (replies : List Reply) (id : ℕ) (e : Entry) →
+        Sound v → IsRun v commands replies later → entry_of v id ≡ Some e → IsSome e.removal → entry_of later id ≡ Some e }
 {}
 
 /// Whatever is asked of a vault later, the seal of a moment that isn't past its last one stays what it is.

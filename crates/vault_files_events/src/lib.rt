@@ -8,6 +8,7 @@ pub mod laws;
 pub mod page;
 mod past;
 mod record;
+pub mod register_page;
 mod rows;
 mod seal_lines;
 mod sealing;

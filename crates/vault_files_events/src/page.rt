@@ -4,12 +4,11 @@ ghost use Rattle.vault_base.specs.declared.refusal.Refusal.{Refusal as AnyRefusa
 ghost use Rattle.vault_base.specs.declared.refusal.Refusal.TheVariants.{InvalidArgument};
 ghost use Rattle.vault_core_model.specs.Halts.{is_device};
 ghost use Rattle.vault_core_model.specs.Leaves.{LeavesSame, ReadsAs};
-ghost use Rattle.vault_core_model.specs.Vault.{history_of};
-ghost use Rattle.vault_files_events.specs.EventsText.{asked_found, asked_in, event_rows};
+ghost use Rattle.vault_files_events.specs.EventsText.{asked_in, event_rows};
 ghost use Rattle.vault_files_events.specs.Page as spec;
-ghost use Rattle.vault_files_events.specs.Past.{asked_past};
+ghost use Rattle.vault_files_events.specs.Past.{asked_of_past};
 
-use crate::past::{Past, count_entries, read_past};
+use crate::past::{Past, read_past};
 use crate::rows::rows_of;
 use crate::walk::HEADER;
 use std::alloc::{AllocError, Global};
@@ -17,21 +16,19 @@ use vault_base::content::Content;
 use vault_base::moment::Moment;
 use vault_base::name::VersionId;
 use vault_base::refusal::Refusal;
+use vault_core_evidence::parts::{count_entries, most_of, next_of};
 use vault_core_model::halt::{Fault, Halt};
 use vault_core_model::keeper::Keeper;
 
-/// A part of the text of events, and where the next one begins.
+/// A part of a text, which has the records of some entries, and where the next one begins.
 #[derive(Drop)]
-pub struct EventsPage {
+pub struct TextPage {
     pub text: Content,
     /// The id after which the next part begins; none after the last entry.
     pub next: Option<u32>,
 }
 
-/// The records of how many entries one part has at most.
-pub const MOST_ENTRIES: u32 = 1_000;
-
-/// The header comes with the first part.
+/// The header of events, which comes with the first part.
 fn header(alloc: Global, after: u32) -> Result<Vec<u8>, AllocError>
     ensures { IfOk result (λ text. text.items ≡ spec.header_if_first after) }
 {
@@ -42,15 +39,18 @@ fn header(alloc: Global, after: u32) -> Result<Vec<u8>, AllocError>
     }
 }
 
-/// Adds the records of one entry, and lets go of it.
-fn push_past(
+/// Adds the records of what was found of an entry, and lets go of it.
+fn push_found(
     alloc: Global,
     text: &mut Vec<u8>,
     before: &Option<Moment>,
-    past: Past,
+    found: Option<Past>,
 ) -> Result<(), AllocError>
-    ensures { OnOk result (text.new.items ≡ text.old.items ++ event_rows (asked_past before.now past)) }
+    ensures { OnOk result (text.new.items ≡ text.old.items ++ event_rows (asked_of_past before.now found)) }
 {
+    let Some(past) = found else {
+        return Ok(());
+    };
     let Past {
         entry,
         settings,
@@ -64,24 +64,6 @@ fn push_past(
         tenures.as_slice(),
     )?;
     text.extend_from_slice(rows.text.as_slice())?;
-    Ok(())
-}
-
-/// Adds the records of the entry of an id.
-fn push_found<K: Keeper>(
-    alloc: Global,
-    keeper: &mut K,
-    text: &mut Vec<u8>,
-    before: &Option<Moment>,
-    id: VersionId,
-) -> Result<(), Fault>
-    ensures ok { K.is_honest keeper.new → OnOk result (text.new.items ≡ text.old.items ++ event_rows (asked_found before.now (history_of (K.vault keeper.old) id))) }
-    ensures leaves { ReadsAs K.Kept keeper.old keeper.new result }
-{
-    let Some(past) = read_past(keeper, id)? else {
-        return Ok(());
-    };
-    push_past(alloc, text, before, past)?;
     Ok(())
 }
 
@@ -105,29 +87,10 @@ fn push_range<K: Keeper>(
         let Some(id) = VersionId::new(number) else {
             return Err(Fault::Memory);
         };
-        push_found(alloc, keeper, text, before, id)?;
+        let found = read_past(keeper, id)?;
+        push_found(alloc, text, before, found)?;
     }
     Ok(())
-}
-
-/// How many entries the part after an id has, of a vault that has this many.
-fn most_of(entries: u32, after: u32) -> u32
-    ensures { result ≡ spec.most_of entries after }
-{
-    let left = entries.saturating_sub(after);
-    if left > MOST_ENTRIES {
-        MOST_ENTRIES
-    } else {
-        left
-    }
-}
-
-/// The id after which the next part begins.
-fn next_of(entries: u32, after: u32) -> Option<u32>
-    ensures { result ≡ spec.next_of entries after }
-{
-    let end = after.checked_add(MOST_ENTRIES)?;
-    (end < entries).then_some(end)
 }
 
 /// A part of the text of what happened before a moment: the records of the entries after an id, 1,000 of them at most,
@@ -143,7 +106,7 @@ pub fn events_page<K: Keeper>(
     keeper: &mut K,
     after: u32,
     before: Moment,
-) -> Result<EventsPage, Halt>
+) -> Result<TextPage, Halt>
     ensures page { K.is_honest keeper.new → spec.PagesAs result before after (K.vault keeper.old) }
     ensures leaves { LeavesSame K.Kept keeper.old keeper.new (is_device result) }
     // Whatever the device does, nothing else is refused.
@@ -157,7 +120,7 @@ pub fn events_page<K: Keeper>(
     let mut text = header(alloc, after)?;
     let most = most_of(entries, after);
     push_range(alloc, keeper, &mut text, &Some(before), after, most)?;
-    Ok(EventsPage {
+    Ok(TextPage {
         text: Content::new(text),
         next: next_of(entries, after),
     })

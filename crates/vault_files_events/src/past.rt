@@ -1,5 +1,5 @@
 //! What a vault's keeper reads of one entry.
-ghost use Rattle.std.specs.Prelude.{◌≡◌, IfOk, length};
+ghost use Rattle.std.specs.Prelude.{◌≡◌, IfOk};
 ghost use Rattle.vault_core_model.specs.Leaves.{ReadsAs};
 ghost use Rattle.vault_core_model.specs.Vault.{history_of};
 ghost use Rattle.vault_files_events.specs.Past.{past_of};
@@ -15,18 +15,6 @@ pub(crate) struct Past {
     pub(crate) entry: Entry,
     pub(crate) settings: Settings,
     pub(crate) tenures: Tenures,
-}
-
-/// How many entries a vault has.
-pub(crate) fn count_entries<K: Keeper>(keeper: &mut K) -> Result<u32, Fault>
-    ensures value { K.is_honest keeper.new → IfOk result (λ n. n ≡ length (K.vault keeper.old).histories) }
-    ensures leaves { ReadsAs K.Kept keeper.old keeper.new result }
-{
-    let next = keeper.next_id()?;
-    match u32::try_from(next.saturating_sub(1)) {
-        Ok(entries) => Ok(entries),
-        Err(_) => Err(Fault::Memory),
-    }
 }
 
 /// Reads what the vault has of the entry of an id.

@@ -1,11 +1,11 @@
 //! The seal over what happened in a vault before a moment.
-ghost use Rattle.std.specs.Prelude.{◌≡◌, ◌≤◌, ◌<◌, IfOk, Err, Some, None, unwrap_or, MatchOption};
+ghost use Rattle.std.specs.Prelude.{◌≡◌, ◌≤◌, ◌<◌, Err, None, unwrap_or, MatchOption};
 ghost use Rattle.vault_base.specs.declared.refusal.Refusal.{Refusal as AnyRefusal};
 ghost use Rattle.vault_base.specs.declared.refusal.Refusal.TheVariants.{InvalidArgument};
-ghost use Rattle.vault_core_model.specs.Leaves.{LeavesSame, ReadsAs};
+ghost use Rattle.vault_core_model.specs.Leaves.{LeavesSame};
 ghost use Rattle.vault_core_model.specs.Halts.{is_device};
 ghost use Rattle.vault_files_events.specs.Faults.{keeper_fault_of};
-ghost use Rattle.vault_files_events.specs.Seal.{SealsAs, seal_of};
+ghost use Rattle.vault_files_events.specs.Seal.{SealsAs};
 
 use crate::seal_lines::Seal;
 use crate::takers::Digesting;
@@ -24,23 +24,6 @@ fn keeper_fault(fault: ExportFault) -> Fault
     match fault {
         ExportFault::Write | ExportFault::Memory => Fault::Memory,
         ExportFault::Device => Fault::Device,
-    }
-}
-
-/// The seal of what was before a moment.
-fn seal_before<K: Keeper>(alloc: Global, keeper: &mut K, before: Moment) -> Result<Seal, Fault>
-    ensures value { K.is_honest keeper.new → IfOk result (λ s. s ≡ seal_of before (K.vault keeper.old)) }
-    ensures leaves { ReadsAs K.Kept keeper.old keeper.new result }
-{
-    let mut digesting = Digesting::new();
-    match take_events(alloc, keeper, &mut digesting, &Some(before)) {
-        Ok(counted) => Ok(Seal {
-            before,
-            entries: counted.entries,
-            events: counted.events,
-            digest: digesting.digest(),
-        }),
-        Err(fault) => Err(keeper_fault(fault)),
     }
 }
 
@@ -71,5 +54,14 @@ pub fn seal<K: Keeper>(alloc: Global, keeper: &mut K, before: Option<Moment>) ->
     let Some(before) = reached(before, last) else {
         return Err(Halt::Refused(Refusal::InvalidArgument));
     };
-    Ok(seal_before(alloc, keeper, before)?)
+    let mut digesting = Digesting::new();
+    match take_events(alloc, keeper, &mut digesting, &Some(before)) {
+        Ok(counted) => Ok(Seal {
+            before,
+            entries: counted.entries,
+            events: counted.events,
+            digest: digesting.digest(),
+        }),
+        Err(fault) => Err(Halt::Fault(keeper_fault(fault))),
+    }
 }

@@ -10,12 +10,13 @@ ghost use Rattle.vault_files_events.specs.Taking.{TookSome};
 ghost use Rattle.vault_files_texts.specs.Faults.{is_device_met};
 
 use crate::counted::Counted;
-use crate::past::{Past, count_entries, read_past};
+use crate::past::{Past, read_past};
 use crate::rows::rows_of;
 use crate::taker::Taker;
 use std::alloc::Global;
 use vault_base::moment::Moment;
 use vault_base::name::VersionId;
+use vault_core_evidence::parts::count_entries;
 use vault_core_model::keeper::Keeper;
 use vault_files_texts::ExportFault;
 

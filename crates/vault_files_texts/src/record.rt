@@ -109,9 +109,9 @@ fn removed_row(alloc: Global, entry: &Entry, removal: &Removal) -> Result<Vec<u8
     record_text(alloc, &cells)
 }
 
-/// The record of an entry; of one that is held no byte. The error is `Memory`.
+/// The record that the register has of an entry; of one that is held no byte. The error is `Memory`.
 #[tactic(auto, unfolding(crate::specs::Register::row))]
-pub(crate) fn row(alloc: Global, entry: &Entry) -> Result<Vec<u8>, ExportFault>
+pub fn row(alloc: Global, entry: &Entry) -> Result<Vec<u8>, ExportFault>
     ensures { IfOk result (λ text. text.items ≡ spec.row entry.now) }
 {
     match entry.removal.as_ref() {

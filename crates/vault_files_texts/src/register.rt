@@ -21,8 +21,10 @@ use std::io::Write;
 use vault_core_model::halt::Fault;
 use vault_core_model::keeper::Keeper;
 
+pub use crate::record::row;
+
 /// The names of the columns.
-const HEADER: &[u8] =
+pub const HEADER: &[u8] =
     b"version,bucket,key,kind,size,sha256,admitted,admitted_by,removed,cause,cause_by,days\n";
 
 /// Has each removed entry written: whether all were.

@@ -1,3 +1,4 @@
 mod BucketsLemmas
+mod LawfulLemmas
 mod PageLemmas
 mod StatusLemmas

@@ -32,12 +32,18 @@ buckets_members = (codes "as", Text) ∷ (codes "do", Text) ∷ (codes "after", 
 abbrev pub events_members : List (List ℕ × Kind)
 events_members = (codes "as", Text) ∷ (codes "do", Text) ∷ (codes "before", Text) ∷ (codes "after", OptionalNumber) ∷ []
 
+-- the members of the lines that ask for a part of the register, or for a judgement of a part: these, and the id after which the part begins
+abbrev pub part_members : List (List ℕ × Kind)
+part_members = (codes "as", Text) ∷ (codes "do", Text) ∷ (codes "after", OptionalNumber) ∷ []
+
 -- the shape of the line of that `do`, if the value is an object of just its members
 abbrev pub shape_named : List ℕ → Data → Result Shape Refusal
 shape_named name d =
     if bytes_eq name (codes "status") && has_members status_members d then Ok shape.Status
     else if bytes_eq name (codes "buckets") && has_members buckets_members d then Ok shape.Buckets
     else if bytes_eq name (codes "events") && has_members events_members d then Ok shape.Events
+    else if bytes_eq name (codes "register") && has_members part_members d then Ok shape.Register
+    else if bytes_eq name (codes "lawful") && has_members part_members d then Ok shape.Lawful
     else Err MalformedBody
 
 unfoldable pub shape_of : Data → Result Shape Refusal
@@ -76,10 +82,22 @@ events_of d = do
   after ← id_after_of d
   Ok (about.Events (record { after = after; before = before }))
 
+unfoldable pub register_of : Data → Result About Refusal
+register_of d = do
+  after ← id_after_of d
+  Ok (about.Register after)
+
+unfoldable pub lawful_of : Data → Result About Refusal
+lawful_of d = do
+  after ← id_after_of d
+  Ok (about.Lawful after)
+
 abbrev pub about_of : Shape → Data → Result About Refusal
 about_of shape.Status d = Ok about.Status
 about_of shape.Buckets d = buckets_of d
 about_of shape.Events d = events_of d
+about_of shape.Register d = register_of d
+about_of shape.Lawful d = lawful_of d
 
 -- the shape, then the clock, the caller who asks, and what else the line says
 unfoldable pub asked_of : Option ℕ → Data → Result Inquiry Refusal

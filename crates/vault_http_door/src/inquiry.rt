@@ -36,6 +36,10 @@ pub enum About {
     Buckets(After),
     /// What happened to some of its entries.
     Events(Part),
+    /// Which of the entries after that id were removed.
+    Register(u32),
+    /// Whether the entries after that id keep the rules.
+    Lawful(u32),
 }
 
 /// A text after which names come.
@@ -86,6 +90,8 @@ pub enum Shape {
     Status,
     Buckets,
     Events,
+    Register,
+    Lawful,
 }
 
 /// The members of the line that asks how things are: the caller who asks, and `do`.
@@ -106,6 +112,14 @@ const EVENTS: [(&str, Kind); 4] = [
     ("after", Kind::OptionalNumber),
 ];
 
+/// The members of a line that asks for a part of the register, or for a judgement of a part: the caller, `do`, and the id
+/// after which the part begins.
+const PART: [(&str, Kind); 3] = [
+    ("as", Kind::Text),
+    ("do", Kind::Text),
+    ("after", Kind::OptionalNumber),
+];
+
 /// The shape of the line of that `do`, where the value has it.
 fn shape_named(name: &str, value: &Value) -> Result<Shape, LineFault>
     ensures { Gives (λ x. x) result (spec.shape_named name.now (view value.now)) }
@@ -116,6 +130,10 @@ fn shape_named(name: &str, value: &Value) -> Result<Shape, LineFault>
         Ok(Shape::Buckets)
     } else if name == "events" && has_members(value, &EVENTS) {
         Ok(Shape::Events)
+    } else if name == "register" && has_members(value, &PART) {
+        Ok(Shape::Register)
+    } else if name == "lawful" && has_members(value, &PART) {
+        Ok(Shape::Lawful)
     } else {
         Err(LineFault::Refused(Refusal::MalformedBody))
     }
@@ -182,6 +200,22 @@ fn events(value: &Value) -> Result<About, LineFault>
     Ok(About::Events(Part { after, before }))
 }
 
+#[tactic(auto, unfolding(crate::specs::Inquiry::register_of))]
+fn register(value: &Value) -> Result<About, LineFault>
+    ensures { Gives (λ x. x) result (spec.register_of (view value.now)) }
+{
+    let after = id_after(value)?;
+    Ok(About::Register(after))
+}
+
+#[tactic(auto, unfolding(crate::specs::Inquiry::lawful_of))]
+fn lawful(value: &Value) -> Result<About, LineFault>
+    ensures { Gives (λ x. x) result (spec.lawful_of (view value.now)) }
+{
+    let after = id_after(value)?;
+    Ok(About::Lawful(after))
+}
+
 /// What a line of that shape asks about.
 fn asked_about(alloc: Global, shape: Shape, value: &Value) -> Result<About, LineFault>
     ensures { Gives (λ x. x) result (spec.about_of shape (view value.now)) }
@@ -190,6 +224,8 @@ fn asked_about(alloc: Global, shape: Shape, value: &Value) -> Result<About, Line
         Shape::Status => Ok(About::Status),
         Shape::Buckets => buckets(alloc, value),
         Shape::Events => events(value),
+        Shape::Register => register(value),
+        Shape::Lawful => lawful(value),
     }
 }
 

@@ -4,5 +4,6 @@
 
 pub mod buckets_line;
 pub mod inquiry;
+pub mod lawful_line;
 pub mod page_line;
 pub mod status_line;

@@ -8,7 +8,7 @@ use serde_json::{Value, json};
 use std::alloc::{AllocError, Global};
 
 /// The id after which the next part begins; null after the last one.
-fn next_value(alloc: Global, next: Option<u32>) -> Result<Value, AllocError>
+pub(crate) fn next_value(alloc: Global, next: Option<u32>) -> Result<Value, AllocError>
     ensures { IfOk result (λ value. view value ≡ spec.next_value next) }
 {
     let Some(next) = next else {

@@ -14,7 +14,7 @@ use Rattle.vault_http.specs.Line.{Line}
 use Rattle.vault_http.specs.Line.TheVariants as line
 use Rattle.vault_http.specs.Stamped.{closer_of}
 use Rattle.vault_files_events.specs.Page.{page_of}
-use Rattle.vault_files_events.specs.declared.page.EventsPage.{EventsPage}
+use Rattle.vault_files_events.specs.declared.page.TextPage.{TextPage}
 use Rattle.vault_http_door.specs.Inquiry.{inquiry_of}
 use Rattle.vault_http_door.specs.declared.inquiry.About.TheVariants as about
 use Rattle.vault_http_door.specs.declared.inquiry.Inquiry.{Inquiry}
@@ -79,7 +79,7 @@ closes false line moment bytes asked e what = absurd cc
 
 -- ---- what is answered where the server ends
 
-not-events : (early : Bool) (page : EventsPage) → (let r : Result Found Refusal = if early then Err InvalidArgument else Ok (found.Events page) in r) ≡ Ok found.End → ⊥
+not-events : (early : Bool) (page : TextPage) → (let r : Result Found Refusal = if early then Err InvalidArgument else Ok (found.Page page) in r) ≡ Ok found.End → ⊥
 not-events true page e = cc
 not-events false page e = cc
 
@@ -88,13 +88,16 @@ ended-by v failures since (Ok c) wanted.End e = (refl, refl)
 ended-by v failures since (Ok c) (wanted.About about.Status) e = absurd cc
 ended-by v failures since (Ok c) (wanted.About (about.Buckets after)) e = absurd cc
 ended-by v failures since (Ok c) (wanted.About (about.Events part)) e = absurd (not-events (nat_lt v.last part.before) (page_of part.before part.after v) e)
+ended-by v failures since (Ok c) (wanted.About (about.Register after)) e = absurd cc
+ended-by v failures since (Ok c) (wanted.About (about.Lawful after)) e = absurd cc
 ended-by v failures since (Err r) what e = absurd cc
 
 pub ended : (v : Vault) (failures : ℕ) (since : Option ℕ) (asked : Asked) (stated : Result Found Refusal) → is_end stated ≡ true → StatedAs stated (judged v failures since asked) → (asked.what ≡ wanted.End) × IsOk (administrator v asked.at asked.who)
 ended v failures since asked (Ok found.End) e is = ended-by v failures since (administrator v asked.at asked.who) asked.what is
 ended v failures since asked (Ok (found.Status status)) e is = absurd cc
 ended v failures since asked (Ok (found.Buckets page)) e is = absurd cc
-ended v failures since asked (Ok (found.Events page)) e is = absurd cc
+ended v failures since asked (Ok (found.Page page)) e is = absurd cc
+ended v failures since asked (Ok (found.Judged part)) e is = absurd cc
 ended v failures since asked (Err r) e is = absurd cc
 
 -- what was asked for

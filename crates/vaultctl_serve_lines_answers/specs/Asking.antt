@@ -1,5 +1,5 @@
--- What is answered to what only the second door has: the end, how things are, which buckets there are, or what happened.
-use Rattle.std.specs.Prelude.{ℕ, ◌≡◌, ◌⊎◌, ◌-◌, nat_lt, if◌then◌else◌, length, take, Bool, true, false, IsTrue, List, Option, Result, Ok, Err}
+-- What is answered to what only the second door has: the end, how things are, which buckets there are, what happened, what was removed, and whether the rules were kept.
+use Rattle.std.specs.Prelude.{ℕ, ◌≡◌, ◌⊎◌, ◌-◌, nat_lt, if◌then◌else◌, length, take, Bool, true, false, IsTrue, List, Option, Some, None, Result, Ok, Err}
 use Rattle.std.specs.Io.KnownBytes.{Appends}
 use Rattle.vault_base.specs.declared.refusal.Refusal.{Refusal}
 use Rattle.vault_base.specs.declared.refusal.Refusal.TheVariants.{InvalidArgument}
@@ -12,8 +12,14 @@ use Rattle.vault_core_model.specs.Vault.{Vault, next_id}
 use Rattle.vault_core_model.specs.declared.reply.Answer.TheVariants.{Nothing as NothingMore}
 use Rattle.vault_core_model.specs.declared.reply.Reply.TheVariants as reply
 use Rattle.vault_http.specs.ReplyLine.{reply_text}
+use Rattle.vault_core_evidence.specs.declared.walk.JudgedPart.{JudgedPart}
+use Rattle.vault_core_evidence.specs.declared.breach.Breach.{Breach}
+use Rattle.vault_core_evidence.specs.Breaches.{law_name}
+use Rattle.vault_core_evidence.specs.Parts.{judged_part}
 use Rattle.vault_files_events.specs.Page.{page_of}
+use Rattle.vault_files_events.specs.RegisterPage.{page_of as register_page_of}
 use Rattle.vault_http_door.specs.BucketsLine.{buckets_text}
+use Rattle.vault_http_door.specs.LawfulLine.{breach_text, clean_text}
 use Rattle.vault_http_door.specs.PageLine.{page_line_text}
 use Rattle.vault_http_door.specs.StatusLine.{status_text}
 use Rattle.vault_http_door.specs.declared.buckets_line.BucketsPage.{BucketsPage}
@@ -44,13 +50,15 @@ buckets_page v after = record { names = buckets_after v after 1000; more = nat_l
 
 -- what happened to the entries of a part, before a moment that the vault has reached
 abbrev pub events_found : Vault → Part → Result Found Refusal
-events_found v part = if nat_lt v.last part.before then Err InvalidArgument else Ok (found.Events (page_of part.before part.after v))
+events_found v part = if nat_lt v.last part.before then Err InvalidArgument else Ok (found.Page (page_of part.before part.after v))
 
 abbrev pub found_of : Vault → ℕ → Option ℕ → Wanted → Result Found Refusal
 found_of v failures since wanted.End = Ok found.End
 found_of v failures since (wanted.About about.Status) = Ok (found.Status (status_of v failures since))
 found_of v failures since (wanted.About (about.Buckets after)) = Ok (found.Buckets (buckets_page v after))
 found_of v failures since (wanted.About (about.Events part)) = events_found v part
+found_of v failures since (wanted.About (about.Register after)) = Ok (found.Page (register_page_of after v))
+found_of v failures since (wanted.About (about.Lawful after)) = Ok (found.Judged (judged_part after v))
 
 -- the clock, and a caller with the right to administer; then what is asked for
 abbrev pub judged : Vault → ℕ → Option ℕ → Asked → Result Found Refusal
@@ -73,15 +81,22 @@ abbrev pub is_end : Result Found Refusal → Bool
 is_end (Ok found.End) = true
 is_end (Ok (found.Status status)) = false
 is_end (Ok (found.Buckets page)) = false
-is_end (Ok (found.Events page)) = false
+is_end (Ok (found.Page page)) = false
+is_end (Ok (found.Judged part)) = false
 is_end (Err r) = false
+
+-- the line of a judgement
+abbrev pub judged_text : Option Breach → Option ℕ → List ℕ
+judged_text None next = clean_text next
+judged_text (Some b) next = breach_text b.id (law_name b.law) next
 
 -- the line of what is answered
 abbrev pub stated_text : List ℕ → Result Found Refusal → List ℕ
 stated_text version (Ok found.End) = reply_text (reply.Done NothingMore)
 stated_text version (Ok (found.Status status)) = status_text version status
 stated_text version (Ok (found.Buckets page)) = buckets_text page
-stated_text version (Ok (found.Events page)) = page_line_text page.text page.next
+stated_text version (Ok (found.Page page)) = page_line_text page.text page.next
+stated_text version (Ok (found.Judged part)) = judged_text part.breach part.next
 stated_text version (Err r) = reply_text (reply.Refused r)
 
 -- what of an answer is written where a server goes on, and where it ends

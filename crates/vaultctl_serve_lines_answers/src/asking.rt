@@ -23,13 +23,16 @@ use vault_base::moment::Moment;
 use vault_base::name::BucketName;
 use vault_base::refusal::Refusal;
 use vault_core_checks::caller::find_administrator;
+use vault_core_evidence::walk::{JudgedPart, lawful_part};
 use vault_core_model::halt::{Fault, Halt};
 use vault_core_model::keeper::Keeper;
 use vault_core_model::reply::{Answer, Reply};
-use vault_files_events::page::{EventsPage, events_page};
+use vault_files_events::page::{TextPage, events_page};
+use vault_files_events::register_page::register_page;
 use vault_http::reply_line::reply_line;
 use vault_http_door::buckets_line::{BucketNames, BucketsPage, buckets_line};
 use vault_http_door::inquiry::{About, After};
+use vault_http_door::lawful_line::{breach_line, clean_line};
 use vault_http_door::page_line::page_line;
 use vault_http_door::status_line::{Status, status_line};
 use vault_io::writing::write_bytes;
@@ -44,8 +47,10 @@ pub enum Found {
     Status(Status),
     /// The names of some buckets.
     Buckets(BucketsPage),
-    /// What happened to some entries.
-    Events(EventsPage),
+    /// A part of a text: what happened to some entries, or which of them were removed.
+    Page(TextPage),
+    /// Whether some entries keep the rules.
+    Judged(JudgedPart),
 }
 
 /// How many names of buckets one line has at most.
@@ -116,7 +121,13 @@ fn find<K: Keeper>(
         Wanted::About(About::Buckets(after)) => find_buckets(keeper, after),
         Wanted::About(About::Events(part)) => {
             let page = events_page(alloc, keeper, part.after, part.before)?;
-            Ok(Found::Events(page))
+            Ok(Found::Page(page))
+        }
+        Wanted::About(About::Register(after)) => {
+            Ok(Found::Page(register_page(alloc, keeper, *after)?))
+        }
+        Wanted::About(About::Lawful(after)) => {
+            Ok(Found::Judged(lawful_part(alloc, keeper, *after)?))
         }
     }
 }
@@ -143,13 +154,23 @@ fn line_of(alloc: Global, reply: Reply) -> Result<String, AllocError>
     line
 }
 
-/// The line of a part of the text of events, which is text throughout. The error is want of memory.
-fn events_line(alloc: Global, page: &EventsPage) -> Result<String, AllocError>
+/// The line of a part of a text, which is text throughout. The error is want of memory.
+fn text_line(alloc: Global, page: &TextPage) -> Result<String, AllocError>
     ensures { IfOk result (λ line. string_bytes line ≡ page_line_text page.now.text page.now.next) }
 {
     match str::from_utf8(page.text.as_slice()) {
         Ok(text) => page_line(alloc, text, page.next),
         Err(_) => Err(AllocError),
+    }
+}
+
+/// The line of a judgement. The error is want of memory.
+fn judged_line(alloc: Global, part: &JudgedPart) -> Result<String, AllocError>
+    ensures { IfOk result (λ line. string_bytes line ≡ spec.judged_text part.now.breach part.now.next) }
+{
+    match part.breach {
+        None => clean_line(alloc, part.next),
+        Some(breach) => breach_line(alloc, breach.id, breach.law.name(), part.next),
     }
 }
 
@@ -165,7 +186,8 @@ fn stated_line(
         Ok(Found::End) => line_of(alloc, Reply::Done(Answer::Nothing)),
         Ok(Found::Status(status)) => status_line(alloc, version, status),
         Ok(Found::Buckets(page)) => buckets_line(alloc, page),
-        Ok(Found::Events(page)) => events_line(alloc, page),
+        Ok(Found::Page(page)) => text_line(alloc, page),
+        Ok(Found::Judged(part)) => judged_line(alloc, part),
         Err(refusal) => line_of(alloc, Reply::Refused(*refusal)),
     }
 }
@@ -197,7 +219,8 @@ fn is_end(stated: &Result<Found, Refusal>) -> bool
         Ok(Found::End) => true,
         Ok(Found::Status(_)) => false,
         Ok(Found::Buckets(_)) => false,
-        Ok(Found::Events(_)) => false,
+        Ok(Found::Page(_)) => false,
+        Ok(Found::Judged(_)) => false,
         Err(_) => false,
     }
 }

@@ -1,4 +1,4 @@
-use Rattle.std.proofs.Common.{rules, ◌≡◌, ◌∙◌, ◌+◌, ◌<◌, None, length, sym, subst, arith}
+use Rattle.std.proofs.Common.{rules, ◌≡◌, ◌∙◌, ◌+◌, None, sym, subst, arith}
 use Rattle.vault_base.specs.Name.{is_version_id}
 use Rattle.vault_core_model.specs.Vault.{Vault}
 use Rattle.vault_core_evidence.proofs.ByIds.{FindsAt, its_id, left_goes_on, left_stops}
@@ -9,12 +9,13 @@ returns-in-Some-2-clause-value g c clean =
     let before = c.breach_of.ensures.leaves.honest clean in
     let first = c.loop-place.invariant.leaves.honest before in
     let v = g.K.Kept.vault c.args.keeper.now in
-    let P : Vault → Type 0 = λ w. FindsAt w c.loop-place.seen c.in-Some.id c.in_ok-law.field-0 c.breach_of.new.seen in
+    let P : Vault → Type 0 = λ w. FindsAt w c.loop-place.seen c.in-Some-new.id c.in_ok-law.field-0 c.breach_of.new.seen in
     let finds = subst P c.loop-place.invariant.leaves.same (c.in_ok-law.ensures.value clean) in
-    let low : c.loop-place.place < length v.histories = omega (arith, c.loop-place-test.true, c.requires.entries first) in
+    let id : c.in-Some.number ≡ c.in-Some-new.id = its_id (is_version_id c.in-Some.number) c.in-Some.number c.in-Some-new.id c.new.result c.new.ensures c.in-Some-new.is in
+    let number : c.args.after + (c.loop-place.place + 1) ≡ c.in-Some-new.id = omega (arith, id, c.in-Some.ensures) in
     sym (c.loop-place.invariant.left before
-    ∙ left_stops v c.loop-place.seen c.breach_of.new.seen c.loop-place.place c.in-Some.id c.in_ok-law.field-0 c.in-Some-2.law (g.K.Kept.sound _ first) low
-    (its_id (is_version_id (c.loop-place.place + 1)) (c.loop-place.place + 1) c.in-Some.id c.new.result c.new.ensures c.in-Some.is) finds c.in-Some-2.is)
+    ∙ left_stops v c.args.after c.args.most c.loop-place.seen c.breach_of.new.seen c.loop-place.place c.in-Some-new.id c.in_ok-law.field-0 c.in-Some-2.law (g.K.Kept.sound _ first)
+    (c.requires.range first) c.loop-place-test.true number finds c.in-Some-2.is)
 
 pub loop-place-preserved : goal.loop-place-preserved
 loop-place-preserved g c = record {
@@ -23,11 +24,12 @@ loop-place-preserved g c = record {
       let before = c.breach_of.ensures.leaves.honest clean in
       let first = c.loop-place.invariant.leaves.honest before in
       let v = g.K.Kept.vault c.args.keeper.now in
-      let P : Vault → Type 0 = λ w. FindsAt w c.loop-place.seen c.in-Some.id c.in_ok-law.field-0 c.breach_of.new.seen in
+      let P : Vault → Type 0 = λ w. FindsAt w c.loop-place.seen c.in-Some-new.id c.in_ok-law.field-0 c.breach_of.new.seen in
       let finds = subst P c.loop-place.invariant.leaves.same (c.in_ok-law.ensures.value clean) in
-      let low : c.loop-place.place < length v.histories = omega (arith, c.loop-place-test.true, c.requires.entries first) in
+      let id : c.in-Some.number ≡ c.in-Some-new.id = its_id (is_version_id c.in-Some.number) c.in-Some.number c.in-Some-new.id c.new.result c.new.ensures c.in-Some-new.is in
+      let number : c.args.after + (c.loop-place.place + 1) ≡ c.in-Some-new.id = omega (arith, id, c.in-Some.ensures) in
       let none : c.in_ok-law.field-0 ≡ None = search rules in
       c.loop-place.invariant.left before
-      ∙ left_goes_on v c.loop-place.seen c.breach_of.new.seen c.loop-place.place c.in-Some.id c.in_ok-law.field-0 (g.K.Kept.sound _ first) low
-      (its_id (is_version_id (c.loop-place.place + 1)) (c.loop-place.place + 1) c.in-Some.id c.new.result c.new.ensures c.in-Some.is) finds none;
+      ∙ left_goes_on v c.args.after c.args.most c.loop-place.seen c.breach_of.new.seen c.loop-place.place c.in-Some-new.id c.in_ok-law.field-0 (g.K.Kept.sound _ first)
+      (c.requires.range first) c.loop-place-test.true number finds none;
 }

@@ -1,6 +1,6 @@
 use Rattle.std.proofs.Common.{◌≡◌, false}
 use Rattle.vault_core_model.specs.Leaves.{LeavesSame}
-use Rattle.vault_core_evidence.specs.Breaches.{first_breach}
+use Rattle.vault_core_evidence.specs.Parts.{range_breach}
 use Rattle.vault_core_evidence.proofs.ByIds.{left_from}
 use Rattle.vault_core_evidence.proofs.walk.find_breach.Given as goal
 
@@ -8,5 +8,5 @@ use Rattle.vault_core_evidence.proofs.walk.find_breach.Given as goal
 abbrev pub invariant-loop-place : goal.invariant-loop-place
 invariant-loop-place g l = record {
   leaves : LeavesSame g.K.Kept l.fn.keeper l.keeper false;
-  left : g.K.Kept.is_honest l.keeper → first_breach (g.K.Kept.vault l.fn.keeper) ≡ left_from (g.K.Kept.vault l.fn.keeper) l.seen l.place;
+  left : g.K.Kept.is_honest l.keeper → range_breach (g.K.Kept.vault l.fn.keeper) l.fn.after l.fn.most ≡ left_from (g.K.Kept.vault l.fn.keeper) l.fn.after l.fn.most l.seen l.place;
 }

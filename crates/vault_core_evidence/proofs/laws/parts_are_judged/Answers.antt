@@ -1,0 +1,14 @@
+use Rattle.vault_core_evidence.proofs.JudgedParts.{last-lawful, next-lawful, part-clean}
+use Rattle.vault_core_evidence.proofs.laws.parts_are_judged.Goals as goal
+
+pub returns-clause-whole : goal.returns-clause-whole
+returns-clause-whole c = λ v all. all
+
+pub returns-clause-next : goal.returns-clause-next
+returns-clause-next c = next-lawful
+
+pub returns-clause-last : goal.returns-clause-last
+returns-clause-last c = last-lawful
+
+pub returns-clause-clean : goal.returns-clause-clean
+returns-clause-clean c = part-clean

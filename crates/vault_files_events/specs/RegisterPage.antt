@@ -1,0 +1,32 @@
+-- A part of the register of removals: the records of the removed ones among some entries, by rising id.
+use Rattle.std.specs.Prelude.{ℕ, ◌==◌, List, [], ◌++◌, length, drop, flat_map, if◌then◌else◌, Option, Some, None}
+use Rattle.vault_core_model.specs.declared.records.Entry.{Entry}
+use Rattle.vault_core_model.specs.declared.records.History.{History}
+use Rattle.vault_core_model.specs.Vault.{Vault}
+use Rattle.vault_core_evidence.specs.Parts.{next_of, part}
+use Rattle.vault_files_texts.specs.Register.{header, row}
+use Rattle.vault_files_events.specs.declared.page.TextPage.{TextPage}
+
+-- the part after 0 is the first
+abbrev pub header_if_first : ℕ → List ℕ
+header_if_first after = if after == 0 then header else []
+
+-- the record of what was found of an entry, which may be nothing
+abbrev pub row_found : Option Entry → List ℕ
+row_found None = []
+row_found (Some e) = row e
+
+-- the records of the removed ones among these entries
+abbrev pub rows_in : List History → List ℕ
+rows_in hs = flat_map (λ h. row h.entry) hs
+
+abbrev pub page_text : ℕ → Vault → List ℕ
+page_text after v = header_if_first after ++ rows_in (part after v)
+
+-- the records of the removed ones among all entries after an id
+abbrev pub rest_text : ℕ → Vault → List ℕ
+rest_text after v = rows_in (drop after v.histories)
+
+-- the part after an id, and where the next one begins
+abbrev pub page_of : ℕ → Vault → TextPage
+page_of after v = record { text = page_text after v; next = next_of (length v.histories) after }
