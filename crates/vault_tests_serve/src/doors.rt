@@ -11,6 +11,7 @@ use vault_core::fuse_keeper::FuseKeeper;
 use vault_core_model::keeper::Keeper;
 use vault_http::Hosts;
 use vault_transcript::transcript::opened;
+use vaultctl_log::entry::{Entry, log_entry};
 use vaultctl_serve_lines::doors::{Arrived, Doors};
 use vaultctl_serve_lines::heard::Heard;
 use vaultctl_serve_lines::line::Next;
@@ -40,6 +41,9 @@ const MALFORMED: &str = "{\"error\":{\"code\":\"MalformedBody\",\"n\":12}}\n";
 const NOT_ADMIN: &str =
     "{\"error\":{\"code\":\"AccessDenied\",\"n\":3,\"reason\":\"right:admin\"}}\n";
 
+const UNKNOWN: &str =
+    "{\"error\":{\"code\":\"AccessDenied\",\"n\":3,\"reason\":\"unknown-caller\"}}\n";
+
 const FAILED: &str = "{\"error\":{\"code\":\"Device\",\"n\":23}}\n";
 
 /// What comes in a turn.
@@ -66,6 +70,8 @@ struct KnownDoors<'a> {
     kept: u32,
     hosts: &'a Hosts,
     alloc: Global,
+    /// What was logged.
+    log: Option<Vec<u8>>,
 }
 
 impl<'a> KnownDoors<'a> {
@@ -122,6 +128,12 @@ impl<'a> Doors for KnownDoors<'a> {
         self.hosts
     }
 
+    ghost logs = { λ _ _ _ _ _. Unit {0} };
+
+    fn log(&mut self, entry: &Entry<'_>) {
+        log_entry(self.alloc, &mut self.log, entry);
+    }
+
     fn keep(&mut self, _talker: SlowPeer<'a, 'static>) {
         self.kept = self.kept.saturating_add(1);
     }
@@ -137,6 +149,7 @@ struct Served {
     left: usize,
     kept: u32,
     reports: Vec<u8>,
+    log: String,
 }
 
 /// Serves up to n requests and lines of these turns.
@@ -161,6 +174,7 @@ fn serve<K: Keeper>(
         kept: 0,
         hosts: &hosts,
         alloc,
+        log: Some(Vec::new(alloc)),
     };
     let service = Service {
         alloc,
@@ -169,6 +183,7 @@ fn serve<K: Keeper>(
     };
     let next = serve_doors(&clock, &service, &mut doors, keeper, n, &mut reports);
     let (left, kept) = (doors.turns.len(), doors.kept);
+    let log = doors.log.take().ok_or("a log")?;
     drop(doors);
     Ok(Served {
         next,
@@ -176,6 +191,7 @@ fn serve<K: Keeper>(
         left,
         kept,
         reports,
+        log: String::from_utf8(log)?,
     })
 }
 
@@ -282,5 +298,31 @@ fn a_device_that_fails(rt: HostRuntime) -> Result<(), Fail> {
         served.reports.as_slice(),
         b"serve: the vault's file failed: where requests are answered 500, start the server anew\n".as_slice()
     );
+    Ok(())
+}
+
+/// A line each of what became of lines and requests: who asked for what, what came of it, how many bytes, how long. A turn in
+/// which nothing came has none. The clients take a byte in 5 milliseconds.
+#[test]
+fn a_trail(rt: HostRuntime) -> Result<(), Fail> {
+    let alloc = rt.alloc();
+    let mut keeper = opened(alloc)?;
+    let turns = [
+        (Coming::Line(PUT), STORED),
+        (Coming::Request(GET), GOT),
+        (Coming::Line(r#"{"as":"zoe","do":"status"}"#), UNKNOWN),
+        (Coming::Nothing, ""),
+        (Coming::Line("{\"a"), MALFORMED),
+        (Coming::Line(""), ""),
+    ];
+    let served = serve(alloc, &mut keeper, &turns, 5, 5)?;
+    let wanted =
+        r#"{"door":"lines","at":"2024-01-15T10:30:00Z","as":"ann","do":"put","bucket":"docs","key":"a","result":"ok","in":64,"out":24,"ms":120}
+{"door":"http","at":"2024-01-15T10:30:00Z","as":"ann","do":"GET","target":"/docs/a","status":200,"result":"ok","in":45,"out":195,"ms":975}
+{"door":"lines","at":"2024-01-15T10:30:00Z","as":"zoe","do":"status","result":"AccessDenied","reason":"unknown-caller","in":26,"out":66,"ms":330}
+{"door":"lines","at":"2024-01-15T10:30:00Z","result":"MalformedBody","in":3,"out":42,"ms":210}
+{"door":"lines","at":"2024-01-15T10:30:00Z","result":"nothing","in":0,"out":0,"ms":0}
+"#;
+    assert_eq!(rt; served.log.as_str(), wanted);
     Ok(())
 }

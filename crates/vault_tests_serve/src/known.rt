@@ -7,6 +7,7 @@ ghost use Rattle.vault_tests_serve.specs.Known.{dues_of, tries_of};
 use std::io;
 use std::time::Duration;
 use vault_http::Hosts;
+use vaultctl_log::entry::Entry;
 use vaultctl_serve::arrivals::Arrivals;
 use vaultctl_serve::inbound::Inbound;
 use vaultctl_serve::peer::Peer;
@@ -123,6 +124,10 @@ impl Arrivals for KnownArrivals<'_> {
     fn hosts(&self) -> &Hosts {
         self.hosts
     }
+
+    ghost logs = { λ _ _ _ _ _. Unit {0} };
+
+    fn log(&mut self, _entry: &Entry<'_>) {}
 
     fn pause(&mut self) {}
 }

@@ -89,6 +89,8 @@ pub fn serve_connections<
         clock,
         listener,
         hosts: &hosts,
+        alloc,
+        log: None::<Vec<u8>>,
     };
     serve_arrivals(clock, alloc, &mut arrivals, keeper, count, reporter);
 }
@@ -107,8 +109,9 @@ pub fn serve_port<R: Net<Stream = TcpStream> + Clock, K: Keeper>(
         file: "a.vault",
         port,
         hosts: &hosts,
+        alloc,
     };
-    serve(rt, alloc, keeper, place, count, reports)
+    serve(rt, keeper, place, count, reports, None::<Vec<u8>>)
 }
 
 /// A listener that fails a number of times before it takes a connection.

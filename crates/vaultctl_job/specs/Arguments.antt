@@ -36,6 +36,10 @@ lines = option (codes "lines")
 abbrev pub host : Rule
 host = record (option (codes "host")) { action = Some Append }
 
+-- --log
+abbrev pub log : Rule
+log = record (new_rule (codes "log")) { long = Some (codes "log"); action = Some SetTrue }
+
 -- --as CALLER
 abbrev pub asker : Rule
 asker = record (option (codes "as")) { required = true }

@@ -125,6 +125,7 @@ serve_of rows = record {
   count = number_of 4294967296 (codes "count") rows;
   lines = first_of (codes "lines") rows;
   hosts = texts_of (codes "host") rows;
+  log = is_set (codes "log") rows;
 }
 
 unfoldable pub migrate_of : List Row → MigrateJob

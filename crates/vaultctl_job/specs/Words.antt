@@ -71,9 +71,9 @@ lawful_app = on_file (codes "lawful")
 abbrev pub replay_app : App
 replay_app = with_rule (new_app (codes "replay")) (arg.optional_place (codes "FILE"))
 
--- serve FILE PORT [--count N] [--lines WHERE] [--host NAME]...
+-- serve FILE PORT [--count N] [--lines WHERE] [--host NAME]... [--log]
 abbrev pub serve_app : App
-serve_app = with_rule (with_rule (with_rule (with_rule (on_file (codes "serve")) arg.port) arg.count) arg.lines) arg.host
+serve_app = with_rule (with_rule (with_rule (with_rule (with_rule (on_file (codes "serve")) arg.port) arg.count) arg.lines) arg.host) arg.log
 
 -- migrate OLD NEW
 abbrev pub migrate_app : App

@@ -31,6 +31,8 @@ pub(crate) enum Argument {
     Lines,
     /// A host that requests may be for, any number of times.
     Host,
+    /// What becomes of each request is logged.
+    Log,
     /// The caller who asks.
     Asker,
     /// The moment at which it is asked.
@@ -120,6 +122,18 @@ fn host<'a>(alloc: Global) -> Arg<'a>
         )
 }
 
+fn log<'a>(alloc: Global) -> Arg<'a>
+    ensures rule { rule_of result ≡ spec.log }
+    ensures local { result.global ≡ false }
+{
+    Arg::new(alloc, "log")
+        .long("log")
+        .action(ArgAction::SetTrue)
+        .help(
+            "Writes a line of JSON for each request and each line to\nstandard error: who asked for what, and what came of it",
+        )
+}
+
 fn asker<'a>(alloc: Global) -> Arg<'a>
     ensures rule { rule_of result ≡ spec.asker }
     ensures local { result.global ≡ false }
@@ -183,6 +197,7 @@ fn made<'a>(alloc: Global, argument: Argument) -> Arg<'a>
         Argument::Count => count(alloc),
         Argument::Lines => lines(alloc),
         Argument::Host => host(alloc),
+        Argument::Log => log(alloc),
         Argument::Asker => asker(alloc),
         Argument::Moment => moment(alloc),
         Argument::Before { help } => before(alloc, help),

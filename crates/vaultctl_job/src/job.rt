@@ -128,7 +128,7 @@ pub struct ReplayJob {
     pub file: Option<Word>,
 }
 
-/// `serve FILE PORT [--count N] [--lines WHERE] [--host NAME]...`
+/// `serve FILE PORT [--count N] [--lines WHERE] [--host NAME]... [--log]`
 #[derive(Drop)]
 pub struct ServeJob {
     pub file: Word,
@@ -139,6 +139,8 @@ pub struct ServeJob {
     pub lines: Option<Word>,
     /// The hosts, beside this machine's own names, that requests may be for; without one they may be for any.
     pub hosts: Words,
+    /// A line of each request and each line is written.
+    pub log: bool,
 }
 
 /// `migrate OLD NEW`

@@ -302,6 +302,7 @@ fn serve(alloc: Global, matches: &ArgMatches<'_>) -> Result<ServeJob, AllocError
         count: count(matches),
         lines: optional_word(alloc, matches, "lines")?,
         hosts: words(alloc, matches, "host")?,
+        log: is_set(matches, "log"),
     })
 }
 

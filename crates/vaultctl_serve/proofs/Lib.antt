@@ -1,3 +1,4 @@
+pub mod AccountLemmas
 pub mod InTimeLemmas
 pub mod ReportLemmas
 pub mod ServingLemmas

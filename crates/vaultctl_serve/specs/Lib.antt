@@ -1,3 +1,4 @@
+pub mod Account
 pub mod InTime
 pub mod Scan
 pub mod Serving

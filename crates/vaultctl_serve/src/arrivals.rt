@@ -1,15 +1,20 @@
 //! Connections as they come, and the clock that is read as one is taken.
 ghost use Rattle.std.specs.Prelude.{◌≡◌, ℕ, List, Option, None};
 ghost use Rattle.vault_base.specs.Days.{moment_at};
+ghost use Rattle.vaultctl_log.specs.Logging.{IsLogged};
+ghost use Rattle.vaultctl_log.specs.declared.entry.Facts.{Facts};
 ghost use Rattle.vaultctl_serve.specs.Serving.{IsTried, ReadsAs, Try};
 
 use crate::clock;
 use crate::deadline::BETWEEN_TRIES;
 use crate::peer::Peer;
+use std::alloc::Global;
+use std::io::Write;
 use std::net::OpenListener;
 use std::time::{Clock, Duration};
 use std::{io, thread};
 use vault_http::Hosts;
+use vaultctl_log::entry::{Entry, log_entry};
 
 /// Connections as they come, and the clock that is read as one is taken.
 pub trait Arrivals {
@@ -34,6 +39,14 @@ pub trait Arrivals {
     /// The hosts that requests may be for.
     fn hosts(&self) -> &Hosts;
 
+    /// What hears of an entry: who hears it, the entry's facts, the fronts of what was asked and answered, who heard it.
+    ghost logs: { Self → Facts → List ℕ → List ℕ → Self → Type 0 };
+
+    /// Hears what became of a connection. Whatever it does with that, what comes is the same.
+    fn log(&mut self, entry: &Entry<'_>)
+        ensures tries { tries self.new ≡ tries self.old }
+        ensures logs { logs self.old entry.now.facts entry.now.asked.now entry.now.answered.now self.new };
+
     /// Waits a little after a connection that couldn't be taken, so that a fault that lasts doesn't use up the count of
     /// connections.
     fn pause(&mut self)
@@ -42,21 +55,28 @@ pub trait Arrivals {
 
 /// The connections of a listener.
 #[derive(Drop)]
-pub struct Listened<'a, C: Clock, L> {
+pub struct Listened<'a, C: Clock, L, W: Write + Drop> {
     /// The clock that is read.
     pub clock: &'a C,
     /// Where they come.
     pub listener: &'a L,
     /// The hosts that requests may be for.
     pub hosts: &'a Hosts,
+    /// Where the room for a line of the log is taken from.
+    pub alloc: Global,
+    /// Who gets a line of what becomes of each connection; none where nothing is logged.
+    pub log: Option<W>,
 }
 
-impl<C: Clock, P: Peer + Drop, L: OpenListener<Stream = P>> Arrivals for Listened<'_, C, L> {
+impl<C: Clock, P: Peer + Drop, L: OpenListener<Stream = P>, W: Write + Drop> Arrivals
+    for Listened<'_, C, L, W> {
     type Peer = P;
 
     ghost tries = { λ _. None };
 
     ghost shown = { λ _. None };
+
+    ghost logs = { λ before facts asked answered after. IsLogged W.contents before.log facts asked answered after.log };
 
     fn take(&mut self) -> io::Result<P> {
         let (peer, _) = self.listener.accept()?;
@@ -69,6 +89,10 @@ impl<C: Clock, P: Peer + Drop, L: OpenListener<Stream = P>> Arrivals for Listene
 
     fn hosts(&self) -> &Hosts {
         self.hosts
+    }
+
+    fn log(&mut self, entry: &Entry<'_>) {
+        log_entry(self.alloc, &mut self.log, entry);
     }
 
     fn pause(&mut self) {

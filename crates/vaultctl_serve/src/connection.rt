@@ -14,11 +14,12 @@ ghost use Rattle.vaultctl_serve.specs.declared.scan.Scan.TheVariants.{Leading};
 
 use crate::inbound::{Inbound, TimedPeer};
 use crate::lingering::linger;
+use crate::noted::{Noted, NotedAnswer, NotedInbound};
 use crate::peer::Peer;
 use crate::timed::{TimedAnswer, TimedRequest};
 use std::alloc::Global;
 use std::io::{BufReader, Write};
-use std::time::{Clock, Instant};
+use std::time::{Clock, Duration, Instant};
 use vault_core_model::keeper::Keeper;
 use vault_http::{Hosts, ServeFault, serve_for};
 
@@ -55,10 +56,14 @@ pub fn serve_in_time<I: Inbound + Drop, W: Write, K: Keeper>(
     serve_for(alloc, &mut reader, writer, keeper, reading, hosts)
 }
 
-/// Reads the one request of a connection that is taken now, and answers it.
-fn exchange<C: Clock, P: Peer, K: Keeper>(
+/// Serves the one request of a connection, which was just taken; the request has to be for one of the hosts. What goes by
+/// up to the end of the answer is noted.
+///
+/// Where the request comes too late, that is a failed read, `Read`, and where its answer is taken too late, a
+/// failed write, `Write`.
+pub fn serve_connection<C: Clock, P: Peer, K: Keeper>(
     clock: &C,
-    alloc: Global,
+    noted: &mut Noted,
     peer: &P,
     keeper: &mut K,
     reading: i64,
@@ -71,28 +76,17 @@ fn exchange<C: Clock, P: Peer, K: Keeper>(
     let Ok(since) = Instant::now(clock) else {
         return Err(ServeFault::Read);
     };
-    let mut answer = TimedAnswer::new(TimedPeer { clock, peer, since });
-    let inbound = TimedPeer { clock, peer, since };
-    serve_in_time(alloc, inbound, &mut answer, keeper, reading, hosts)
-}
-
-/// Serves the one request of a connection, which was just taken; the request has to be for one of the hosts.
-///
-/// Where the request comes too late, that is a failed read, `Read`, and where its answer is taken too late, a
-/// failed write, `Write`.
-pub fn serve_connection<C: Clock, P: Peer, K: Keeper>(
-    clock: &C,
-    alloc: Global,
-    peer: &P,
-    keeper: &mut K,
-    reading: i64,
-    hosts: &Hosts,
-) -> Result<(), ServeFault>
-    ensures once { K.is_honest keeper.new → AtMostOne (moment_at reading) (K.vault keeper.old) (K.vault keeper.new) }
-    ensures unread { result ≡ Err faults.Read → K.vault keeper.new ≡ K.vault keeper.old }
-    ensures leaves { LeavesNoLess K.Kept keeper.old keeper.new }
-{
-    let served = exchange(clock, alloc, peer, keeper, reading, hosts);
+    let mut answer = NotedAnswer {
+        writer: TimedAnswer::new(TimedPeer { clock, peer, since }),
+        seen: noted.take_answered(),
+    };
+    let inbound = NotedInbound {
+        inbound: TimedPeer { clock, peer, since },
+        seen: &mut noted.asked,
+    };
+    let served = serve_in_time(noted.alloc, inbound, &mut answer, keeper, reading, hosts);
+    noted.took = since.elapsed(clock).unwrap_or(Duration::ZERO);
+    noted.answered = answer.seen;
     if served.is_ok() {
         // The answer is written, whatever the client does after it.
         let _ = linger(clock, peer);

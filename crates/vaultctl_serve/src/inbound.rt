@@ -19,7 +19,7 @@ pub trait Inbound {
 
     /// How long ago the connection was taken.
     fn passed(&mut self) -> io::Result<Duration>
-        ensures same { coming self.new ≡ coming self.old }
+        ensures coming { coming self.new ≡ coming self.old }
         ensures value { IsSome (coming self.old) → IfOk result (λ passed. as_nanos passed ≡ time self.new) };
 
     /// Reads what has come, or waits for it, so long and no longer.
@@ -35,7 +35,7 @@ pub trait Outbound {
 
     /// How long ago the connection was taken.
     fn passed(&mut self) -> io::Result<Duration>
-        ensures same { contents self.new ≡ contents self.old };
+        ensures contents { contents self.new ≡ contents self.old };
 
     /// Writes what is taken, or waits until something is, so long and no longer.
     fn write_within(&mut self, buf: &[u8], limit: Duration) -> io::Result<usize>

@@ -9,6 +9,7 @@ pub mod deadline;
 mod fault;
 pub mod inbound;
 pub mod lingering;
+pub mod noted;
 pub mod peer;
 pub mod reporter;
 mod scan;
@@ -17,4 +18,4 @@ pub mod timed;
 
 pub use connection::{serve_connection, serve_in_time};
 pub use fault::PortFault;
-pub use server::{Port, serve, serve_arrivals};
+pub use server::{Port, serve, serve_arrivals, trouble_of};

@@ -1,21 +1,69 @@
 //! Connections to a port of this machine, one after another.
 ghost use Rattle.std.specs.Prelude.{◌≡◌, ◌≢◌, OnOk, OnErr};
 ghost use Rattle.std.specs.Io.KnownBytes.{Keeps};
+ghost use Rattle.vault_base.specs.Days.{moment_at};
 ghost use Rattle.vault_core_model.specs.Step.{Reached};
-ghost use Rattle.vault_http.specs.Left.{LeavesNoLess};
+ghost use Rattle.vault_http.specs.Left.{AtMostOne, LeavesNoLess};
+ghost use Rattle.vaultctl_serve.specs.Account.{IsAccounted, trouble_of as trouble_in};
 ghost use Rattle.vaultctl_serve.specs.Serving.{ReportsOnce, Stepped, SteppedOnTime};
 
 use crate::arrivals::{Arrivals, Listened};
 use crate::connection::serve_connection;
 use crate::fault::PortFault;
+use crate::noted::{Noted, nothing};
+use crate::peer::Peer;
 use crate::reporter::Reporter;
 use std::alloc::Global;
+use std::io::Write;
 use std::net::{Ipv4Addr, Net, TcpListener, TcpStream};
 use std::time::Clock;
 use vault_core_model::keeper::Keeper;
-use vault_http::Hosts;
+use vault_http::{Hosts, ServeFault};
+use vaultctl_log::entry::{Door, Trouble};
 
-/// Takes the next connection and serves its request, at the clock's reading then.
+/// What kept a request from its end that was served so.
+pub fn trouble_of(served: Result<(), ServeFault>) -> Option<Trouble>
+    ensures { result ≡ trouble_in served }
+{
+    match served {
+        Ok(()) => None,
+        Err(ServeFault::Read) => Some(Trouble::Late),
+        Err(ServeFault::Write) => Some(Trouble::Untaken),
+        Err(ServeFault::Memory) => Some(Trouble::Memory),
+    }
+}
+
+/// Serves the request of a connection that was just taken, as the clock shows this. What became of it is logged.
+fn serve_taken<C: Clock, A: Arrivals, K: Keeper>(
+    clock: &C,
+    alloc: Global,
+    arrivals: &mut A,
+    peer: &A::Peer,
+    keeper: &mut K,
+    reading: i64,
+)
+    ensures tries { A.tries arrivals.new ≡ A.tries arrivals.old }
+    ensures once { K.is_honest keeper.new → AtMostOne (moment_at reading) (K.vault keeper.old) (K.vault keeper.new) }
+    // What is logged is what happened: the moment, and that nothing was carried out of what came late.
+    ensures logged { K.is_honest keeper.new → IsAccounted A.logs arrivals.old arrivals.new (moment_at reading) (K.vault keeper.old) (K.vault keeper.new) }
+    ensures leaves { LeavesNoLess K.Kept keeper.old keeper.new }
+{
+    let mut noted = Noted::new(alloc);
+    // A fault of the connection is its own.
+    let served = serve_connection(clock, &mut noted, peer, keeper, reading, arrivals.hosts());
+    arrivals.log(&noted.request(reading, trouble_of(served)));
+}
+
+/// Logs that a connection couldn't be taken, and waits a little.
+fn miss<A: Arrivals>(arrivals: &mut A)
+    ensures { A.tries arrivals.new ≡ A.tries arrivals.old }
+{
+    let shown = arrivals.reading();
+    arrivals.log(&nothing(Door::Requests, shown, Trouble::Connection));
+    arrivals.pause();
+}
+
+/// Takes the next connection and serves its request, at the clock's reading then. What became of it is logged.
 fn serve_next<C: Clock, A: Arrivals, K: Keeper>(
     clock: &C,
     alloc: Global,
@@ -28,10 +76,9 @@ fn serve_next<C: Clock, A: Arrivals, K: Keeper>(
     match arrivals.take() {
         Ok(peer) => {
             let reading = arrivals.reading();
-            // A fault of the connection is its own.
-            let _ = serve_connection(clock, alloc, &peer, keeper, reading, arrivals.hosts());
+            serve_taken(clock, alloc, arrivals, &peer, keeper, reading);
         }
-        Err(_) => arrivals.pause(),
+        Err(_) => miss(arrivals),
     }
 }
 
@@ -98,19 +145,22 @@ pub struct Port<'a> {
     pub port: u16,
     /// The hosts that requests may be for.
     pub hosts: &'a Hosts,
+    /// Where memory is taken from.
+    pub alloc: Global,
 }
 
 /// Serves `count` requests at a port of 127.0.0.1, each on a connection of its own, and ends.
 ///
-/// That it listens is reported first, and that the vault's device failed is reported once, when it first does.
-/// `Device` comes where the port can't be had. No fault of a connection or of the device ends it.
-pub fn serve<R: Net<Stream = TcpStream> + Clock, K: Keeper, T: Reporter>(
+/// That it listens is reported first, and that the vault's device failed is reported once, when it first does. Where
+/// there is a log, it gets a line of what became of each connection. `Device` comes where the port can't be had. No fault
+/// of a connection, of the device or of the log ends it.
+pub fn serve<R: Net<Stream = TcpStream> + Clock, K: Keeper, T: Reporter, W: Write + Drop>(
     rt: &R,
-    alloc: Global,
     keeper: &mut K,
     place: Port<'_>,
     count: u32,
     reporter: &mut T,
+    log: Option<W>,
 ) -> Result<(), PortFault>
     ensures stepped { K.is_honest keeper.new → Stepped count (K.vault keeper.old) (K.vault keeper.new) }
     ensures reached { K.is_honest keeper.new → Reached (K.vault keeper.old) → Reached (K.vault keeper.new) }
@@ -130,7 +180,9 @@ pub fn serve<R: Net<Stream = TcpStream> + Clock, K: Keeper, T: Reporter>(
         clock: rt,
         listener: &listener,
         hosts: place.hosts,
+        alloc: place.alloc,
+        log,
     };
-    serve_arrivals(rt, alloc, &mut arrivals, keeper, count, reporter);
+    serve_arrivals(rt, place.alloc, &mut arrivals, keeper, count, reporter);
     Ok(())
 }

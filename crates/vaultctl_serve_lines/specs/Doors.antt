@@ -1,8 +1,12 @@
 -- What comes in at two doors, turn by turn.
-use Rattle.std.specs.Prelude.{ℕ, ◌≤◌, ◌+◌, List, [], ◌∷◌, Option, Result, Ok, Err}
+use Rattle.std.specs.Prelude.{ℕ, ◌≤◌, ◌+◌, List, [], ◌∷◌, Option, Some, None, Result, Ok, Err}
 use Rattle.vault_core_model.specs.Vault.{Vault}
+use Rattle.vaultctl_log.specs.declared.entry.Trouble.{Trouble}
+use Rattle.vaultctl_log.specs.declared.entry.Trouble.TheVariants as trouble
 use Rattle.vaultctl_replay.specs.declared.fault.ReplayFault.{ReplayFault}
-use Rattle.vaultctl_serve.specs.Serving.{Missed, SteppedAt, Taken, Tries, Try}
+use Rattle.vaultctl_replay.specs.declared.fault.ReplayFault.TheVariants as faults
+use Rattle.vault_http.specs.Left.{AtMostOne}
+use Rattle.vaultctl_serve.specs.Serving.{Missed, ReadsAs, SteppedAt, Taken, Tries, Try}
 use Rattle.vaultctl_serve_lines.specs.declared.doors.Arrived.{Arrived}
 use Rattle.vaultctl_serve_lines.specs.declared.doors.Arrived.TheVariants as arrived
 use Rattle.vaultctl_serve_lines_answers.specs.declared.line.Next.{Next}
@@ -15,6 +19,10 @@ abbrev pub HasArrived : {P Q : Type 0} → Option (List Try) → Option (List Tr
 HasArrived old new shown (arrived.Request peer) = Tries old new (Taken shown ∷ [])
 HasArrived old new shown (arrived.Line heard talker) = Tries old new (Taken shown ∷ [])
 HasArrived old new shown arrived.Nothing = Tries old new (Missed ∷ [])
+
+-- at most one step is made, at what the clock shows
+abbrev pub StepsAt : Option (List Try) → Option ℕ → Vault → Vault → Type 0
+StepsAt known shown old new = (moment : Option ℕ) × ReadsAs known shown moment × AtMostOne moment old new
 
 -- how many of the tries took something
 abbrev pub taken_in : List Try → ℕ
@@ -38,3 +46,10 @@ abbrev pub turn_after : Result Next ReplayFault → Turn
 turn_after (Ok next.End) = turn.End
 turn_after (Ok next.On) = turn.Taken
 turn_after (Err fault) = turn.Taken
+
+-- what kept a line from its end that was answered so
+abbrev pub line_trouble : Result Next ReplayFault → Option Trouble
+line_trouble (Ok next) = None
+line_trouble (Err faults.Read) = Some trouble.Late
+line_trouble (Err faults.Write) = Some trouble.Untaken
+line_trouble (Err faults.Memory) = Some trouble.Memory

@@ -13,7 +13,7 @@ use crate::turns::serve_doors;
 use crate::two_doors::TwoDoors;
 use std::alloc::Global;
 use std::fs::Files;
-use std::io;
+use std::io::{self, Write};
 use std::net::{Ipv4Addr, Net, TcpListener, TcpStream};
 use std::time::Clock;
 use vault_core_model::keeper::Keeper;
@@ -35,6 +35,8 @@ pub struct Places<'a> {
     pub hosts: &'a Hosts,
     /// The version of the program, which it says where it is asked how things are.
     pub version: &'static str,
+    /// Where memory is taken from.
+    pub alloc: Global,
 }
 
 /// The listener of requests, at which no accept waits.
@@ -65,19 +67,20 @@ fn listen<R: Net<Stream = TcpStream, Listener = TcpListener> + Files>(
 /// these it was.
 ///
 /// That it listens at both doors is reported first, and that the vault's device failed is reported once, when it first
-/// does. `Requests` and `Lines` come where nobody can listen at that door. No fault of a connection or of the device
-/// ends it.
+/// does. Where there is a log, it gets a line of what became of each request and each line. `Requests` and `Lines` come
+/// where nobody can listen at that door. No fault of a connection, of the device or of the log ends it.
 pub fn serve_with_lines<
     R: Net<Stream = TcpStream, Listener = TcpListener> + Files + Clock,
     K: Keeper,
     T: DoorReporter,
+    W: Write + Drop,
 >(
     rt: &R,
-    alloc: Global,
     keeper: &mut K,
     places: Places<'_>,
     count: u32,
     reporter: &mut T,
+    log: Option<W>,
 ) -> Result<Next, DoorFault>
     ensures stepped { K.is_honest keeper.new → Stepped count (K.vault keeper.old) (K.vault keeper.new) }
     ensures reached { K.is_honest keeper.new → Reached (K.vault keeper.old) → Reached (K.vault keeper.new) }
@@ -97,16 +100,17 @@ pub fn serve_with_lines<
     };
     reporter.listening_at_both(places.file, places.port, places.lines);
     let service = Service {
-        alloc,
+        alloc: places.alloc,
         version: places.version,
         since: now(rt),
     };
     let mut doors = TwoDoors {
         clock: rt,
-        alloc,
+        alloc: places.alloc,
         requests: &requests,
         lines: &lines,
         hosts: places.hosts,
+        log,
         talk: None,
         line_was_last: false,
     };

@@ -53,6 +53,11 @@ impl Talk {
         self.peer.descriptor()
     }
 
+    /// A part of a line has come that isn't answered.
+    pub fn has_begun(&self) -> bool {
+        !self.unread.is_empty()
+    }
+
     /// What was read of it may begin with a whole line, so that one need not wait for it.
     pub fn has_line(&self) -> bool {
         self.has_line

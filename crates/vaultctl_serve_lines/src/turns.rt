@@ -1,22 +1,25 @@
 //! Turns at two doors: one request or one line after another.
-ghost use Rattle.std.specs.Prelude.{◌≡◌, ◌≢◌, Ok};
+ghost use Rattle.std.specs.Prelude.{◌≡◌, ◌≢◌, ℕ, Ok, Option};
 ghost use Rattle.vault_base.specs.Days.{moment_at};
 ghost use Rattle.vault_core_model.specs.Step.{Reached};
 ghost use Rattle.vault_http.specs.Left.{AtMostOne, LeavesNoLess};
-ghost use Rattle.vaultctl_serve.specs.Serving.{ReportsOnce, Stepped};
+ghost use Rattle.vaultctl_serve.specs.Account.{IsAccounted, IsLineAccounted};
+ghost use Rattle.vaultctl_serve.specs.Serving.{ReadsAs, ReportsOnce, Stepped};
 ghost use Rattle.vaultctl_serve_lines_answers.specs.Closing.{IsEnded, MayEnd};
-ghost use Rattle.vaultctl_serve_lines.specs.Doors.{most_of, SteppedWithin, turn_after};
+ghost use Rattle.vaultctl_serve_lines.specs.Doors.{line_trouble, most_of, SteppedWithin, StepsAt, turn_after};
 
 use crate::doors::{Arrived, Doors};
-use std::time::{Clock, Instant};
+use std::time::{Clock, Duration, Instant};
 use vault_core_model::keeper::Keeper;
+use vaultctl_log::entry::Trouble;
 use vaultctl_replay::ReplayFault;
 use vaultctl_serve::inbound::TimedPeer;
 use vaultctl_serve::lingering::linger;
+use vaultctl_serve::noted::{Noted, NotedAnswer};
 use vaultctl_serve::peer::Peer;
 use vaultctl_serve::reporter::Reporter;
-use vaultctl_serve::serve_connection;
 use vaultctl_serve::timed::TimedAnswer;
+use vaultctl_serve::{serve_connection, trouble_of};
 use vaultctl_serve_lines_answers::heard::Heard;
 use vaultctl_serve_lines_answers::line::{Next, serve_line};
 use vaultctl_serve_lines_answers::service::Service;
@@ -32,7 +35,14 @@ pub enum Turn {
     End,
 }
 
-/// Answers a line on its connection.
+/// How a line was answered, and what went by as it was.
+#[derive(Drop)]
+struct Answering {
+    answered: Result<Next, ReplayFault>,
+    noted: Noted,
+}
+
+/// Answers a line on its connection, and notes what is written.
 ///
 /// The faults are those of `serve_line`; and `Read` comes where the clock can't say how long one waits for the client.
 /// Then nothing was carried out.
@@ -43,17 +53,27 @@ fn answer_talker<C: Clock, P: Peer, K: Keeper>(
     heard: &Heard,
     keeper: &mut K,
     reading: i64,
-) -> Result<Next, ReplayFault>
+) -> Answering
     ensures once { K.is_honest keeper.new → AtMostOne (moment_at reading) (K.vault keeper.old) (K.vault keeper.new) }
-    ensures end { result ≡ Ok Next.End → K.is_honest keeper.new → MayEnd (K.vault keeper.new) (moment_at reading) heard.now.bytes.items }
+    ensures end { result.answered ≡ Ok Next.End → K.is_honest keeper.new → MayEnd (K.vault keeper.new) (moment_at reading) heard.now.bytes.items }
     ensures leaves { LeavesNoLess K.Kept keeper.old keeper.new }
 {
+    let mut noted = Noted::new(service.alloc);
     let Ok(since) = Instant::now(clock) else {
-        return Err(ReplayFault::Read);
+        return Answering {
+            answered: Err(ReplayFault::Read),
+            noted,
+        };
     };
     let peer = talker;
-    let mut writer = TimedAnswer::new(TimedPeer { clock, peer, since });
-    serve_line(service, heard, &mut writer, keeper, reading)
+    let mut writer = NotedAnswer {
+        writer: TimedAnswer::new(TimedPeer { clock, peer, since }),
+        seen: noted.take_answered(),
+    };
+    let answered = serve_line(service, heard, &mut writer, keeper, reading);
+    noted.took = since.elapsed(clock).unwrap_or(Duration::ZERO);
+    noted.answered = writer.seen;
+    Answering { answered, noted }
 }
 
 /// Keeps the connection of a line that was answered, where more lines may come on it; else closes it, at once where its
@@ -86,6 +106,70 @@ fn turn_of(answered: Result<Next, ReplayFault>) -> Turn
     }
 }
 
+/// What kept a line from its end that was answered so.
+fn trouble_in(answered: Result<Next, ReplayFault>) -> Option<Trouble>
+    ensures { result ≡ line_trouble answered }
+{
+    match answered {
+        Ok(_) => None,
+        Err(ReplayFault::Read) => Some(Trouble::Late),
+        Err(ReplayFault::Write) => Some(Trouble::Untaken),
+        Err(ReplayFault::Memory) => Some(Trouble::Memory),
+    }
+}
+
+/// Serves a request, at the clock's reading as it is taken. What became of it is logged.
+fn serve_request<C: Clock, D: Doors, K: Keeper>(
+    clock: &C,
+    service: &Service,
+    doors: &mut D,
+    peer: &D::Request,
+    keeper: &mut K,
+)
+    ensures tries { D.tries doors.new ≡ D.tries doors.old }
+    ensures timely { K.is_honest keeper.new → StepsAt (D.tries doors.old) (D.shown doors.old) (K.vault keeper.old) (K.vault keeper.new) }
+    // What is logged is what happened: the moment, and that nothing was carried out of what came late.
+    ensures logged { K.is_honest keeper.new → (moment : Option ℕ) × ReadsAs (D.tries doors.old) (D.shown doors.old) moment
+        × IsAccounted D.logs doors.old doors.new moment (K.vault keeper.old) (K.vault keeper.new) }
+    ensures leaves { LeavesNoLess K.Kept keeper.old keeper.new }
+{
+    let reading = doors.reading();
+    let mut noted = Noted::new(service.alloc);
+    // A fault of the connection is its own.
+    let served = serve_connection(clock, &mut noted, peer, keeper, reading, doors.hosts());
+    doors.log(&noted.request(reading, trouble_of(served)));
+}
+
+/// Answers a line, at the clock's reading as it is taken. What became of it is logged.
+///
+/// The faults are those of `answer_talker`.
+fn answer_heard<C: Clock, D: Doors, K: Keeper>(
+    clock: &C,
+    service: &Service,
+    doors: &mut D,
+    talker: &D::Talker,
+    heard: &Heard,
+    keeper: &mut K,
+) -> Result<Next, ReplayFault>
+    ensures tries { D.tries doors.new ≡ D.tries doors.old }
+    ensures timely { K.is_honest keeper.new → StepsAt (D.tries doors.old) (D.shown doors.old) (K.vault keeper.old) (K.vault keeper.new) }
+    ensures end { result ≡ Ok Next.End → K.is_honest keeper.new → IsEnded (K.vault keeper.new) }
+    // What is logged is what happened: the line, the moment.
+    ensures logged { K.is_honest keeper.new → (moment : Option ℕ) × ReadsAs (D.tries doors.old) (D.shown doors.old) moment
+        × IsLineAccounted D.logs doors.old doors.new moment heard.now.bytes.items (K.vault keeper.old) (K.vault keeper.new) }
+    ensures leaves { LeavesNoLess K.Kept keeper.old keeper.new }
+{
+    let reading = doors.reading();
+    let answering = answer_talker(clock, service, talker, heard, keeper, reading);
+    let trouble = trouble_in(answering.answered);
+    doors.log(
+        &answering
+            .noted
+            .line(heard.bytes.as_slice(), reading, trouble),
+    );
+    answering.answered
+}
+
 /// One turn: waits for what comes, and serves a request or a line, at the clock's reading as it is taken.
 fn serve_turn<C: Clock, D: Doors, K: Keeper>(
     clock: &C,
@@ -99,14 +183,11 @@ fn serve_turn<C: Clock, D: Doors, K: Keeper>(
 {
     match doors.next() {
         Arrived::Request(peer) => {
-            let reading = doors.reading();
-            // A fault of the connection is its own.
-            let _ = serve_connection(clock, service.alloc, &peer, keeper, reading, doors.hosts());
+            serve_request(clock, service, doors, &peer, keeper);
             Turn::Taken
         }
         Arrived::Line(heard, talker) => {
-            let reading = doors.reading();
-            let answered = answer_talker(clock, service, &talker, &heard, keeper, reading);
+            let answered = answer_heard(clock, service, doors, &talker, &heard, keeper);
             part(clock, doors, talker, heard.is_ended, answered);
             turn_of(answered)
         }

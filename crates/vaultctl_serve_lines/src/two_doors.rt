@@ -1,5 +1,6 @@
 //! Two doors of one server, for which one thread waits: requests at a port, lines at another or at a path.
 ghost use Rattle.std.specs.Prelude.{None};
+ghost use Rattle.vaultctl_log.specs.Logging.{IsLogged};
 
 use crate::doors::{Arrived, Doors};
 use crate::line_door::LineListener;
@@ -7,13 +8,16 @@ use crate::talk::Talk;
 use libc::net::{POLLIN, poll};
 use libc::types::pollfd;
 use std::alloc::Global;
+use std::io::Write;
 use std::net::{TcpListener, TcpStream};
 use std::os::fd::AsRawFd;
 use std::time::{Clock, Duration, Instant};
 use std::{io, thread};
 use vault_http::Hosts;
+use vaultctl_log::entry::{Door, Entry, Trouble, log_entry};
 use vaultctl_serve::clock;
 use vaultctl_serve::deadline::{BETWEEN_TRIES, HEAD};
+use vaultctl_serve::noted::nothing;
 use vaultctl_serve_lines_answers::heard::Heard;
 
 /// Milliseconds for which a connection of lines may be silent between two lines where no other waits.
@@ -21,7 +25,7 @@ const SILENT: u64 = 60_000;
 
 /// Two doors of one server. Of the door of lines one connection is open at a time.
 #[derive(Drop)]
-pub struct TwoDoors<'a, C: Clock> {
+pub struct TwoDoors<'a, C: Clock, W: Write + Drop> {
     /// The clock that is read.
     pub clock: &'a C,
     /// Where what is read is kept.
@@ -32,6 +36,8 @@ pub struct TwoDoors<'a, C: Clock> {
     pub lines: &'a LineListener,
     /// The hosts that requests may be for.
     pub hosts: &'a Hosts,
+    /// Who gets a line of what becomes of each request and each line; none where nothing is logged.
+    pub log: Option<W>,
     /// The connection of lines that is open.
     pub talk: Option<Talk>,
     /// A line came last, so that a request that waits goes before the next one.
@@ -71,7 +77,16 @@ fn silence(another: bool) -> Duration {
     Duration::from_millis(if another { HEAD } else { SILENT })
 }
 
-impl<C: Clock> TwoDoors<'_, C> {
+/// What the trouble was with a connection of lines on which nothing more is read; none where it came to its end.
+fn trouble_in(kind: io::ErrorKind) -> Option<Trouble> {
+    match kind {
+        io::ErrorKind::UnexpectedEof => None,
+        io::ErrorKind::OutOfMemory => Some(Trouble::Memory),
+        _ => Some(Trouble::Late),
+    }
+}
+
+impl<C: Clock, W: Write + Drop> TwoDoors<'_, C, W> {
     /// Whether a connection of lines waits that isn't open yet.
     fn another_waits(&self) -> bool {
         let mut found = [waited_for(self.lines.descriptor())];
@@ -121,6 +136,18 @@ impl<C: Clock> TwoDoors<'_, C> {
         Ok(ready)
     }
 
+    /// Logs what kept a connection or a line from being taken.
+    fn log_trouble(&mut self, door: Door, trouble: Trouble) {
+        let reading = clock::reading(self.clock);
+        log_entry(self.alloc, &mut self.log, &nothing(door, reading, trouble));
+    }
+
+    /// Waits a little after a connection that can't be taken, so that a fault that lasts doesn't keep the machine busy.
+    fn miss(&mut self, door: Door) {
+        self.log_trouble(door, Trouble::Connection);
+        thread::sleep(self.clock, Duration::from_millis(BETWEEN_TRIES));
+    }
+
     /// Opens the connection of lines that waits, where none is open. After one that can't be taken it waits a little,
     /// so that a fault that lasts doesn't keep the machine busy.
     fn open(&mut self) {
@@ -129,7 +156,7 @@ impl<C: Clock> TwoDoors<'_, C> {
         };
         match self.lines.accept() {
             Ok(peer) => self.talk = Some(Talk::new(self.alloc, peer, since)),
-            Err(_) => thread::sleep(self.clock, Duration::from_millis(BETWEEN_TRIES)),
+            Err(_) => self.miss(Door::Lines),
         }
     }
 
@@ -140,7 +167,15 @@ impl<C: Clock> TwoDoors<'_, C> {
             None => false,
         };
         if is_late {
+            self.log_late();
             self.talk = None;
+        }
+    }
+
+    /// Logs that the line at hand is late, where one was begun: a connection may be silent between two lines.
+    fn log_late(&mut self) {
+        if self.talk.as_ref().map_or(false, |open| open.has_begun()) {
+            self.log_trouble(Door::Lines, Trouble::Late);
         }
     }
 
@@ -158,7 +193,7 @@ impl<C: Clock> TwoDoors<'_, C> {
         match self.requests.accept() {
             Ok((peer, _)) => Some(peer),
             Err(_) => {
-                thread::sleep(self.clock, Duration::from_millis(BETWEEN_TRIES));
+                self.miss(Door::Requests);
                 None
             }
         }
@@ -175,12 +210,17 @@ impl<C: Clock> TwoDoors<'_, C> {
                 self.talk = Some(open);
                 None
             }
-            Err(_) => None,
+            Err(fault) => {
+                if let Some(trouble) = trouble_in(fault.kind()) {
+                    self.log_trouble(Door::Lines, trouble);
+                }
+                None
+            }
         }
     }
 }
 
-impl<C: Clock> Doors for TwoDoors<'_, C> {
+impl<C: Clock, W: Write + Drop> Doors for TwoDoors<'_, C, W> {
     type Request = TcpStream;
 
     type Talker = Talk;
@@ -188,6 +228,8 @@ impl<C: Clock> Doors for TwoDoors<'_, C> {
     ghost tries = { λ _. None };
 
     ghost shown = { λ _. None };
+
+    ghost logs = { λ before facts asked answered after. IsLogged W.contents before.log facts asked answered after.log };
 
     fn next(&mut self) -> Arrived<TcpStream, Talk> {
         let Ok(ready) = self.wait_counting() else {
@@ -220,6 +262,10 @@ impl<C: Clock> Doors for TwoDoors<'_, C> {
 
     fn hosts(&self) -> &Hosts {
         self.hosts
+    }
+
+    fn log(&mut self, entry: &Entry<'_>) {
+        log_entry(self.alloc, &mut self.log, entry);
     }
 
     fn keep(&mut self, talker: Talk) {

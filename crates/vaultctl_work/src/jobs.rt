@@ -1,5 +1,5 @@
 //! A register, a script, and requests.
-ghost use Rattle.std.specs.Prelude.{◌≡◌, ⊤, IfOk, OnOk};
+ghost use Rattle.std.specs.Prelude.{◌≡◌, ⊤, IfOk, is_some, OnOk};
 ghost use Rattle.vaultctl_serve.specs.Serving.{Stepped};
 ghost use Rattle.vaultctl_work.specs.Done.{IsAnswered, IsServed, most_with_lines as served_with_lines};
 ghost use Rattle.vaultctl_work.specs.Outcomes as spec;
@@ -149,6 +149,13 @@ fn hosts_of(alloc: Global, names: &[Word]) -> Result<Hosts, AllocError>
     Ok(hosts)
 }
 
+/// Standard error, where a log is asked for.
+fn log_of(rt: &HostRuntime, job: &ServeJob) -> Option<Stderr>
+    ensures { is_some result ≡ job.now.log }
+{
+    if job.log { Some(rt.stderr()) } else { None }
+}
+
 /// Serves at two doors, that of lines being at this place, requests for these hosts. Where nobody can listen for lines,
 /// it says so in words.
 ///
@@ -177,15 +184,10 @@ fn serve_both<K: Keeper, E: Write>(
         lines,
         hosts,
         version: VERSION,
+        alloc: rt.alloc(),
     };
-    let ended = serve_with_lines(
-        rt,
-        rt.alloc(),
-        keeper,
-        places,
-        most_with_lines(job.count),
-        err,
-    );
+    let most = most_with_lines(job.count);
+    let ended = serve_with_lines(rt, keeper, places, most, err, log_of(rt, job));
     if let Err(fault) = ended {
         say_door(err, fault);
     }
@@ -222,8 +224,9 @@ impl Work for ServeJob {
                     file: self.file.as_str(),
                     port: self.port,
                     hosts: &hosts,
+                    alloc,
                 };
-                served(serve(rt, alloc, keeper, place, self.count, err))
+                served(serve(rt, keeper, place, self.count, err, log_of(rt, self)))
             }
         }
     }

@@ -117,6 +117,7 @@ const SERVE: Subcommand = Subcommand {
         Argument::Count,
         Argument::Lines,
         Argument::Host,
+        Argument::Log,
     ],
 };
 

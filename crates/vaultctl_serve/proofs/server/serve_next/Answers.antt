@@ -1,16 +1,19 @@
-use Rattle.std.proofs.Common.{◌≡◌, ℤ, FitsSigned, rules, subst, to_z, to_z-of_z, of_z, w64}
+use Rattle.std.proofs.Common.{◌≡◌, ℤ, Option, List, FitsSigned, rules, subst, sym, to_z, to_z-of_z, of_z, w64}
 use Rattle.vault_base.specs.Days.{moment_at}
 use Rattle.vault_http.specs.Left.{AtMostOne}
+use Rattle.vaultctl_serve.specs.Serving.{SteppedOnTime, Try}
 use Rattle.vaultctl_serve.proofs.ServingLemmas.{OnTime-taken}
 use Rattle.vaultctl_serve.proofs.server.serve_next.Goals as goal
 
--- the reading is what the clock shows as the connection was taken
+-- the reading is what the clock shows as the connection was taken, and what is logged changes nothing of what comes
 pub returns-in-Ok-clause-timely : goal.returns-in-Ok-clause-timely
 returns-in-Ok-clause-timely g c =
     let reading = c.reading-reading.result in
+    let before = g.A.Arrivals.tries c.args.arrivals.now in
     let old = g.K.Kept.vault c.args.keeper.now in
-    let new = g.K.Kept.vault c.serve_connection.new.keeper in
+    let new = g.K.Kept.vault c.serve_taken.new.keeper in
     let fits : FitsSigned w64 reading = search rules in
     let same : to_z w64 (of_z w64 reading) ≡ reading = to_z-of_z fits in
     let P : ℤ → Type 0 = λ z. AtMostOne (moment_at z) old new in
-    λ h. OnTime-taken (g.A.Arrivals.tries c.args.arrivals.now) (g.A.Arrivals.tries c.take.new.self) (g.A.Arrivals.shown c.take.new.self) (moment_at reading) old new c.in-Ok.ensures c.reading-reading.ensures (subst P same (c.serve_connection.ensures.once h))
+    let Q : Option (List Try) → Type 0 = λ after. SteppedOnTime 1 before after old new in
+    λ h. subst Q (sym c.serve_taken.ensures.tries) (OnTime-taken before (g.A.Arrivals.tries c.take.new.self) (g.A.Arrivals.shown c.take.new.self) (moment_at reading) old new c.in-Ok.ensures c.reading-reading.ensures (subst P same (c.serve_taken.ensures.once h)))

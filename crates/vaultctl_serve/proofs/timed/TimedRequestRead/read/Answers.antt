@@ -11,4 +11,4 @@ returns-clause-bytes g c =
     let by = g.I.Inbound.time c.passed.new.self + as_nanos c.in_ok-left.left in
     let within : IsSome old → by ≤ allowed c.args.self.now.scan = λ known. let passed = c.in_ok-passed.ensures.value known in let left = c.in_ok-left.ensures.left.1 in let all = c.allowed.ensures in omega arith in
     read-in_time _ (g.I.Inbound.coming c.passed.new.self) old (g.I.Inbound.coming c.read_within.new.self) c.args.self.now.scan c.after-self.result by c.in_ok-count.count c.read_within.new.buf
-    c.passed.ensures.same c.after-self.ensures within c.in_ok-count.ensures.bytes
+    c.passed.ensures.coming c.after-self.ensures within c.in_ok-count.ensures.bytes

@@ -1,0 +1,6 @@
+pub mod Answered
+pub mod Asked
+pub mod Line
+pub mod Logging
+pub mod Members
+pub mod Noting

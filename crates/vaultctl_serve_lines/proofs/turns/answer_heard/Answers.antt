@@ -1,0 +1,34 @@
+use Rattle.std.proofs.Common.{◌≡◌, ℤ, FitsSigned, rules, subst, to_z, to_z-of_z, of_z, w64}
+use Rattle.vault_base.specs.Days.{moment_at}
+use Rattle.vault_http.specs.Left.{AtMostOne}
+use Rattle.vaultctl_serve_lines.proofs.turns.answer_heard.Goals as goal
+
+-- the reading is what the clock shows
+pub returns-clause-timely : goal.returns-clause-timely
+returns-clause-timely g c =
+    let reading = c.reading-reading.result in
+    let old = g.K.Kept.vault c.args.keeper.now in
+    let new = g.K.Kept.vault c.answer_talker-answering.new.keeper in
+    let fits : FitsSigned w64 reading = search rules in
+    let same : to_z w64 (of_z w64 reading) ≡ reading = to_z-of_z fits in
+    let P : ℤ → Type 0 = λ z. AtMostOne (moment_at z) old new in
+    λ h. (moment_at reading, c.reading-reading.ensures, subst P same (c.answer_talker-answering.ensures.once h))
+
+-- what is heard is the entry of the line that was answered
+pub returns-clause-logged : goal.returns-clause-logged
+returns-clause-logged g c =
+    let reading = c.reading-reading.result in
+    let old = g.K.Kept.vault c.args.keeper.now in
+    let new = g.K.Kept.vault c.answer_talker-answering.new.keeper in
+    let fits : FitsSigned w64 reading = search rules in
+    let same : to_z w64 (of_z w64 reading) ≡ reading = to_z-of_z fits in
+    let P : ℤ → Type 0 = λ z. AtMostOne (moment_at z) old new in
+    let entry = c.line.result in
+    λ h. (
+      moment_at reading,
+      c.reading-reading.ensures,
+      entry.facts,
+      entry.answered.now,
+      rw c.line.ensures.bytes.0 at c.log.ensures.logs,
+      (rw same at c.line.ensures.moment, subst P same (c.answer_talker-answering.ensures.once h)),
+    )

@@ -1,0 +1,37 @@
+use Rattle.std.proofs.Common.{◌≡◌, ◌∙◌, ℤ, FitsSigned, rules, subst, sym, to_z, to_z-of_z, of_z, w64}
+use Rattle.vault_base.specs.Days.{moment_at}
+use Rattle.vault_http.specs.Left.{AtMostOne}
+use Rattle.vaultctl_serve.proofs.AccountLemmas.{late-unread}
+use Rattle.vaultctl_serve_lines.proofs.turns.serve_request.Goals as goal
+
+-- the reading is what the clock shows
+pub returns-clause-timely : goal.returns-clause-timely
+returns-clause-timely g c =
+    let reading = c.reading-reading.result in
+    let old = g.K.Kept.vault c.args.keeper.now in
+    let new = g.K.Kept.vault c.serve_connection-served.new.keeper in
+    let fits : FitsSigned w64 reading = search rules in
+    let same : to_z w64 (of_z w64 reading) ≡ reading = to_z-of_z fits in
+    let P : ℤ → Type 0 = λ z. AtMostOne (moment_at z) old new in
+    λ h. (moment_at reading, c.reading-reading.ensures, subst P same (c.serve_connection-served.ensures.once h))
+
+-- what is heard is the entry of the request that was served
+pub returns-clause-logged : goal.returns-clause-logged
+returns-clause-logged g c =
+    let reading = c.reading-reading.result in
+    let old = g.K.Kept.vault c.args.keeper.now in
+    let new = g.K.Kept.vault c.serve_connection-served.new.keeper in
+    let fits : FitsSigned w64 reading = search rules in
+    let same : to_z w64 (of_z w64 reading) ≡ reading = to_z-of_z fits in
+    let P : ℤ → Type 0 = λ z. AtMostOne (moment_at z) old new in
+    let entry = c.request.result in
+    λ h. (
+      moment_at reading,
+      c.reading-reading.ensures,
+      entry.facts,
+      entry.asked.now,
+      entry.answered.now,
+      c.log.ensures.logs,
+      (rw same at c.request.ensures.moment, subst P same (c.serve_connection-served.ensures.once h)),
+      λ late. c.serve_connection-served.ensures.unread (late-unread c.serve_connection-served.result (sym c.trouble_of.ensures ∙ sym c.request.ensures.trouble ∙ late)),
+    )
