@@ -14,14 +14,13 @@ ghost use Rattle.vault_files_texts.specs.Register as spec;
 ghost use Rattle.vault_io.specs.Begins.{Begins};
 
 use crate::fault::ExportFault;
+pub use crate::record::row;
 use crate::rows::RegisterRows;
 use crate::writing::{flush, write_bytes};
 use std::alloc::Global;
 use std::io::Write;
 use vault_core_model::halt::Fault;
 use vault_core_model::keeper::Keeper;
-
-pub use crate::record::row;
 
 /// The names of the columns.
 pub const HEADER: &[u8] =

@@ -10,9 +10,7 @@ use vault_store::create::fill;
 use vault_store_reads::heads::read_head;
 use vault_store_reads::meta::read_last;
 use vault_store_reads::names::{has_department, read_totals};
-use vault_store_reads::rows_in_order::reads::{
-    read_entries, read_ids, read_keys, read_newest_but,
-};
+use vault_store_reads::rows_in_order::reads::{read_entries, read_ids, read_keys, read_newest_but};
 use vault_tests_tables_stores::disks::{let_go, opened_empty};
 
 /// A department, its bucket, a key of it, and where the bucket's keys begin.
