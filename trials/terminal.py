@@ -134,18 +134,24 @@ class Openings(Case):
         """Words in front of a program of which one read of that file takes long."""
         return ["strace", "-qq", "-o", "/dev/null", "-P", f"{self.folder}/{file}", "-e", "trace=pread64", "-e", SLOW_READ]
 
+    def shows_it(self, file: str, *words: str) -> str:
+        """What the program prints on standard output. Fails unless a terminal is shown the opening of that file: a line
+        at least, and no more lines than seconds went by."""
+        began = time.monotonic()
+        said, printed = on_terminal(words, self.folder, front=self.slowly(file))
+        seconds, lines = time.monotonic() - began, said.splitlines()
+        self.assertEqual(but_openings(said), [], words)
+        self.assertTrue(1 <= len(lines) <= seconds, f"{words}: in {seconds} seconds there are {lines}")
+        return printed
+
     def test_slow_read(self) -> None:
         for words in (["verify", "it.vault"], ["report", "it.vault", "records", "--as", "ann"]):
-            front = self.slowly("it.vault")
-            said, printed = on_terminal(words, self.folder, front=front)
-            self.assertEqual([bool(OPENING.fullmatch(it)) for it in said.splitlines()], [True], said)
-            self.assertEqual(self.ran(*words, front=front), Ran(0, printed, ""), f"{words[0]} into a pipe")
+            printed = self.shows_it("it.vault", *words)
+            self.assertEqual(self.ran(*words, front=self.slowly("it.vault")), Ran(0, printed, ""), words)
             self.assertTrue(printed, f"{words[0]} prints nothing")
 
     def test_migrate(self) -> None:
-        said, printed = on_terminal(["migrate", "earlier.vault", "new"], self.folder, front=self.slowly("earlier.vault"))
-        self.assertEqual([bool(OPENING.fullmatch(it)) for it in said.splitlines()], [True], said)
-        self.assertEqual(printed, "migrated\n")
+        self.assertEqual(self.shows_it("earlier.vault", "migrate", "earlier.vault", "new"), "migrated\n")
 
     def test_once_it_is_open(self) -> None:
         """A server has its vault open: what it reads then is no opening, however late that is."""
@@ -153,17 +159,18 @@ class Openings(Case):
         with serving("it.vault", "--count", str(MANY), folder=self.folder) as port:
             for key, content in contents.items():
                 asked(port, key, content)
-        ours, theirs = pty.openpty()
-        port = free_port()
+        (ours, theirs), port, said = pty.openpty(), free_port(), b""
         words = ["serve", "it.vault", str(port), "--count", str(MANY)]
         with subprocess.Popen([PROGRAM, *words], cwd=self.folder, stderr=theirs) as server:
             os.close(theirs)
-            said = os.read(ours, 4096)
+            for part in rest_of(ours):
+                said += part
+                if b"serving" in said and said.endswith(b"\n"):
+                    break
             time.sleep(PAUSE)
             for key, content in contents.items():
                 self.assertEqual(asked(port, key), content)
-            said += b"".join(rest_of(ours))
+            rest = b"".join(rest_of(ours))
         os.close(ours)
-        self.assertEqual(server.returncode, 0)
-        self.assertEqual(but_openings(said.decode().partition("serving")[0]), [])
-        self.assertEqual(said.decode().partition("serving")[2].splitlines(), [f" it.vault at {HOST}:{port}"])
+        self.assertEqual((server.returncode, rest), (0, b""))
+        self.assertEqual(but_openings(said.decode()), [f"serving it.vault at {HOST}:{port}"])
