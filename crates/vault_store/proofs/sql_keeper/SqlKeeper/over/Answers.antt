@@ -10,6 +10,7 @@ pub invariant_of-result : goal.invariant_of-result
 invariant_of-result g c = record {
   settled = c.requires.settled;
   sure = λ _ clean. (c.requires.sound clean).is_open;
+  knows = ∣ (λ clean. c.new-known.ensures _) ∣₁;
   kept = ∣ (λ clean.
       let it = c.requires.sound clean in
       let same = ap (after (noted_vault g.S.Store c.remember-opening.result.at.items c.remember-opening.result.known)) c.new-made.ensures ∙ c.remember-opening.ensures clean it.sound.0 it.sound.1 in
