@@ -31,7 +31,12 @@ fn ask_meta<S: Alter>(conn: &mut Connection<S>, known: &mut Known) -> Result<Met
     ensures memory { WantsMemoryIfErr S.Store conn.old conn.new result }
 {
     let meta = read_meta(conn)?;
-    known.note_meta(meta);
+    known.note_meta(MetaRow {
+        schema: meta.schema,
+        last: meta.last,
+        next: meta.next,
+        moves: meta.moves,
+    });
     Ok(meta)
 }
 
@@ -147,7 +152,8 @@ fn ask_held<S: Alter>(
     alloc: Global,
     name: &BucketName,
 ) -> Result<(u64, u64), Error>
-    ensures value { HasCleanDisk (state S.Store conn.new) → IfOk result (λ held. (v : Vault) → Keeps (state S.Store conn.old) v → (held.0 ≡ bucket_bytes v name.now) × (held.1 ≡ bucket_weight v name.now)) }
+    ensures value { HasCleanDisk (state S.Store conn.new) → IfOk result (λ held. (v : Vault) → Keeps (state S.Store conn.old) v
+        → (held.0 ≡ bucket_bytes v name.now) × (held.1 ≡ bucket_weight v name.now)) }
     ensures known { StaysKnown S.Store conn.old conn.new known.old known.new }
     ensures read { OnlyReads S.Store conn.old conn.new }
     ensures open { IsOpenIfOk S.Store conn.new result }

@@ -1,5 +1,5 @@
 -- What stays known of a vault after a change.
-use Rattle.std.proofs.Common.{◌≡◌, ℕ, ◌+◌, ◌≤◌, List, [], ◌∷◌, ◌++◌, length, map, Bool, true, false, Option, Some, None, IfSome, refl, sym, ap, subst, ◌∙◌, inl, arith}
+use Rattle.std.proofs.Common.{◌≡◌, ℕ, ◌+◌, ◌≤◌, List, [], ◌∷◌, Bool, true, false, Option, Some, None, IfSome, refl, sym, ap, subst, ◌∙◌, inl, arith}
 use Rattle.std.specs.Prelude.{option_map, slice_get, unwrap_or}
 use Rattle.std.proofs.lemmas.List.{length-append, length-map}
 use Rattle.sqlite_trees.specs.declared.store.Store.{Ghosts}
@@ -11,7 +11,6 @@ use Rattle.vault_tally.specs.Row.{Item, IsRowOf}
 use Rattle.vault_tally.specs.declared.row.Row.{Row as Sums}
 use Rattle.vault_core_model.specs.declared.change.Admission.{Admission}
 use Rattle.vault_core_model.specs.declared.change.Change.TheVariants as change
-use Rattle.vault_core_model.specs.declared.records.BucketConfig.{BucketConfig}
 use Rattle.vault_core_model.specs.declared.records.Removal.{Removal}
 use Rattle.vault_core_model.specs.declared.records.Setting.{Setting}
 use Rattle.vault_core_model.specs.declared.records.Tenure.{Tenure}
@@ -22,14 +21,12 @@ use Rattle.vault_core_model.specs.Totals.{IsRowFor, items_of}
 use Rattle.vault_core_model.specs.Vault.{Vault, next_id}
 use Rattle.vault_audit_model.specs.declared.rows.DepartmentRow.{DepartmentRow}
 use Rattle.vault_audit_model.specs.declared.rows.MetaRow.{MetaRow}
-use Rattle.vault_audit_model.specs.Spells.{department_in, meta_of, sums_over}
+use Rattle.vault_audit_model.specs.Spells.{meta_of, sums_over}
 use Rattle.vault_store_model.specs.Sums.{CountsIn}
 use Rattle.vault_store_model.proofs.EntryLemmas.{items_other}
 use Rattle.vault_store_model.proofs.SumLemmas.{sums_admitted}
 use Rattle.vault_store_model.proofs.TenureLemmas.{marker_admitted}
 use Rattle.vault_store_reads.specs.Quiet.{OnlyReads}
-use Rattle.vault_store_apply.specs.declared.known.Known.{Known}
-use Rattle.vault_store_apply.specs.Known.{AreKnown}
 
 -- what asks nothing of a connection
 pub survives_none : (s : State) (P : Trees → Type 0) → Survives s s P
