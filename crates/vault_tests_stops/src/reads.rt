@@ -102,11 +102,7 @@ struct Reads {
 
 /// Fails if the files are read for what the last put made known: the last moment, the next id, the bucket, and the sums of
 /// its department.
-fn read_nothing_known<K: Keeper>(
-    keeper: &mut K,
-    media: &Media,
-    names: &Names,
-) -> Result<(), Fail> {
+fn read_nothing_known<K: Keeper>(keeper: &mut K, media: &Media, names: &Names) -> Result<(), Fail> {
     let before = media.reads();
     let known = keeper.last().is_ok()
         && keeper.next_id().is_ok()

@@ -22,8 +22,8 @@ apply_change-requires-clause-known g c =
     let k = c.check_open.new.self in
     (c.in-Ok.ensures.open, λ clean w keeps. known_of_each g.S.Store k.conn _ w _ k.known clean (c.in-Ok.ensures.open clean) k.kept k.knows keeps)
 
-pub invariant_of-self : goal.invariant_of-self
-invariant_of-self g c =
+pub invariant_of-self-in-Ok-apply_change : goal.invariant_of-self-in-Ok-apply_change
+invariant_of-self-in-Ok-apply_change g c =
     let k = c.check_open.new.self in
     let noted = noted_vault g.S.Store k.opening.at.items k.opening.known in
     let more = ap (after noted) c.and-self.ensures ∙ after_push noted k.made.items c.args.at c.args.change.now in
@@ -47,8 +47,8 @@ invariant_of-self g c =
           record { sound = Sound-changed _ _ _ it.sound in_time allowed; keeps = done.0; left = done.1 });
     }
 
-pub invariant_of-self-in-Err : goal.invariant_of-self-in-Err
-invariant_of-self-in-Err g c =
+pub invariant_of-self : goal.invariant_of-self
+invariant_of-self g c =
     let k = c.check_open.new.self in
     let mine : ℕ × Change = (c.args.at, c.args.change.now) in
     record {
@@ -57,7 +57,7 @@ invariant_of-self-in-Err g c =
       knows = k.knows;
       kept = ∥∥₁_map k.kept (λ kept clean.
           let it = kept clean in
-          subst (IsKept (state g.S.Store k.conn) _) (sym c.and-self-in-Err.ensures)
+          subst (IsKept (state g.S.Store k.conn) _) (sym c.and-refused.ensures)
           record { sound = it.sound; keeps = it.keeps; left = λ trees may. found_before _ k.refused.items mine trees (it.left trees may) });
     }
 

@@ -11,7 +11,7 @@ pub invariant_of-self : goal.invariant_of-self
 invariant_of-self g c = record {
   settled = c.find_meta.ensures.read.mode c.check_open.new.self.settled;
   sure = λ _ clean. c.in-Ok.ensures.open clean;
-  knows = known_then g.S.Store _ _ _ _ _ _ c.find_meta.ensures.read.honest c.find_meta.ensures.known c.check_open.new.self.kept c.check_open.new.self.knows;
+  knows = known_then g.S.Store c.check_open.new.self.conn c.find_meta.new.conn _ _ c.check_open.new.self.known c.find_meta.new.known c.find_meta.ensures.read.honest c.find_meta.ensures.known c.check_open.new.self.kept c.check_open.new.self.knows;
   kept = read_kept g.S.Store _ _ _ _ c.find_meta.ensures.read c.in_ok-check_open.ensures.open c.check_open.new.self.kept;
 }
 
@@ -19,7 +19,7 @@ pub invariant_of-self-in-Err : goal.invariant_of-self-in-Err
 invariant_of-self-in-Err g c = record {
   settled = c.find_meta.ensures.read.mode c.check_open.new.self.settled;
   sure = λ sure. absurd (let both = sym c.blame.ensures.doubted ∙ sure in cc);
-  knows = known_then g.S.Store _ _ _ _ _ _ c.find_meta.ensures.read.honest c.find_meta.ensures.known c.check_open.new.self.kept c.check_open.new.self.knows;
+  knows = known_then g.S.Store c.check_open.new.self.conn c.find_meta.new.conn _ _ c.check_open.new.self.known c.find_meta.new.known c.find_meta.ensures.read.honest c.find_meta.ensures.known c.check_open.new.self.kept c.check_open.new.self.knows;
   kept = read_kept g.S.Store _ _ _ _ c.find_meta.ensures.read c.in_ok-check_open.ensures.open c.check_open.new.self.kept;
 }
 
