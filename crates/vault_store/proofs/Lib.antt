@@ -1,4 +1,5 @@
 pub mod KeptLemmas
+mod KnownLemmas
 mod AcknowledgedLemmas
 mod RollbackLemmas
 mod TableLemmas

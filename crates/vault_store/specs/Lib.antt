@@ -1,4 +1,5 @@
 pub mod Kept
+pub mod Knows
 pub mod Left
 pub mod VaultOf
 pub mod ReadsAs

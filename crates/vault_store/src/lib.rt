@@ -3,6 +3,7 @@
 #![tactic(auto)]
 
 mod blame;
+mod find;
 pub mod in_tables;
 mod look;
 mod migrate;

@@ -12,6 +12,7 @@ ghost use Rattle.vault_core_model.specs.Allowed.{Allows};
 ghost use Rattle.vault_core_model.specs.Change.{changed};
 ghost use Rattle.vault_core_model.specs.Halts.{is_device_given};
 ghost use Rattle.vault_core_model.specs.Leaves.{count_after};
+ghost use Rattle.vault_store_apply.specs.Known.{AreKnown};
 ghost use Rattle.vault_store_apply.specs.Left.{IsFoundIn, LeavesAlone};
 ghost use Rattle.vault_audit_model.specs.Spells.{AreSound};
 ghost use Rattle.vault_store.specs.Kept.{kept_vault, IsSettled, StandsFor};
@@ -19,6 +20,7 @@ ghost use Rattle.vault_store.specs.Left.{IsKept, LeavesOneOf};
 ghost use Rattle.vault_store.specs.Tables.{HasTablesOf};
 
 use crate::blame::Blamed;
+use crate::find::{find_bucket, find_held, find_meta, find_moves, find_sums};
 use crate::look::look;
 use crate::opening::{Opening, remember};
 use crate::shut::refuse_shut;
@@ -41,16 +43,16 @@ use vault_core_model::records::{
 use vault_rules::plan::Held;
 use vault_rules::rule_set::RuleSet;
 use vault_store_apply::apply::apply_change;
+use vault_store_apply::known::Known;
 use vault_store_create::create::fill;
 use vault_store_reads::entries::{read_content, read_entry};
 use vault_store_reads::heads::read_head;
-use vault_store_reads::meta::{read_last, read_moves, read_next_id};
-use vault_store_reads::names::{has_department, read_bucket, read_caller, read_totals};
+use vault_store_reads::names::{has_department, read_caller};
 use vault_store_reads::notes::read_note;
 use vault_store_reads::removed::walk_removed;
 use vault_store_reads::rows_in_order::reads::{
-    read_bucket_held, read_buckets, read_entries, read_ids, read_keys, read_rules, read_setting,
-    read_settings, read_tenures,
+    read_buckets, read_entries, read_ids, read_keys, read_rules, read_setting, read_settings,
+    read_tenures,
 };
 use vault_tally::row::Row;
 
@@ -68,10 +70,13 @@ pub struct SqlKeeper<S: Alter> {
     alloc: Global,
     opening: Opening<S>,
     made: Log<Moment, Change>,
+    // What was asked last, and what changes made of it.
+    known: Known,
     // The changes that were refused since the last one that was made.
     refused: Log<Moment, Change>,
     ghost settled: { conn.in_transaction ≡ false },
     ghost sure: { blamed.doubted ≡ false → HasCleanDisk (state S.Store conn) → IsTrue (state S.Store conn).is_open },
+    ghost knows: { ∥ (HasCleanDisk (state S.Store conn) → AreKnown known (kept_vault S.Store opening.at.items opening.known made.items)) ∥₁ },
     ghost kept: { ∥ (HasCleanDisk (state S.Store conn) → IsKept (state S.Store conn) (kept_vault S.Store opening.at.items opening.known made.items) refused.items) ∥₁ },
 }
 
@@ -98,6 +103,7 @@ impl<S: Alter> SqlKeeper<S> {
             alloc,
             opening,
             made,
+            known: Known::new(),
             refused,
         }
     }
@@ -117,6 +123,7 @@ impl<S: Alter> SqlKeeper<S> {
             alloc: _,
             opening: _,
             made: _,
+            known: _,
             refused: _,
         } = self;
         conn
@@ -213,8 +220,17 @@ impl<S: Alter> SqlKeeper<S> {
         ensures alone { HasCleanDisk (state S.Store self.new.conn) → OnOk result (∥ LeavesAlone (state S.Store self.new.conn) (vault_of S.Store self.new) ∥₁) }
         ensures open { HasCleanDisk (state S.Store self.new.conn) → OnOk result (IsTrue (state S.Store self.new.conn).is_open) }
     {
-        match apply_change(&mut self.conn, self.alloc, at, change) {
+        match self.check_open() {
+            Ok(()) => {}
+            Err(fault) => {
+                let refused = self.refused.and(&at, change);
+                self.refused = refused;
+                return Err(fault);
+            }
+        }
+        match apply_change(&mut self.conn, &self.known, self.alloc, at, change) {
             Ok(()) => {
+                self.known.follow(at, change);
                 self.made = self.made.and(&at, change);
                 self.refused = Log::new();
                 self.blamed.trust();
@@ -228,7 +244,7 @@ impl<S: Alter> SqlKeeper<S> {
     }
 
     /// Makes sure that the connection is open, where a failure may have shut it: no clause says what a crash
-    /// leaves after a read of a connection that is shut.
+    /// leaves after a read of a connection that is shut. After a failure nothing is known.
     ///
     /// `Memory` where the store wanted memory. `Device` where it refused for another cause.
     fn check_open(&mut self) -> Result<(), Fault>
@@ -238,10 +254,12 @@ impl<S: Alter> SqlKeeper<S> {
         ensures honest { HasCleanDisk (state S.Store self.new.conn) → HasCleanDisk (state S.Store self.old.conn) }
         ensures counted { self.new.blamed.faults ≡ count_after self.old.blamed.faults (is_device_given result) }
         ensures healthy { IsHealthy (state S.Store self.new.conn) → is_device_given result ≡ false }
+        ensures crash { Survives (state S.Store self.old.conn) (state S.Store self.new.conn) (λ _. ⊥) }
     {
         if !self.blamed.is_doubted() {
             return Ok(());
         }
+        self.known.forget();
         match refuse_shut(&mut self.conn) {
             Ok(()) => {
                 self.blamed.trust();
@@ -283,8 +301,8 @@ impl<S: Alter> Keeper for SqlKeeper<S> {
         ensures read { ReadsAs S.Store self.old self.new result }
     {
         self.check_open()?;
-        match read_last(&mut self.conn) {
-            Ok(found) => Ok(found),
+        match find_meta(&mut self.conn, &mut self.known) {
+            Ok(found) => Ok(found.last),
             Err(error) => Err(self.blamed.blame(error)),
         }
     }
@@ -294,8 +312,8 @@ impl<S: Alter> Keeper for SqlKeeper<S> {
         ensures read { ReadsAs S.Store self.old self.new result }
     {
         self.check_open()?;
-        match read_next_id(&mut self.conn) {
-            Ok(found) => Ok(found),
+        match find_meta(&mut self.conn, &mut self.known) {
+            Ok(found) => Ok(found.next),
             Err(error) => Err(self.blamed.blame(error)),
         }
     }
@@ -327,7 +345,7 @@ impl<S: Alter> Keeper for SqlKeeper<S> {
         ensures read { ReadsAs S.Store self.old self.new result }
     {
         self.check_open()?;
-        match read_bucket(&mut self.conn, name) {
+        match find_bucket(&mut self.conn, &mut self.known, name) {
             Ok(found) => Ok(found),
             Err(error) => Err(self.blamed.blame(error)),
         }
@@ -486,7 +504,7 @@ impl<S: Alter> Keeper for SqlKeeper<S> {
         ensures read { ReadsAs S.Store self.old self.new result }
     {
         self.check_open()?;
-        match read_moves(&mut self.conn) {
+        match find_moves(&mut self.conn, &self.known) {
             Ok(found) => Ok(found),
             Err(error) => Err(self.blamed.blame(error)),
         }
@@ -509,7 +527,7 @@ impl<S: Alter> Keeper for SqlKeeper<S> {
         ensures read { ReadsAs S.Store self.old self.new result }
     {
         self.check_open()?;
-        match read_bucket_held(&mut self.conn, self.alloc, bucket) {
+        match find_held(&mut self.conn, &mut self.known, self.alloc, bucket) {
             Ok(found) => Ok(found),
             Err(error) => Err(self.blamed.blame(error)),
         }
@@ -520,7 +538,7 @@ impl<S: Alter> Keeper for SqlKeeper<S> {
         ensures read { ReadsAs S.Store self.old self.new result }
     {
         self.check_open()?;
-        match read_totals(&mut self.conn, dept) {
+        match find_sums(&mut self.conn, &mut self.known, dept) {
             Ok(found) => Ok(found),
             Err(error) => Err(self.blamed.blame(error)),
         }

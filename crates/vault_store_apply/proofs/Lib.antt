@@ -6,3 +6,4 @@ pub mod RemovalLemmas
 pub mod MoveLemmas
 pub mod ChangeLemmas
 pub mod LimitLemmas
+pub mod KnownLemmas

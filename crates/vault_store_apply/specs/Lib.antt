@@ -1,4 +1,5 @@
 pub mod Applies
+pub mod Known
 pub mod Left
 pub mod Parts
 pub mod EntryParts

@@ -7,6 +7,7 @@ ghost use Rattle.vault_core_model.specs.Change.{changed};
 ghost use Rattle.vault_core_model.specs.Vault.{Vault};
 ghost use Rattle.vault_store_model.specs.Keeping.{Keeps};
 ghost use Rattle.vault_store_apply.specs.Applies.{Changes, IsChanged};
+ghost use Rattle.vault_store_apply.specs.Known.{IsKnownOf};
 ghost use Rattle.vault_store_apply.specs.Left.{IsFoundIn};
 ghost use Rattle.vault_store_reads.specs.Quiet.{IsOpenIfOk};
 ghost use Rattle.vault_store_edits.specs.Commits.{KeepsIfErr};
@@ -15,6 +16,7 @@ use crate::entries::admission::admit;
 use crate::entries::moves::move_bucket;
 use crate::entries::removal::remove;
 use crate::entries::settings::add_setting;
+use crate::known::Known;
 use crate::records::{
     add_bucket, add_caller, add_department, close_caller, set_default, set_rules,
 };
@@ -23,14 +25,16 @@ use std::alloc::Global;
 use vault_base::moment::Moment;
 use vault_core_model::change::Change;
 
-/// Makes a change, where the connection is open.
+/// Makes a change.
 fn make<S: Alter>(
     conn: &mut Connection<S>,
+    known: &Known,
     alloc: Global,
     at: Moment,
     change: &Change,
 ) -> Result<(), Error>
-    requires { conn.old.in_transaction ≡ false }
+    requires mode { conn.old.in_transaction ≡ false }
+    requires known { IsKnownOf S.Store conn.old known.now }
     ensures mode { conn.new.in_transaction ≡ false }
     ensures open { IsOpenIfOk S.Store conn.new result }
     ensures done { HasCleanDisk (state S.Store conn.new) → OnOk result (Changes (state S.Store conn.old) (state S.Store conn.new) at change.now) }
@@ -43,38 +47,28 @@ fn make<S: Alter>(
         Change::AddCaller(caller) => add_caller(conn, at, caller),
         Change::CloseCaller(name) => close_caller(conn, at, name),
         Change::AddBucket(name, dept) => add_bucket(conn, at, name, dept),
-        Change::MoveBucket(name, dept) => move_bucket(conn, alloc, at, name, dept),
+        Change::MoveBucket(name, dept) => move_bucket(conn, known, alloc, at, name, dept),
         Change::SetDefault(name, default) => set_default(conn, at, name, *default),
         Change::SetRules(name, rules) => set_rules(conn, at, name, rules),
-        Change::Admit(admission) => admit(conn, at, admission),
+        Change::Admit(admission) => admit(conn, known, at, admission),
         Change::AddSetting(id, setting) => add_setting(conn, at, *id, setting),
-        Change::Remove(id, removal) => remove(conn, at, *id, removal),
+        Change::Remove(id, removal) => remove(conn, known, at, *id, removal),
     }
 }
 
-/// Refuses a connection that a failure has shut; of any other nothing is changed.
-fn check_open<S: Alter>(conn: &mut Connection<S>) -> Result<(), Error>
-    ensures open { IsOpenIfOk S.Store conn.new result }
-    ensures same { HasCleanDisk (state S.Store conn.new) → (v : Vault) → Keeps (state S.Store conn.old) v → Keeps (state S.Store conn.new) v }
-    ensures honest { HasCleanDisk (state S.Store conn.new) → HasCleanDisk (state S.Store conn.old) }
-    ensures mode { conn.old.in_transaction ≡ false → conn.new.in_transaction ≡ false }
-    ensures survives { Survives (state S.Store conn.old) (state S.Store conn.new) (λ _. ⊥) }
-{
-    let _statement = conn.prepare("SELECT last FROM meta")?;
-    Ok(())
-}
-
-/// Makes a change at a moment, which becomes the last one; or changes nothing.
+/// Makes a change at a moment, which becomes the last one; or changes nothing. What is known isn't asked.
 ///
 /// `TooBig` where a number is 2^63 or more, which no column takes, or where a count goes beyond its bits.
 /// Want of memory is `OutOfMemory`.
 pub fn apply_change<S: Alter>(
     conn: &mut Connection<S>,
+    known: &Known,
     alloc: Global,
     at: Moment,
     change: &Change,
 ) -> Result<(), Error>
-    requires { conn.old.in_transaction ≡ false }
+    requires mode { conn.old.in_transaction ≡ false }
+    requires known { IsKnownOf S.Store conn.old known.now }
     ensures mode { conn.new.in_transaction ≡ false }
     ensures open { IsOpenIfOk S.Store conn.new result }
     // The change is made, and a crash leaves the changed vault alone.
@@ -84,7 +78,5 @@ pub fn apply_change<S: Alter>(
     // What a crash may leave, at any moment of the call: what it could leave before, or the changed vault.
     ensures crash { (v : Vault) → Keeps (state S.Store conn.old) v → v.last ≤ at → Allows v at change.now → Survives (state S.Store conn.old) (state S.Store conn.new) (IsFoundIn (changed v at change.now)) }
 {
-    // What a read of a connection that a failure has shut leaves is reported by no clause.
-    check_open(conn)?;
-    make(conn, alloc, at, change)
+    make(conn, known, alloc, at, change)
 }

@@ -7,5 +7,6 @@
 pub mod apply;
 pub mod commit;
 pub mod entries;
+pub mod known;
 pub mod parts;
 pub mod records;

@@ -18,7 +18,7 @@ use vault_audit_schema::{meta_columns, select_text};
 use vault_base::moment::Moment;
 
 /// The last moment, the next id and the number of moves.
-fn read_meta<S: Alter>(conn: &mut Connection<S>) -> Result<MetaRow, Error>
+pub fn read_meta<S: Alter>(conn: &mut Connection<S>) -> Result<MetaRow, Error>
     ensures value { HasCleanDisk (state S.Store conn.new) → IfOk result (λ meta. (v : Vault) → Keeps (state S.Store conn.old) v → meta ≡ meta_of v) }
     ensures sound { HasCleanDisk (state S.Store conn.new) → OnOk result ((v : Vault) → Keeps (state S.Store conn.old) v → Sound v) }
     ensures read { OnlyReads S.Store conn.old conn.new }

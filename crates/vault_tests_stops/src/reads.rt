@@ -1,5 +1,6 @@
 //! How often a vault's files are read for what a keeper is asked, where one page of them has room in memory: as often
-//! with many entries as with few, and for the first removed entry less often than for all.
+//! with many entries as with few, for the first removed entry less often than for all, and not at all for what a put
+//! made known.
 use sqlite::{Alter, Connection, FileStore, Files, Options, Unknown};
 use sqlite_disk::Disk;
 use std::alloc::Global;
@@ -74,10 +75,11 @@ fn remove_each<K: Keeper>(alloc: Global, keeper: &mut K) -> Result<(), Fail> {
     Ok(())
 }
 
-/// A department, its bucket, and where the bucket's keys begin.
+/// A department, one that isn't there, the first one's bucket, and where the bucket's keys begin.
 #[derive(Drop)]
 struct Names {
     dept: DeptName,
+    other: DeptName,
     bucket: BucketName,
     start: KeyPrefix,
 }
@@ -85,6 +87,7 @@ struct Names {
 fn read_names(alloc: Global) -> Result<Names, Fail> {
     Ok(Names {
         dept: DeptName::read(alloc, "records")?.ok().ok_or("a name")?,
+        other: DeptName::read(alloc, "maps")?.ok().ok_or("a name")?,
         bucket: BucketName::read(alloc, "docs")?.ok().ok_or("a name")?,
         start: KeyPrefix::read(alloc, "")?.ok().ok_or("a prefix")?,
     })
@@ -97,13 +100,29 @@ struct Reads {
     keys: u64,
 }
 
-/// The reads for a department's sums.
+/// Fails if the files are read for what the last put made known: the last moment, the next id, the bucket, and the sums of
+/// its department.
+fn read_nothing_known<K: Keeper>(keeper: &mut K, media: &Media, names: &Names) -> Result<(), Fail> {
+    let before = media.reads();
+    let known = keeper.last().is_ok()
+        && keeper.next_id().is_ok()
+        && keeper.bucket(&names.bucket).is_ok()
+        && keeper.totals(&names.dept).is_ok();
+    let reads = media.reads().saturating_sub(before);
+    if known && reads == 0 {
+        return Ok(());
+    }
+    Err(Fail::new(format_args!("{reads} reads of what is known")))
+}
+
+/// The reads for a department's sums, after those of another one were asked for, so that they aren't known.
 fn reads_of_totals<K: Keeper>(
     keeper: &mut K,
     media: &Media,
     names: &Names,
     held: u64,
 ) -> Result<u64, Fail> {
+    let _none = keeper.totals(&names.other).ok().ok_or("no sums")?;
     let before = media.reads();
     let sums = keeper.totals(&names.dept).ok().ok_or("no sums")?;
     if sums.held != held {
@@ -148,6 +167,7 @@ fn read_among_few_and_many<K: Keeper>(
     names: &Names,
 ) -> Result<(), Fail> {
     put_each(alloc, keeper, 0, FEW)?;
+    read_nothing_known(keeper, media, names)?;
     let few = reads_among(keeper, media, names, FEW)?;
     put_each(alloc, keeper, FEW, MANY)?;
     let many = reads_among(keeper, media, names, MANY)?;

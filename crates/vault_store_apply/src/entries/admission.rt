@@ -9,11 +9,13 @@ ghost use Rattle.vault_store_model.specs.Keeping.{Keeps};
 ghost use Rattle.vault_store_model.specs.Changes.{head_with};
 ghost use Rattle.vault_store_model.specs.Sums.{CountsIn};
 ghost use Rattle.vault_store_apply.specs.Applies.{Changes, IsChanged};
+ghost use Rattle.vault_store_apply.specs.Known.{IsKnownOf};
 ghost use Rattle.vault_store_reads.specs.Quiet.{IsOpenIfOk};
 ghost use Rattle.vault_store_edits.specs.Commits.{KeepsIfErr};
 
 use crate::commit::commit_part;
 use crate::entries::place::read_place;
+use crate::known::Known;
 use crate::parts::entry::NewEntry;
 use sqlite::{Alter, Connection, Error, ErrorCode};
 use vault_base::moment::Moment;
@@ -42,7 +44,7 @@ fn next_head(id: VersionId, head: Option<Head>) -> Result<Head, Error>
 }
 
 /// The sums with a version counted in that is admitted at a moment.
-fn with_version(sums: Row, size: u64, at: Moment) -> Row
+pub(crate) fn with_version(sums: Row, size: u64, at: Moment) -> Row
     ensures { CountsIn sums size (day at) result }
 {
     let mut sums = sums;
@@ -53,10 +55,12 @@ fn with_version(sums: Row, size: u64, at: Moment) -> Row
 /// Admits an entry, with its note if it came by an intake list.
 pub fn admit<S: Alter>(
     conn: &mut Connection<S>,
+    known: &Known,
     at: Moment,
     admission: &Admission,
 ) -> Result<(), Error>
-    requires { conn.old.in_transaction ≡ false }
+    requires mode { conn.old.in_transaction ≡ false }
+    requires known { IsKnownOf S.Store conn.old known.now }
     ensures mode { conn.new.in_transaction ≡ false }
     ensures open { IsOpenIfOk S.Store conn.new result }
     ensures done { HasCleanDisk (state S.Store conn.new) → OnOk result (Changes (state S.Store conn.old) (state S.Store conn.new) at (change.Admit admission.now)) }
@@ -65,7 +69,7 @@ pub fn admit<S: Alter>(
     ensures crash { (v : Vault) → Keeps (state S.Store conn.old) v → Survives (state S.Store conn.old) (state S.Store conn.new) (IsChanged (state S.Store conn.old) v at (change.Admit admission.now)) }
 {
     let entry = &admission.history.entry;
-    let place = read_place(conn, &entry.bucket, &entry.key)?;
+    let place = read_place(conn, known, &entry.bucket, &entry.key)?;
     let newest = next_head(entry.id, place.head)?;
     let sums = with_version(place.sums, entry.size, at);
     let next = u64::from(entry.id.number()) + 1;

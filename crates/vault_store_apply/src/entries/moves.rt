@@ -9,11 +9,13 @@ ghost use Rattle.vault_core_model.specs.Vault.{Vault, config_of};
 ghost use Rattle.vault_store_model.specs.Keeping.{Keeps};
 ghost use Rattle.vault_store_model.specs.Sums.{HandsOver, Receives};
 ghost use Rattle.vault_store_apply.specs.Applies.{Changes, IsChanged};
+ghost use Rattle.vault_store_apply.specs.Known.{AreKnown, IsKnownOf, IsOpen};
 ghost use Rattle.vault_store_reads.specs.Quiet.{OnlyReads, IsOpenIfOk};
 ghost use Rattle.vault_store_edits.specs.Commits.{KeepsIfErr};
 
 use crate::commit::commit_part;
-use crate::entries::place::read_config;
+use crate::entries::place::{read_config, read_sums};
+use crate::known::Known;
 use crate::parts::moves::MovedBucket;
 use sqlite::{Alter, Connection, Error, ErrorCode};
 use std::alloc::Global;
@@ -21,7 +23,6 @@ use vault_base::moment::Moment;
 use vault_base::name::{BucketName, DeptName};
 use vault_core_model::records::BucketConfig;
 use vault_store_reads::meta::read_moves;
-use vault_store_reads::names::read_totals;
 use vault_store_reads::rows_in_order::reads::read_bucket_held;
 use vault_tally::row::Row;
 
@@ -35,14 +36,47 @@ fn next_number(moves: u32) -> Result<u32, Error>
     Ok(moves + 1)
 }
 
-/// The number of the next move.
-fn find_number<S: Alter>(conn: &mut Connection<S>) -> Result<u32, Error>
-    ensures value { HasCleanDisk (state S.Store conn.new) → IfOk result (λ number. (v : Vault) → Keeps (state S.Store conn.old) v → number ≡ v.moves + 1) }
+/// How often a bucket was moved.
+fn find_moves<S: Alter>(conn: &mut Connection<S>, known: &Known) -> Result<u32, Error>
+    requires { IsOpen S.Store conn.old }
+    ensures value { HasCleanDisk (state S.Store conn.new) → IfOk result (λ moves. (v : Vault) → Keeps (state S.Store conn.old) v → AreKnown known.now v → moves ≡ v.moves) }
     ensures open { IsOpenIfOk S.Store conn.new result }
     ensures read { OnlyReads S.Store conn.old conn.new }
 {
-    let moves = read_moves(conn)?;
+    match known.moves() {
+        Some(moves) => Ok(moves),
+        None => read_moves(conn),
+    }
+}
+
+/// The number of the next move.
+fn find_number<S: Alter>(conn: &mut Connection<S>, known: &Known) -> Result<u32, Error>
+    requires { IsOpen S.Store conn.old }
+    ensures value { HasCleanDisk (state S.Store conn.new) → IfOk result (λ number. (v : Vault) → Keeps (state S.Store conn.old) v → AreKnown known.now v → number ≡ v.moves + 1) }
+    ensures open { IsOpenIfOk S.Store conn.new result }
+    ensures read { OnlyReads S.Store conn.old conn.new }
+{
+    let moves = find_moves(conn, known)?;
     next_number(moves)
+}
+
+/// The bytes and the weight of a bucket's held versions.
+fn find_held<S: Alter>(
+    conn: &mut Connection<S>,
+    known: &Known,
+    alloc: Global,
+    bucket: &BucketName,
+) -> Result<(u64, u64), Error>
+    requires { IsOpen S.Store conn.old }
+    ensures value { HasCleanDisk (state S.Store conn.new) → IfOk result (λ held. (v : Vault) → Keeps (state S.Store conn.old) v → AreKnown known.now v
+        → (held.0 ≡ bucket_bytes v bucket.now) × (held.1 ≡ bucket_weight v bucket.now)) }
+    ensures open { IsOpenIfOk S.Store conn.new result }
+    ensures read { OnlyReads S.Store conn.old conn.new }
+{
+    match known.load(bucket) {
+        Some(held) => Ok(held),
+        None => read_bucket_held(conn, alloc, bucket),
+    }
 }
 
 /// What moves: the bytes of the bucket's held versions, their weight, and the number of the move.
@@ -56,16 +90,18 @@ struct Load {
 /// Reads that.
 fn read_load<S: Alter>(
     conn: &mut Connection<S>,
+    known: &Known,
     alloc: Global,
     bucket: &BucketName,
 ) -> Result<Load, Error>
-    ensures value { HasCleanDisk (state S.Store conn.new) → IfOk result (λ load. (v : Vault) → Keeps (state S.Store conn.old) v
+    requires { IsOpen S.Store conn.old }
+    ensures value { HasCleanDisk (state S.Store conn.new) → IfOk result (λ load. (v : Vault) → Keeps (state S.Store conn.old) v → AreKnown known.now v
         → (load.bytes ≡ bucket_bytes v bucket.now) × (load.weight ≡ bucket_weight v bucket.now) × (load.number ≡ v.moves + 1)) }
     ensures open { IsOpenIfOk S.Store conn.new result }
     ensures read { OnlyReads S.Store conn.old conn.new }
 {
-    let held = read_bucket_held(conn, alloc, bucket)?;
-    let number = find_number(conn)?;
+    let held = find_held(conn, known, alloc, bucket)?;
+    let number = find_number(conn, known)?;
     Ok(Load {
         bytes: held.0,
         weight: held.1,
@@ -85,16 +121,18 @@ struct Hands {
 /// Reads that; an error where there is no such bucket.
 fn read_hands<S: Alter>(
     conn: &mut Connection<S>,
+    known: &Known,
     bucket: &BucketName,
     dept: &DeptName,
 ) -> Result<Hands, Error>
-    ensures value { HasCleanDisk (state S.Store conn.new) → IfOk result (λ hands. (v : Vault) → Keeps (state S.Store conn.old) v
+    requires { IsOpen S.Store conn.old }
+    ensures value { HasCleanDisk (state S.Store conn.new) → IfOk result (λ hands. (v : Vault) → Keeps (state S.Store conn.old) v → AreKnown known.now v
         → (Some hands.config ≡ config_of v bucket.now) × IsRowFor v hands.config.dept hands.giver × IsRowFor v dept.now hands.taker) }
     ensures read { OnlyReads S.Store conn.old conn.new }
 {
-    let config = read_config(conn, bucket)?;
-    let giver = read_totals(conn, &config.dept)?;
-    let taker = read_totals(conn, dept)?;
+    let config = read_config(conn, known, bucket)?;
+    let giver = read_sums(conn, known, &config.dept)?;
+    let taker = read_sums(conn, known, dept)?;
     Ok(Hands {
         config,
         giver,
@@ -123,12 +161,14 @@ fn with_load(sums: Row, load: Load, at: Moment) -> Row
 /// Moves a bucket to another department: its held versions get a tenure, and both departments their sums.
 pub fn move_bucket<S: Alter>(
     conn: &mut Connection<S>,
+    known: &Known,
     alloc: Global,
     at: Moment,
     name: &BucketName,
     dept: &DeptName,
 ) -> Result<(), Error>
-    requires { conn.old.in_transaction ≡ false }
+    requires mode { conn.old.in_transaction ≡ false }
+    requires known { IsKnownOf S.Store conn.old known.now }
     ensures mode { conn.new.in_transaction ≡ false }
     ensures open { IsOpenIfOk S.Store conn.new result }
     ensures done { HasCleanDisk (state S.Store conn.new) → OnOk result (Changes (state S.Store conn.old) (state S.Store conn.new) at (change.MoveBucket name.now dept.now)) }
@@ -136,8 +176,8 @@ pub fn move_bucket<S: Alter>(
     ensures honest { HasCleanDisk (state S.Store conn.new) → HasCleanDisk (state S.Store conn.old) }
     ensures crash { (v : Vault) → Keeps (state S.Store conn.old) v → Survives (state S.Store conn.old) (state S.Store conn.new) (IsChanged (state S.Store conn.old) v at (change.MoveBucket name.now dept.now)) }
 {
-    let load = read_load(conn, alloc, name)?;
-    let hands = read_hands(conn, name, dept)?;
+    let load = read_load(conn, known, alloc, name)?;
+    let hands = read_hands(conn, known, name, dept)?;
     let handed = without_load(hands.giver, load, at);
     let received = with_load(hands.taker, load, at);
     let part = MovedBucket {

@@ -9,6 +9,7 @@ ghost use Rattle.vault_core_model.specs.Vault.{Vault};
 ghost use Rattle.vault_store_model.specs.Keeping.{Keeps};
 ghost use Rattle.vault_store_model.specs.Sums.{CountsOut};
 ghost use Rattle.vault_store_apply.specs.Applies.{Changes, IsChanged};
+ghost use Rattle.vault_store_apply.specs.Known.{IsKnownOf};
 ghost use Rattle.vault_store_apply.specs.Heads.{head_without};
 ghost use Rattle.vault_store_reads.specs.Quiet.{OnlyReads, IsOpenIfOk};
 ghost use Rattle.vault_store_edits.specs.Commits.{KeepsIfErr};
@@ -16,6 +17,7 @@ ghost use Rattle.vault_store_edits.specs.Commits.{KeepsIfErr};
 use crate::commit::commit_part;
 use crate::entries::beside::read_beside;
 use crate::entries::place::read_place;
+use crate::known::Known;
 use crate::parts::entry::RemovedEntry;
 use sqlite::{Alter, Connection, Error};
 use vault_base::moment::Moment;
@@ -58,11 +60,13 @@ fn without_version(sums: Row, entry: &Entry, since: Moment, at: Moment) -> Row
 /// Removes a held entry: its bytes go, and the entry keeps the removal.
 pub fn remove<S: Alter>(
     conn: &mut Connection<S>,
+    known: &Known,
     at: Moment,
     id: VersionId,
     removal: &Removal,
 ) -> Result<(), Error>
-    requires { conn.old.in_transaction ≡ false }
+    requires mode { conn.old.in_transaction ≡ false }
+    requires known { IsKnownOf S.Store conn.old known.now }
     ensures mode { conn.new.in_transaction ≡ false }
     ensures open { IsOpenIfOk S.Store conn.new result }
     ensures done { HasCleanDisk (state S.Store conn.new) → OnOk result (Changes (state S.Store conn.old) (state S.Store conn.new) at (change.Remove id removal.now)) }
@@ -71,7 +75,7 @@ pub fn remove<S: Alter>(
     ensures crash { (v : Vault) → Keeps (state S.Store conn.old) v → Survives (state S.Store conn.old) (state S.Store conn.new) (IsChanged (state S.Store conn.old) v at (change.Remove id removal.now)) }
 {
     let entry = find_entry(conn, id)?;
-    let place = match read_place(conn, &entry.bucket, &entry.key) {
+    let place = match read_place(conn, known, &entry.bucket, &entry.key) {
         Ok(place) => place,
         Err(error) => {
             drop(entry);

@@ -4,12 +4,14 @@ use Rattle.std.specs.Coded.{Coded-set, coded_list}
 use Rattle.vault_core_model.specs.contracts.records.Setting as setting
 use Rattle.vault_core_model.specs.Halts.{is_device_fault}
 use Rattle.vault_store.proofs.KeptLemmas.{no_failure, read_kept}
+use Rattle.vault_store.proofs.KnownLemmas.{known_still}
 use Rattle.vault_store.proofs.sql_keeper.SqlKeeperKeeper.settings.Goals as goal
 
 pub invariant_of-self : goal.invariant_of-self
 invariant_of-self g c = record {
   settled = c.read_settings.ensures.read.mode c.check_open.new.self.settled;
   sure = λ _ clean. c.in-Ok.ensures.open clean;
+  knows = known_still c.read_settings.ensures.read.honest c.check_open.new.self.knows;
   kept = read_kept g.S.Store _ _ _ _ c.read_settings.ensures.read c.in_ok-check_open.ensures.open c.check_open.new.self.kept;
 }
 
@@ -17,6 +19,7 @@ pub invariant_of-self-in-Err : goal.invariant_of-self-in-Err
 invariant_of-self-in-Err g c = record {
   settled = c.read_settings.ensures.read.mode c.check_open.new.self.settled;
   sure = λ sure. absurd (let both = sym c.blame.ensures.doubted ∙ sure in cc);
+  knows = known_still c.read_settings.ensures.read.honest c.check_open.new.self.knows;
   kept = read_kept g.S.Store _ _ _ _ c.read_settings.ensures.read c.in_ok-check_open.ensures.open c.check_open.new.self.kept;
 }
 

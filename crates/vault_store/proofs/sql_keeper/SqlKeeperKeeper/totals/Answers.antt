@@ -3,24 +3,27 @@ use Rattle.std.proofs.Math.Logic.{∥∥₁_elim}
 use Rattle.vault_core_laws.proofs.SoundProp.{IsRowOf-prop}
 use Rattle.vault_core_model.specs.Halts.{is_device_fault}
 use Rattle.vault_store.proofs.KeptLemmas.{no_failure, read_kept}
+use Rattle.vault_store.proofs.KnownLemmas.{known_then}
 use Rattle.vault_store.proofs.sql_keeper.SqlKeeperKeeper.totals.Goals as goal
 
 pub invariant_of-self : goal.invariant_of-self
 invariant_of-self g c = record {
-  settled = c.read_totals.ensures.read.mode c.check_open.new.self.settled;
+  settled = c.find_sums.ensures.read.mode c.check_open.new.self.settled;
   sure = λ _ clean. c.in-Ok.ensures.open clean;
-  kept = read_kept g.S.Store _ _ _ _ c.read_totals.ensures.read c.in_ok-check_open.ensures.open c.check_open.new.self.kept;
+  knows = known_then g.S.Store c.check_open.new.self.conn c.find_sums.new.conn _ _ c.check_open.new.self.known c.find_sums.new.known c.find_sums.ensures.read.honest c.find_sums.ensures.known c.check_open.new.self.kept c.check_open.new.self.knows;
+  kept = read_kept g.S.Store _ _ _ _ c.find_sums.ensures.read c.in_ok-check_open.ensures.open c.check_open.new.self.kept;
 }
 
 pub invariant_of-self-in-Err : goal.invariant_of-self-in-Err
 invariant_of-self-in-Err g c = record {
-  settled = c.read_totals.ensures.read.mode c.check_open.new.self.settled;
+  settled = c.find_sums.ensures.read.mode c.check_open.new.self.settled;
   sure = λ sure. absurd (let both = sym c.blame.ensures.doubted ∙ sure in cc);
-  kept = read_kept g.S.Store _ _ _ _ c.read_totals.ensures.read c.in_ok-check_open.ensures.open c.check_open.new.self.kept;
+  knows = known_then g.S.Store c.check_open.new.self.conn c.find_sums.new.conn _ _ c.check_open.new.self.known c.find_sums.new.known c.find_sums.ensures.read.honest c.find_sums.ensures.known c.check_open.new.self.kept c.check_open.new.self.knows;
+  kept = read_kept g.S.Store _ _ _ _ c.find_sums.ensures.read c.in_ok-check_open.ensures.open c.check_open.new.self.kept;
 }
 
 pub returns-in-Ok-clause-value : goal.returns-in-Ok-clause-value
-returns-in-Ok-clause-value g c clean = rw c.in_ok-check_open.ensures.same at (∥∥₁_elim c.check_open.new.self.kept (IsRowOf-prop _ _) (λ kept. c.in-Ok.ensures.value clean _ (kept (c.read_totals.ensures.read.honest clean)).keeps))
+returns-in-Ok-clause-value g c clean = rw c.in_ok-check_open.ensures.same at (∥∥₁_elim c.check_open.new.self.kept (IsRowOf-prop _ _) (λ kept. ∥∥₁_elim c.check_open.new.self.knows (IsRowOf-prop _ _) (λ knows. c.in-Ok.ensures.value clean _ (kept (c.find_sums.ensures.read.honest clean)).keeps (knows (c.find_sums.ensures.read.honest clean)))))
 
 pub returns-in_err-check_open-clause-read : goal.returns-in_err-check_open-clause-read
 returns-in_err-check_open-clause-read g c = record {
@@ -35,4 +38,4 @@ pub returns-in-Ok-clause-read : goal.returns-in-Ok-clause-read
 returns-in-Ok-clause-read g c = record { leaves = search rules; healthy = λ well. refl; refused = c.in_ok-check_open.ensures.refused }
 
 pub returns-in-Err-clause-read : goal.returns-in-Err-clause-read
-returns-in-Err-clause-read g c = record { leaves = search rules; healthy = λ well. no_failure g.S.Store c.check_open.new.self.conn _ _ _ _ c.check_open.new.self.kept (c.read_totals.ensures.read.honest well.clean) (λ w keeps. c.in-Err.ensures.memory well w keeps) c.blame.ensures.reported; refused = c.in_ok-check_open.ensures.refused }
+returns-in-Err-clause-read g c = record { leaves = search rules; healthy = λ well. no_failure g.S.Store c.check_open.new.self.conn _ _ _ _ c.check_open.new.self.kept (c.find_sums.ensures.read.honest well.clean) (λ w keeps. c.in-Err.ensures.memory well w keeps) c.blame.ensures.reported; refused = c.in_ok-check_open.ensures.refused }

@@ -24,7 +24,7 @@ returns-clause-done g c clean =
     on_ok_then (Changes old new t it) c.commit_part-admitted.result (c.commit_part-admitted.ensures.done clean)
     (λ stated v was later allowed. stated.1 v it stated.0.0 (admission_in_limits v t a stated.0.0 allowed stated.0.1) (c.in_ok-place.ensures.read.same early v was) later allowed
     (λ is_open.
-    let read = c.in_ok-place.ensures.value early v was in
+    let read = c.in_ok-place.ensures.value early v was (c.requires.known.1 (c.in_ok-place.ensures.read.honest early) v was) in
     let kept = c.in_ok-place.ensures.read.same early v was is_open in
     edits_admission v t a c.in_ok-place.place.config c.in_ok-place.place.sums c.with_version-sums.result c.in_ok-place.place.head c.in_ok-newest.newest (c.from-next.result + 1)
     kept.0.spells.kept.sound later stated.0.0 allowed read.0 read.1 (λ version. c.with_version-sums.ensures) read.2 c.in_ok-newest.ensures (ap (λ n. n + 1) own)))
@@ -43,7 +43,7 @@ returns-clause-crash g c v was =
     let early : HasCleanDisk mid = omega (arith, late, c.commit_part-admitted.ensures.crash.clean) in
     stated.1 v it stated.0.0 (admission_in_limits v t a stated.0.0 allowed stated.0.1) (c.in_ok-place.ensures.read.same early v was) later allowed
     (λ is_open.
-    let read = c.in_ok-place.ensures.value early v was in
+    let read = c.in_ok-place.ensures.value early v was (c.requires.known.1 (c.in_ok-place.ensures.read.honest early) v was) in
     let kept = c.in_ok-place.ensures.read.same early v was is_open in
     edits_admission v t a c.in_ok-place.place.config c.in_ok-place.place.sums c.with_version-sums.result c.in_ok-place.place.head c.in_ok-newest.newest (c.from-next.result + 1)
     kept.0.spells.kept.sound later stated.0.0 allowed read.0 read.1 (λ version. c.with_version-sums.ensures) read.2 c.in_ok-newest.ensures (ap (λ n. n + 1) own)))

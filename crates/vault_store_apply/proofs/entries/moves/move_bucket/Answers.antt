@@ -28,8 +28,9 @@ returns-clause-done g c clean =
     let was2 = c.in_ok-hands.ensures.read.same clean2 v was1 in
     stated.1 v it stated.0.0 stated.0.1 was2 later allowed
     (λ is_open.
-    let load_is = c.in_ok-load.ensures.value clean1 v was in
-    let read = c.in_ok-hands.ensures.value clean2 v was1 in
+    let known = c.requires.known.1 (c.in_ok-load.ensures.read.honest clean1) v was in
+    let load_is = c.in_ok-load.ensures.value clean1 v was known in
+    let read = c.in_ok-hands.ensures.value clean2 v was1 known in
     edits_move v t c.args.name.now c.args.dept.now hands.config hands.giver hands.taker c.without_load-handed.result c.with_load-received.result load.bytes load.weight load.number
     (was2 is_open).0.spells.kept.sound later stated.0.0 allowed read.0 read.1 read.2 load_is.0 load_is.1 load_is.2 c.without_load-handed.ensures c.with_load-received.ensures))
 
@@ -52,8 +53,9 @@ returns-clause-crash g c v was =
     let was2 = c.in_ok-hands.ensures.read.same clean2 v was1 in
     stated.1 v it stated.0.0 stated.0.1 was2 later allowed
     (λ is_open.
-    let load_is = c.in_ok-load.ensures.value clean1 v was in
-    let read = c.in_ok-hands.ensures.value clean2 v was1 in
+    let known = c.requires.known.1 (c.in_ok-load.ensures.read.honest clean1) v was in
+    let load_is = c.in_ok-load.ensures.value clean1 v was known in
+    let read = c.in_ok-hands.ensures.value clean2 v was1 known in
     edits_move v t c.args.name.now c.args.dept.now hands.config hands.giver hands.taker c.without_load-handed.result c.with_load-received.result load.bytes load.weight load.number
     (was2 is_open).0.spells.kept.sound later stated.0.0 allowed read.0 read.1 read.2 load_is.0 load_is.1 load_is.2 c.without_load-handed.ensures c.with_load-received.ensures))
     reads c.commit_part-moved.ensures.crash

@@ -3,12 +3,12 @@ use Rattle.vault_store_apply.proofs.ReadLemmas.{keeps_now, read_then}
 use Rattle.vault_store_apply.proofs.entries.moves.read_hands.Goals as goal
 
 pub returns-clause-value : goal.returns-clause-value
-returns-clause-value g c clean v was =
+returns-clause-value g c clean v was known =
     let clean2 = c.in_ok-taker.ensures.read.honest clean in
     let clean1 = c.in_ok-giver.ensures.read.honest clean2 in
     let was1 = c.in_ok-config.ensures.read.same clean1 v was in
     let was2 = c.in_ok-giver.ensures.read.same clean2 v was1 in
-    (c.in_ok-config.ensures.value clean1 v was, c.in_ok-giver.ensures.value clean2 v was1, c.in_ok-taker.ensures.value clean v was2)
+    (c.in_ok-config.ensures.value clean1 v was known, c.in_ok-giver.ensures.value clean2 v was1 known, c.in_ok-taker.ensures.value clean v was2 known)
 
 pub returns-clause-read : goal.returns-clause-read
 returns-clause-read g c = record {
@@ -21,8 +21,8 @@ returns-clause-read g c = record {
   crash = λ v was.
       let s0 = state g.S.Store c.args.conn.now in
       let h1 = c.read_config.new.conn in
-      let h2 = c.read_totals.new.conn in
-      let s3 = state g.S.Store c.read_totals-2.new.conn in
+      let h2 = c.read_sums.new.conn in
+      let s3 = state g.S.Store c.read_sums-2.new.conn in
       let was1 = keeps_now g.S.Store h1 v (g.met.S.Store.shut_if_dirty h1.store) (λ clean. c.in_ok-config.ensures.read.same clean v was) in
       let was2 = keeps_now g.S.Store h2 v (g.met.S.Store.shut_if_dirty h2.store) (λ clean. c.in_ok-giver.ensures.read.same clean v was1) in
       let first = read_then s0 (state g.S.Store h1) (state g.S.Store h2) c.in_ok-config.ensures.open (c.in_ok-config.ensures.read.crash v was) (c.in_ok-giver.ensures.read.crash v was1) in
@@ -37,7 +37,7 @@ returns-in_err-giver-clause-read g c = record {
   crash = λ v was.
       let s0 = state g.S.Store c.args.conn.now in
       let h1 = c.read_config.new.conn in
-      let h2 = c.read_totals.new.conn in
+      let h2 = c.read_sums.new.conn in
       let was1 = keeps_now g.S.Store h1 v (g.met.S.Store.shut_if_dirty h1.store) (λ clean. c.in_ok-config.ensures.read.same clean v was) in
       read_then s0 (state g.S.Store h1) (state g.S.Store h2) c.in_ok-config.ensures.open (c.in_ok-config.ensures.read.crash v was) (c.in_err-giver.ensures.read.crash v was1);
 }
@@ -53,8 +53,8 @@ returns-in_err-taker-clause-read g c = record {
   crash = λ v was.
       let s0 = state g.S.Store c.args.conn.now in
       let h1 = c.read_config.new.conn in
-      let h2 = c.read_totals.new.conn in
-      let s3 = state g.S.Store c.read_totals-2.new.conn in
+      let h2 = c.read_sums.new.conn in
+      let s3 = state g.S.Store c.read_sums-2.new.conn in
       let was1 = keeps_now g.S.Store h1 v (g.met.S.Store.shut_if_dirty h1.store) (λ clean. c.in_ok-config.ensures.read.same clean v was) in
       let was2 = keeps_now g.S.Store h2 v (g.met.S.Store.shut_if_dirty h2.store) (λ clean. c.in_ok-giver.ensures.read.same clean v was1) in
       let first = read_then s0 (state g.S.Store h1) (state g.S.Store h2) c.in_ok-config.ensures.open (c.in_ok-config.ensures.read.crash v was) (c.in_ok-giver.ensures.read.crash v was1) in

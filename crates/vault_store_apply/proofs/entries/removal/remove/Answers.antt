@@ -28,7 +28,8 @@ returns-clause-done g c clean =
     let was3 = c.in-Ok-read_beside.ensures.read.same clean3 v was2 in
     stated.1 v it stated.0.0 (removal_in_limits v t c.args.id c.args.removal.now stated.0.0 allowed stated.0.1) was3 later allowed
     (λ is_open.
-    let read = c.in-Ok.ensures.value clean2 v was1 in
+    let known = c.requires.known.1 (c.in_ok-entry.ensures.read.honest clean1) v was in
+    let read = c.in-Ok.ensures.value clean2 v was1 known in
     let place = c.in-Ok.place in
     let beside = c.in-Ok-read_beside.beside in
     let beside_is = c.in-Ok-read_beside.ensures.value clean3 v was2 read.2 in
@@ -56,7 +57,8 @@ returns-clause-crash g c v was =
     let was3 = c.in-Ok-read_beside.ensures.read.same clean3 v was2 in
     stated.1 v it stated.0.0 (removal_in_limits v t c.args.id c.args.removal.now stated.0.0 allowed stated.0.1) was3 later allowed
     (λ is_open.
-    let read = c.in-Ok.ensures.value clean2 v was1 in
+    let known = c.requires.known.1 (c.in_ok-entry.ensures.read.honest clean1) v was in
+    let read = c.in-Ok.ensures.value clean2 v was1 known in
     let place = c.in-Ok.place in
     let beside = c.in-Ok-read_beside.beside in
     let beside_is = c.in-Ok-read_beside.ensures.value clean3 v was2 read.2 in

@@ -4,7 +4,7 @@ use Rattle.vault_core_model.specs.Vault.{Vault, config_of}
 use Rattle.vault_store_model.specs.Keeping.{Keeps}
 use Rattle.vault_store_edits.proofs.TransactionLemmas.{on_ok_here}
 use Rattle.vault_store_apply.proofs.ReadLemmas.{if_there}
-use Rattle.vault_store_apply.proofs.entries.place.read_config.Goals as goal
+use Rattle.vault_store_apply.proofs.entries.place.ask_config.Goals as goal
 
 pub returns-clause-value : goal.returns-clause-value
 returns-clause-value g c clean =
