@@ -1,9 +1,9 @@
-"""Peers: those of a server that break off, and then a request that it has to answer.
+"""Peers: those of a server that break off, and then a request or a line that it has to answer.
 
-TRIALS_PEERS peers (1,000 where nothing is said) of each kind come one after another. After each kind a version is put
-and got, and its id says how many versions were put before. At last the server has ended by itself, and `verify` says
-that the vault is sound. For a peer that is silent a request that comes after it has to wait; the silent one ends once
-that was seen.
+TRIALS_PEERS peers (1,000 where nothing is said) of each kind come one after another, to the door of requests and to that
+of lines. After each kind a version is put and got, and its id says how many versions were put before. At last the server
+has ended by itself, or by its line, and `verify` says that the vault is sound. For a peer that is silent a request that
+comes after it has to wait; the silent one ends once that was seen.
 """
 
 import contextlib
@@ -11,6 +11,7 @@ import os
 import socket
 import time
 
+from trials.door import Server, get, ok_puts, put
 from trials.program import Case, check, make_office
 from trials.servers import HOST, LIMIT, answer_to, ended, free_port, read_all, reset, started
 
@@ -91,6 +92,39 @@ def silent(port, seconds):
         check(answer.endswith(b"\r\n\r\nhello"), f"after a silent peer a get is answered {answer!r}")
 
 
+def half_a_line(port):
+    """Half a line; the peer closes, so that it is taken as a last line, and refused."""
+    with connect(port) as peer:
+        peer.sendall(put("k")[:30])
+
+
+def reset_in_a_line(port):
+    """Half a line, and a reset."""
+    peer = connect(port)
+    peer.sendall(put("k")[:30])
+    reset(peer)
+
+
+def gone_before_the_reply(port):
+    """A whole line, and the peer is gone: it is carried out all the same."""
+    with connect(port) as peer:
+        peer.sendall(put("k"))
+
+
+def no_json(port):
+    """Bytes that are no line, with an LF among them; the peer reads nothing."""
+    with connect(port) as peer:
+        with contextlib.suppress(BrokenPipeError, ConnectionResetError):
+            peer.sendall(b"\xff" * 20_000 + b"\n" + b"\xff" * 20_000)
+
+
+def reset_after_a_line(port):
+    """A whole line, and a reset. What was sent may be thrown away before it is read."""
+    peer = connect(port)
+    peer.sendall(put("k"))
+    reset(peer)
+
+
 KINDS = {
     "closed at once": closed,
     "reset at once": reset_at_once,
@@ -98,6 +132,14 @@ KINDS = {
     "half a body, then closed": half_a_body,
     "closed before the answer": gone_before_the_answer,
     "no HTTP, nothing read": no_http,
+}
+OF_LINES = {
+    "closed at once": closed,
+    "reset at once": reset_at_once,
+    "half a line, then closed": half_a_line,
+    "half a line, then reset": reset_in_a_line,
+    "closed before the reply": gone_before_the_reply,
+    "no JSON, nothing read": no_json,
 }
 
 
@@ -141,4 +183,34 @@ class Peers(Case):
             self.assertEqual(server.wait(LIMIT), 0, "the server doesn't end by itself")
         finally:
             ended(server)
+        self.is_sound("records.vault")
+
+    def look_at_door(self, server, kind):
+        """Puts a version by a line and gets it at both doors; fails where that isn't as it should be."""
+        self.puts += 1
+        replies = server.lines(put("k") + get("k"))
+        check(ok_puts(replies)[:1] == [self.puts], f"after {kind} a put and a get are answered {replies}")
+        check(b"68656c6c6f" in replies[1], f"after {kind} a get is answered {replies[1]!r}")
+        check(server.http_get("k") == b"hello", f"after {kind} a request isn't answered")
+
+    def meet_at_door(self, server):
+        lines = int(server.where)
+        for kind, come in OF_LINES.items():
+            for _ in range(COUNT):
+                come(lines)
+            # A whole line is carried out, whether its peer waits for the reply or not.
+            self.puts += COUNT if come is gone_before_the_reply else 0
+            self.look_at_door(server, kind)
+        for _ in range(COUNT):
+            reset_after_a_line(lines)
+        more = ok_puts(server.lines(put("k")))[0] - 1 - self.puts
+        check(0 <= more <= COUNT, f"of {COUNT} lines that were reset {more} were carried out")
+
+    def test_peers_of_lines(self):
+        server = Server(self.folder, str(free_port()))
+        server.start()
+        self.addCleanup(server.end)
+        self.meet_at_door(server)
+        self.assertEqual(server.lines(b'{"as":"registrar","do":"close"}\n'), [b'{"ok":{}}'])
+        self.assertEqual(server.serving.wait(LIMIT), 0, "the server doesn't end by its line")
         self.is_sound("records.vault")

@@ -1,5 +1,5 @@
 -- What is seen of a file and its log before they are opened.
-use Rattle.std.specs.Prelude.{ℕ, ◌∷◌, ◌++◌, ◌&&◌, ◌||◌, [], Bool, false, not, nat_le, List, Option, None, Some, is_some, codes, if◌then◌else◌}
+use Rattle.std.specs.Prelude.{◌≡◌, ℕ, ◌∷◌, ◌++◌, ◌&&◌, ◌||◌, [], Bool, false, true, not, nat_le, List, Option, None, Some, is_some, codes, if◌then◌else◌}
 use Rattle.vaultctl_machine_places.specs.declared.cause.Cause.{Cause}
 use Rattle.vaultctl_machine_places.specs.declared.cause.Cause.TheVariants.{LostFile, NoFile, Empty, Damaged, OtherFile, Taken}
 use Rattle.vaultctl_machine_places.specs.declared.places.Place.{Place}
@@ -32,3 +32,9 @@ why_without_tables place =
 -- why no vault is made in them
 abbrev pub why_taken : Place → Cause
 why_taken place = if place.is_free then LostFile else Taken
+
+-- no file is there, so there is none that holds something or begins well; a log may be there
+pub record IsMissing (place : Place) : Type 0 where
+  pub absent : place.is_there ≡ false
+  pub free : place.is_free ≡ true
+  pub begins : place.begins_well ≡ false

@@ -85,6 +85,8 @@ impl<'a> OpenedFiles<'a> {
 }
 
 impl Watch for OpenedFiles<'_> {
+    ghost saw = { λ _ _. Unit {0} };
+
     fn are_in_place(&self) -> bool {
         self.file.is_in_place(self.rt) && self.log.is_in_place(self.rt)
     }

@@ -1,5 +1,5 @@
 //! What stands at a path before its files are opened: so nothing is made or changed where no vault can be.
-ghost use Rattle.std.specs.Prelude.{◌≡◌, is_some, not};
+ghost use Rattle.std.specs.Prelude.{◌≡◌, IfOk, IsTrue, is_some, not};
 ghost use Rattle.std.specs.Str.{bytes_eq};
 ghost use Rattle.vaultctl_machine_places.specs.Places as spec;
 
@@ -127,7 +127,9 @@ fn log_size(rt: &HostRuntime, file: &str) -> io::Result<Option<u64>> {
 }
 
 /// What stands at a path where no file is.
-fn missing(rt: &HostRuntime, path: &str) -> io::Result<Place> {
+fn missing(rt: &HostRuntime, path: &str) -> io::Result<Place>
+    ensures { IfOk result spec.IsMissing }
+{
     let log = log_size(rt, path)?;
     Ok(Place {
         is_there: false,
@@ -138,7 +140,9 @@ fn missing(rt: &HostRuntime, path: &str) -> io::Result<Place> {
 }
 
 /// What stands at a path that leads to something, by no link.
-fn there(rt: &HostRuntime, file: &str) -> io::Result<Place> {
+fn there(rt: &HostRuntime, file: &str) -> io::Result<Place>
+    ensures { IfOk result (λ place. IsTrue place.is_there) }
+{
     let found = fs::metadata(rt, file)?;
     // Whoever opens what is no file may have to wait for another program.
     if !found.is_file() {

@@ -1,5 +1,5 @@
 //! A keeper that looks before each change whether the vault's files are still those that were opened.
-ghost use Rattle.std.specs.Prelude.{◌<◌, IsTrue};
+ghost use Rattle.std.specs.Prelude.{◌≡◌, ◌<◌, Bool, IsTrue, false, true};
 
 use vault_base::content::Content;
 use vault_base::moment::Moment;
@@ -19,8 +19,12 @@ use vault_tally::row::Row;
 
 /// What sees whether a vault's files are still those that were opened.
 pub trait Watch {
+    /// What a look at them may have found: whether they are.
+    ghost saw: { Self → Bool → Type 0 };
+
     /// Whether they are.
-    fn are_in_place(&self) -> bool;
+    fn are_in_place(&self) -> bool
+        ensures { saw self.now result };
 
     /// Reports that they aren't.
     fn report(&self);
@@ -74,7 +78,9 @@ impl<K, W: Drop> WatchedKeeper<K, W> {
 
 /// Whether a change is to be refused, after `refused` others were. Before the first the watch reports why.
 fn is_lost<W: Watch>(watch: &W, refused: u64) -> bool
-    ensures { 0 < refused → IsTrue result }
+    ensures later { 0 < refused → IsTrue result }
+    // None is made but after a look that found the files in place.
+    ensures seen { result ≡ false → W.saw watch.now true }
 {
     if refused > 0 {
         return true;
