@@ -63,6 +63,24 @@ fn listen<R: Net<Stream = TcpStream, Listener = TcpListener> + Files>(
     Ok((requests, lines))
 }
 
+/// Serves at two doors at which it listens, as `serve_doors` does.
+fn serve_open<C: Clock, K: Keeper, T: DoorReporter, W: Write + Drop>(
+    service: &Service,
+    doors: &mut TwoDoors<'_, C, W>,
+    keeper: &mut K,
+    count: u32,
+    reporter: &mut T,
+) -> Next
+    ensures stepped { K.is_honest keeper.new → Stepped count (K.vault keeper.old) (K.vault keeper.new) }
+    ensures reached { K.is_honest keeper.new → Reached (K.vault keeper.old) → Reached (K.vault keeper.new) }
+    ensures end { result ≡ Next.End → K.is_honest keeper.new → IsEnded (K.vault keeper.new) }
+    ensures reported { ReportsOnce T.fails (K.count keeper.old) (K.count keeper.new) reporter.old reporter.new }
+    ensures leaves { LeavesNoLess K.Kept keeper.old keeper.new }
+{
+    let clock = doors.clock;
+    serve_doors(clock, service, doors, keeper, count, reporter)
+}
+
 /// Serves `count` requests and lines, one after another, or up to the line that asks for the end: answers which of
 /// these it was.
 ///
@@ -114,5 +132,5 @@ pub fn serve_with_lines<
         talk: None,
         line_was_last: false,
     };
-    Ok(serve_doors(rt, &service, &mut doors, keeper, count, reporter))
+    Ok(serve_open(&service, &mut doors, keeper, count, reporter))
 }

@@ -27,8 +27,10 @@ returns-clause-logged g c =
     λ h. (
       moment_at reading,
       c.reading-reading.ensures,
-      entry.facts,
-      entry.answered.now,
-      rw c.line.ensures.bytes.0 at c.log.ensures.logs,
-      (rw same at c.line.ensures.moment, subst P same (c.answer_talker-answering.ensures.once h)),
+      (
+        entry.facts,
+        entry.answered.now,
+        rw c.line.ensures.bytes.0 at c.log.ensures.logs,
+        (rw same at c.line.ensures.moment, subst P same (c.answer_talker-answering.ensures.once h)),
+      ),
     )
