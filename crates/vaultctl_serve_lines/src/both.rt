@@ -13,7 +13,7 @@ use crate::turns::serve_doors;
 use crate::two_doors::TwoDoors;
 use std::alloc::Global;
 use std::fs::Files;
-use std::io::{self, Write};
+use std::io::{self, Stderr};
 use std::net::{Ipv4Addr, Net, TcpListener, TcpStream};
 use std::time::Clock;
 use vault_core_model::keeper::Keeper;
@@ -63,24 +63,6 @@ fn listen<R: Net<Stream = TcpStream, Listener = TcpListener> + Files>(
     Ok((requests, lines))
 }
 
-/// Serves at two doors at which it listens, as `serve_doors` does.
-fn serve_open<C: Clock, K: Keeper, T: DoorReporter, W: Write + Drop>(
-    service: &Service,
-    doors: &mut TwoDoors<'_, C, W>,
-    keeper: &mut K,
-    count: u32,
-    reporter: &mut T,
-) -> Next
-    ensures stepped { K.is_honest keeper.new → Stepped count (K.vault keeper.old) (K.vault keeper.new) }
-    ensures reached { K.is_honest keeper.new → Reached (K.vault keeper.old) → Reached (K.vault keeper.new) }
-    ensures end { result ≡ Next.End → K.is_honest keeper.new → IsEnded (K.vault keeper.new) }
-    ensures reported { ReportsOnce T.fails (K.count keeper.old) (K.count keeper.new) reporter.old reporter.new }
-    ensures leaves { LeavesNoLess K.Kept keeper.old keeper.new }
-{
-    let clock = doors.clock;
-    serve_doors(clock, service, doors, keeper, count, reporter)
-}
-
 /// Serves `count` requests and lines, one after another, or up to the line that asks for the end: answers which of
 /// these it was.
 ///
@@ -91,14 +73,13 @@ pub fn serve_with_lines<
     R: Net<Stream = TcpStream, Listener = TcpListener> + Files + Clock,
     K: Keeper,
     T: DoorReporter,
-    W: Write + Drop,
 >(
     rt: &R,
     keeper: &mut K,
     places: Places<'_>,
     count: u32,
     reporter: &mut T,
-    log: Option<W>,
+    log: Option<Stderr>,
 ) -> Result<Next, DoorFault>
     ensures stepped { K.is_honest keeper.new → Stepped count (K.vault keeper.old) (K.vault keeper.new) }
     ensures reached { K.is_honest keeper.new → Reached (K.vault keeper.old) → Reached (K.vault keeper.new) }
@@ -132,5 +113,5 @@ pub fn serve_with_lines<
         talk: None,
         line_was_last: false,
     };
-    Ok(serve_open(&service, &mut doors, keeper, count, reporter))
+    Ok(serve_doors(rt, &service, &mut doors, keeper, count, reporter))
 }
