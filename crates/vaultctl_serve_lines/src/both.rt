@@ -13,7 +13,7 @@ use crate::turns::serve_doors;
 use crate::two_doors::TwoDoors;
 use std::alloc::Global;
 use std::fs::Files;
-use std::io::{self, Write};
+use std::io::{self, Stderr};
 use std::net::{Ipv4Addr, Net, TcpListener, TcpStream};
 use std::time::Clock;
 use vault_core_model::keeper::Keeper;
@@ -73,14 +73,13 @@ pub fn serve_with_lines<
     R: Net<Stream = TcpStream, Listener = TcpListener> + Files + Clock,
     K: Keeper,
     T: DoorReporter,
-    W: Write + Drop,
 >(
     rt: &R,
     keeper: &mut K,
     places: Places<'_>,
     count: u32,
     reporter: &mut T,
-    log: Option<W>,
+    log: Option<Stderr>,
 ) -> Result<Next, DoorFault>
     ensures stepped { K.is_honest keeper.new → Stepped count (K.vault keeper.old) (K.vault keeper.new) }
     ensures reached { K.is_honest keeper.new → Reached (K.vault keeper.old) → Reached (K.vault keeper.new) }

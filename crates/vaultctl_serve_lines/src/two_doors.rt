@@ -8,7 +8,7 @@ use crate::talk::Talk;
 use libc::net::{POLLIN, poll};
 use libc::types::pollfd;
 use std::alloc::Global;
-use std::io::Write;
+use std::io::Stderr;
 use std::net::{TcpListener, TcpStream};
 use std::os::fd::AsRawFd;
 use std::time::{Clock, Duration, Instant};
@@ -25,7 +25,7 @@ const SILENT: u64 = 60_000;
 
 /// Two doors of one server. Of the door of lines one connection is open at a time.
 #[derive(Drop)]
-pub struct TwoDoors<'a, C: Clock, W: Write + Drop> {
+pub struct TwoDoors<'a, C: Clock> {
     /// The clock that is read.
     pub clock: &'a C,
     /// Where what is read is kept.
@@ -37,7 +37,7 @@ pub struct TwoDoors<'a, C: Clock, W: Write + Drop> {
     /// The hosts that requests may be for.
     pub hosts: &'a Hosts,
     /// Who gets a line of what becomes of each request and each line; none where nothing is logged.
-    pub log: Option<W>,
+    pub log: Option<Stderr>,
     /// The connection of lines that is open.
     pub talk: Option<Talk>,
     /// A line came last, so that a request that waits goes before the next one.
@@ -86,7 +86,7 @@ fn trouble_in(kind: io::ErrorKind) -> Option<Trouble> {
     }
 }
 
-impl<C: Clock, W: Write + Drop> TwoDoors<'_, C, W> {
+impl<C: Clock> TwoDoors<'_, C> {
     /// Whether a connection of lines waits that isn't open yet.
     fn another_waits(&self) -> bool {
         let mut found = [waited_for(self.lines.descriptor())];
@@ -220,7 +220,7 @@ impl<C: Clock, W: Write + Drop> TwoDoors<'_, C, W> {
     }
 }
 
-impl<C: Clock, W: Write + Drop> Doors for TwoDoors<'_, C, W> {
+impl<C: Clock> Doors for TwoDoors<'_, C> {
     type Request = TcpStream;
 
     type Talker = Talk;
@@ -229,7 +229,7 @@ impl<C: Clock, W: Write + Drop> Doors for TwoDoors<'_, C, W> {
 
     ghost shown = { λ _. None };
 
-    ghost logs = { λ before facts asked answered after. IsLogged W.contents before.log facts asked answered after.log };
+    ghost logs = { λ before facts asked answered after. IsLogged (λ _. None) before.log facts asked answered after.log };
 
     fn next(&mut self) -> Arrived<TcpStream, Talk> {
         let Ok(ready) = self.wait_counting() else {

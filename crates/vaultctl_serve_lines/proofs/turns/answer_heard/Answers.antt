@@ -1,4 +1,4 @@
-use Rattle.std.proofs.Common.{◌≡◌, ℤ, FitsSigned, rules, subst, to_z, to_z-of_z, of_z, w64}
+use Rattle.std.proofs.Common.{◌≡◌, ◌∙◌, ℕ, ℤ, List, FitsSigned, rules, subst, to_z, to_z-of_z, of_z, w64}
 use Rattle.vault_base.specs.Days.{moment_at}
 use Rattle.vault_http.specs.Left.{AtMostOne}
 use Rattle.vaultctl_serve_lines.proofs.turns.answer_heard.Goals as goal
@@ -24,11 +24,14 @@ returns-clause-logged g c =
     let same : to_z w64 (of_z w64 reading) ≡ reading = to_z-of_z fits in
     let P : ℤ → Type 0 = λ z. AtMostOne (moment_at z) old new in
     let entry = c.line.result in
+    let Logs : List ℕ → Type 0 = λ asked. g.D.Doors.logs c.args.doors.now entry.facts asked entry.answered.now c.log.new.self in
     λ h. (
       moment_at reading,
       c.reading-reading.ensures,
-      entry.facts,
-      entry.answered.now,
-      rw c.line.ensures.bytes.0 at c.log.ensures.logs,
-      (rw same at c.line.ensures.moment, subst P same (c.answer_talker-answering.ensures.once h)),
+      (
+        entry.facts,
+        entry.answered.now,
+        subst Logs (c.line.ensures.bytes.0 ∙ c.as_slice.ensures.value) c.log.ensures.logs,
+        (rw same at c.line.ensures.moment, subst P same (c.answer_talker-answering.ensures.once h)),
+      ),
     )

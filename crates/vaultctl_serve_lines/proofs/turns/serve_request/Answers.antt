@@ -28,10 +28,12 @@ returns-clause-logged g c =
     λ h. (
       moment_at reading,
       c.reading-reading.ensures,
-      entry.facts,
-      entry.asked.now,
-      entry.answered.now,
-      c.log.ensures.logs,
-      (rw same at c.request.ensures.moment, subst P same (c.serve_connection-served.ensures.once h)),
-      λ late. c.serve_connection-served.ensures.unread (late-unread c.serve_connection-served.result (sym c.trouble_of.ensures ∙ sym c.request.ensures.trouble ∙ late)),
+      (
+        entry.facts,
+        entry.asked.now,
+        entry.answered.now,
+        c.log.ensures.logs,
+        (rw same at c.request.ensures.moment, subst P same (c.serve_connection-served.ensures.once h)),
+        λ late. c.serve_connection-served.ensures.unread (late-unread c.serve_connection-served.result (sym c.trouble_of.ensures ∙ sym c.request.ensures.trouble ∙ late)),
+      ),
     )

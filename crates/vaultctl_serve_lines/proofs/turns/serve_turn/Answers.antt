@@ -12,7 +12,7 @@ returns-in-Request-clause-timely g c =
     let before = g.D.Doors.tries c.args.doors.now in
     let Q : Option (List Try) → Type 0 = λ after. SteppedWithin 1 before after old new in
     λ h. let steps = c.serve_request.ensures.timely h in
-    subst Q (sym c.serve_request.ensures.tries) (Within-taken before (g.D.Doors.tries c.next.new.self) (g.D.Doors.shown c.next.new.self) steps.0 old new c.in-Request.ensures steps.1.0 steps.1.1)
+    subst Q (sym c.serve_request.ensures.tries) (Within-taken before (g.D.Doors.tries c.next.new.self) (g.D.Doors.shown c.next.new.self) steps.0 old new c.in-Request.ensures steps.1 steps.2)
 
 -- the same of a line, whose connection is kept or closed then
 pub returns-in-Line-clause-timely : goal.returns-in-Line-clause-timely
@@ -23,4 +23,4 @@ returns-in-Line-clause-timely g c =
     let Q : Option (List Try) → Type 0 = λ after. SteppedWithin 1 before after old new in
     λ h. let steps = c.answer_heard-answered.ensures.timely h in
     Within-more 1 (most_of c.turn_of.result) before (g.D.Doors.tries c.part.new.doors) old new (takes-one c.answer_heard-answered.result c.turn_of.result c.turn_of.ensures)
-    (subst Q (sym (c.part.ensures ∙ c.answer_heard-answered.ensures.tries)) (Within-taken before (g.D.Doors.tries c.next.new.self) (g.D.Doors.shown c.next.new.self) steps.0 old new c.in-Line.ensures steps.1.0 steps.1.1))
+    (subst Q (sym (c.part.ensures ∙ c.answer_heard-answered.ensures.tries)) (Within-taken before (g.D.Doors.tries c.next.new.self) (g.D.Doors.shown c.next.new.self) steps.0 old new c.in-Line.ensures steps.1 steps.2))
