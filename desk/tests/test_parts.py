@@ -14,7 +14,7 @@ MOMENT = "2024-02-01T00:00:00Z"
 
 
 class Parts(ServedTest):
-    def asked(self, *words: str) -> Done:
+    def in_parts(self, *words: str) -> Done:
         return self.desk(*words, "--parts", "--as", "registrar", at=None)
 
     def answered(self, replies: dict[int, Line], *words: str) -> tuple[Done, list[dict[str, Any]]]:
@@ -23,7 +23,7 @@ class Parts(ServedTest):
         where.unlink(missing_ok=True)
         server = FalseServer(where, lambda line: replies[line["after"]])
         try:
-            done = self.asked(*words, "--door", str(where))
+            done = self.in_parts(*words, "--door", str(where))
         finally:
             server.close()
         return done, server.lines
@@ -37,8 +37,8 @@ class Parts(ServedTest):
         server = self.serve()
         self.done("delete", "docs", "b", "--version", "2", "--yes", at=None)
         ways = (("register",), ("register", "--json"), ("seal",), ("seal", "--before", "2024-02-01"))
-        served = [self.asked(*it) for it in ways]
-        lawful = self.asked("lawful")
+        served = [self.in_parts(*it) for it in ways]
+        lawful = self.in_parts("lawful")
         self.assertEqual([it.status for it in (*served, lawful)], [0] * 5)
         self.assertEqual(lawful.out, "lawful; that the records of one move agree, within each part alone\n")
         on_a_copy = self.done("lawful", at=None)
@@ -88,7 +88,7 @@ class Parts(ServedTest):
 
     def test_who_has_no_right_to_them_and_where_no_server_is(self) -> None:
         for it in ("register", "seal", "lawful"):
-            done = self.asked(it)
+            done = self.in_parts(it)
             self.assertEqual((done.status, done.out), (1, ""))
             self.assertIn("no server of the vault takes lines", done.err)
         self.serve()

@@ -40,7 +40,7 @@ def seal(engine: Engine, before: str | None) -> recheck.events.Seal:
     for it in _parts(engine, "events", before=moment):
         if not it["text"].startswith(header):
             raise EngineError("the server's events have other columns than a seal is made of")
-        text = it["text"][len(header) :]
+        text = it["text"].removeprefix(header)
         header = ""
         happened = [row[1] for row in csv.reader(io.StringIO(text, newline=""))]
         sealing.add(happened.count("admitted"), len(happened), text.encode())
