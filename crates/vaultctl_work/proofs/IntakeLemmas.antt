@@ -29,7 +29,7 @@ steady_by n n' result before after rows stopped printed same = cases (report_nam
 
 -- a stop alone is what is said of an intake without rows
 pub stop_stated : (stated : Outcome) (before after : Option (List ℕ)) → (stated ≡ Refused) × Appends before after (stopped_line Device) → PrintsRows stated before after
-stop_stated stated before after (is, it) = inl ([], Some Device, is, it)
+stop_stated stated before after (is, it) = inl ([], Some Device, (is, it))
 
 pub refusal_stated : (refusal : Refusal) (stated : Outcome) (before after : Option (List ℕ)) → (stated ≡ Refused) × Appends before after (printed (reply.Refused refusal)) → PrintsRows stated before after
 refusal_stated refusal stated before after (is, it) = inr (is, (reply.Refused refusal, refl, it))
