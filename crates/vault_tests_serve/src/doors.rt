@@ -56,12 +56,15 @@ enum Coming {
     Nothing,
 }
 
+/// What comes in a turn, and what its client gets.
+#[derive(Clone, Copy)]
+struct Turn(Coming, &'static str);
+
 /// Two doors by which these come in.
 #[derive(Drop)]
 struct KnownDoors<'a> {
     clock: &'a MovingClock,
-    /// What comes, each with what its client gets.
-    turns: &'a [(Coming, &'static str)],
+    turns: &'a [Turn],
     /// What all clients took of their answers and replies, in order.
     taken: &'a Cell<Vec<u8>>,
     /// In how many milliseconds a client takes a byte.
@@ -156,7 +159,7 @@ struct Served {
 fn serve<K: Keeper>(
     alloc: Global,
     keeper: &mut K,
-    turns: &[(Coming, &'static str)],
+    turns: &[Turn],
     pace: u64,
     n: u32,
 ) -> Result<Served, Fail> {
@@ -199,13 +202,13 @@ fn serve<K: Keeper>(
 fn serve_turns<K: Keeper>(
     alloc: Global,
     keeper: &mut K,
-    turns: &[(Coming, &'static str)],
+    turns: &[Turn],
     n: u32,
 ) -> Result<Served, Fail> {
     let served = serve(alloc, keeper, turns, 0, n)?;
     let come = turns.len().saturating_sub(served.left);
     let mut wanted = String::new(alloc);
-    for (_, text) in turns.iter().take(come) {
+    for Turn(_, text) in turns.iter().take(come) {
         wanted.push_str(text)?;
     }
     if served.taken.as_str() == wanted.as_str() {
@@ -220,26 +223,26 @@ fn serve_turns<K: Keeper>(
 fn lines_between_requests(rt: HostRuntime) -> Result<(), Fail> {
     let mut keeper = opened(rt.alloc())?;
     let turns = [
-        (Coming::Line(PUT), STORED),
-        (Coming::Request(GET), GOT),
-        (
+        Turn(Coming::Line(PUT), STORED),
+        Turn(Coming::Request(GET), GOT),
+        Turn(
             Coming::Line(
                 r#"{"at":"2024-01-15T10:30:00Z","as":"ann","do":"report","dept":"records"}"#,
             ),
             MALFORMED,
         ),
-        (Coming::Line(""), ""),
-        (Coming::Nothing, ""),
-        (
+        Turn(Coming::Line(""), ""),
+        Turn(Coming::Nothing, ""),
+        Turn(
             Coming::Line(r#"{"as":"ann","do":"report","dept":"records"}"#),
             "{\"ok\":{\"admitted\":5,\"at\":\"2024-01-15T10:30:00Z\",\"byte_days\":0,\"dept\":\"records\",\"handed\":0,\"held\":5,\"received\":0,\"removed\":0}}\n",
         ),
-        (Coming::Line(r#"{"as":"ann","do":"close"}"#), NOT_ADMIN),
-        (
+        Turn(Coming::Line(r#"{"as":"ann","do":"close"}"#), NOT_ADMIN),
+        Turn(
             Coming::Line(r#"{"as":"registrar","do":"close"}"#),
             "{\"ok\":{}}\n",
         ),
-        (Coming::Line(PUT), STORED),
+        Turn(Coming::Line(PUT), STORED),
     ];
     let served = serve_turns(rt.alloc(), &mut keeper, &turns, 100)?;
     assert!(rt; served.next == Next::End);
@@ -254,11 +257,11 @@ fn lines_between_requests(rt: HostRuntime) -> Result<(), Fail> {
 fn as_many_as_it_should(rt: HostRuntime) -> Result<(), Fail> {
     let mut keeper = opened(rt.alloc())?;
     let turns = [
-        (Coming::Nothing, ""),
-        (Coming::Last(PUT), STORED),
-        (Coming::Nothing, ""),
-        (Coming::Last("\r"), MALFORMED),
-        (Coming::Line(PUT), STORED),
+        Turn(Coming::Nothing, ""),
+        Turn(Coming::Last(PUT), STORED),
+        Turn(Coming::Nothing, ""),
+        Turn(Coming::Last("\r"), MALFORMED),
+        Turn(Coming::Line(PUT), STORED),
     ];
     let served = serve_turns(rt.alloc(), &mut keeper, &turns, 2)?;
     assert!(rt; served.next == Next::On);
@@ -272,10 +275,16 @@ fn as_many_as_it_should(rt: HostRuntime) -> Result<(), Fail> {
 fn a_reply_that_is_not_taken(rt: HostRuntime) -> Result<(), Fail> {
     let alloc = rt.alloc();
     let mut keeper = opened(alloc)?;
-    let served = serve(alloc, &mut keeper, &[(Coming::Line(PUT), STORED)], 4_000, 1)?;
+    let served = serve(
+        alloc,
+        &mut keeper,
+        &[Turn(Coming::Line(PUT), STORED)],
+        4_000,
+        1,
+    )?;
     assert_eq!(rt; served.taken.as_str(), "{\"");
     assert_eq!(rt; served.kept, 0);
-    serve_turns(alloc, &mut keeper, &[(Coming::Request(GET), GOT)], 1)?;
+    serve_turns(alloc, &mut keeper, &[Turn(Coming::Request(GET), GOT)], 1)?;
     Ok(())
 }
 
@@ -285,10 +294,10 @@ fn a_device_that_fails(rt: HostRuntime) -> Result<(), Fail> {
     let alloc = rt.alloc();
     let mut keeper = FuseKeeper::new(FuseKeeper::new(opened(alloc)?, 0), 0);
     let turns = [
-        (Coming::Line(PUT), FAILED),
-        (Coming::Line(PUT), FAILED),
-        (Coming::Line(PUT), STORED),
-        (
+        Turn(Coming::Line(PUT), FAILED),
+        Turn(Coming::Line(PUT), FAILED),
+        Turn(Coming::Line(PUT), STORED),
+        Turn(
             Coming::Line(STATUS),
             "{\"ok\":{\"entries\":1,\"failures\":2,\"last\":\"2024-01-15T10:30:00Z\",\"since\":\"2024-01-15T10:29:00Z\",\"version\":\"1.2 (schema 3)\"}}\n",
         ),
@@ -308,12 +317,12 @@ fn a_trail(rt: HostRuntime) -> Result<(), Fail> {
     let alloc = rt.alloc();
     let mut keeper = opened(alloc)?;
     let turns = [
-        (Coming::Line(PUT), STORED),
-        (Coming::Request(GET), GOT),
-        (Coming::Line(r#"{"as":"zoe","do":"status"}"#), UNKNOWN),
-        (Coming::Nothing, ""),
-        (Coming::Line("{\"a"), MALFORMED),
-        (Coming::Line(""), ""),
+        Turn(Coming::Line(PUT), STORED),
+        Turn(Coming::Request(GET), GOT),
+        Turn(Coming::Line(r#"{"as":"zoe","do":"status"}"#), UNKNOWN),
+        Turn(Coming::Nothing, ""),
+        Turn(Coming::Line("{\"a"), MALFORMED),
+        Turn(Coming::Line(""), ""),
     ];
     let served = serve(alloc, &mut keeper, &turns, 5, 5)?;
     let wanted =
