@@ -74,7 +74,7 @@ struct KnownDoors<'a> {
     hosts: &'a Hosts,
     alloc: Global,
     /// What was logged.
-    log: Option<Vec<u8>>,
+    log: &'a Cell<Option<Vec<u8>>>,
 }
 
 impl<'a> KnownDoors<'a> {
@@ -134,7 +134,9 @@ impl<'a> Doors for KnownDoors<'a> {
     ghost logs = { λ _ _ _ _ _. Unit {0} };
 
     fn log(&mut self, entry: &Entry<'_>) {
-        log_entry(self.alloc, &mut self.log, entry);
+        let mut log = self.log.replace(None);
+        log_entry(self.alloc, &mut log, entry);
+        self.log.set(log);
     }
 
     fn keep(&mut self, _talker: SlowPeer<'a, 'static>) {
@@ -167,6 +169,7 @@ fn serve<K: Keeper>(
         passed: Cell::new(Duration::ZERO),
     };
     let taken = Cell::new(Vec::new(alloc));
+    let log = Cell::new(Some(Vec::new(alloc)));
     let mut reports = Vec::new(alloc);
     let hosts = Hosts::any(alloc);
     let mut doors = KnownDoors {
@@ -177,7 +180,7 @@ fn serve<K: Keeper>(
         kept: 0,
         hosts: &hosts,
         alloc,
-        log: Some(Vec::new(alloc)),
+        log: &log,
     };
     let service = Service {
         alloc,
@@ -186,8 +189,8 @@ fn serve<K: Keeper>(
     };
     let next = serve_doors(&clock, &service, &mut doors, keeper, n, &mut reports);
     let (left, kept) = (doors.turns.len(), doors.kept);
-    let log = doors.log.take().ok_or("a log")?;
     drop(doors);
+    let log = log.replace(None).ok_or("a log")?;
     Ok(Served {
         next,
         taken: String::from_utf8(taken.replace(Vec::new(alloc)))?,
