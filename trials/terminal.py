@@ -126,7 +126,7 @@ class Terminal(Case):
 class Openings(Case):
     def setUp(self) -> None:
         super().setUp()
-        make_office(self.folder / "it.vault", "put", "get", at=AT)
+        make_office(self.folder / "it.vault", "put", "get", "report", at=AT)
         with contextlib.closing(sqlite3.connect(self.folder / "earlier.vault")) as base:
             base.executescript((EXAMPLES / "earlier" / "schema2" / "rows.sql").read_text())
 
@@ -145,7 +145,7 @@ class Openings(Case):
         return printed
 
     def test_slow_read(self) -> None:
-        for words in (["verify", "it.vault"], ["report", "it.vault", "records", "--as", "ann"]):
+        for words in (["verify", "it.vault"], ["report", "it.vault", "records", "--as", "ann", *AT]):
             printed = self.shows_it("it.vault", *words)
             self.assertEqual(self.ran(*words, front=self.slowly("it.vault")), Ran(0, printed, ""), words)
             self.assertTrue(printed, f"{words[0]} prints nothing")
