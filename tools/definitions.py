@@ -2,7 +2,8 @@
 
 The promises of a page are the clauses that it links to. From the names in a clause the way goes by the `use` lines of
 its file to the definitions, from these to the ones that they name, and so on; a type of the code is read in src/, with
-what it stands for. What the kit defines isn't counted.
+what it stands for. What the kit defines isn't counted. Of a reader that laws describe the laws are followed, and its
+definition isn't.
 """
 
 import collections
@@ -21,6 +22,15 @@ DECLARED = re.compile(rf"^ {{0,2}}(?:{KINDS}) (?:pub )?([^\s:(){{}}=]+) |^([^\s:
 TYPE = re.compile(r"^pub (?:struct|enum|trait) (\w+)")
 GHOST = re.compile(r"\s*(?:pub )?ghost (?!use)")
 COMMENTS = ("-- ", "///", "//!", "#[")
+# The readers that laws among the promises describe, each with these laws: which texts it takes, and as what. Where
+# several values of a text are at fault, its definition alone says which refusal comes first.
+READERS = {
+    ("vault_base_time/specs/Moment.antt", "moment_of"): "Moment::read",
+    ("vault_http_lines/specs/ReadLine.antt", "line_of"):
+        "commands_are_spelled other_shapes_are_malformed empty_lines_are_skipped",
+    ("vault_http_lines/specs/Stamped.antt", "stamped_line_of"):
+        "stamped_commands_are_spelled other_timeless_shapes_are_malformed empty_timeless_lines_are_skipped",
+}
 # The first line of a function's body, or the last one of a function without a body; a comment is neither.
 ENDED = re.compile(r"\s*\{|(?!\s*//).*;$")
 
@@ -161,15 +171,38 @@ def promised(page):
         yield TOP / path, first
 
 
-@functools.cache
-def reached(page):
-    """The pieces of definitions that the promises of a page reach: file to names."""
+def pieces_from(waiting, known=frozenset()):
+    """The pieces that names lead to, and those that these name: file to names. Known readers aren't gone through."""
     there = collections.defaultdict(set)
-    waiting = [(file, it) for file, text in promised(page) for it in source(file).named_in(text)]
     while waiting:
         file, (crate, module, name) = waiting.pop()
         for home, piece in {(file, name)} if crate is None else pieces_of(crate, module, name):
-            if piece not in there[home]:
+            if piece not in there[home] and (home, piece) not in known:
                 there[home].add(piece)
                 waiting += [(home, it) for it in source(home).named_in(source(home).text_of(piece))]
     return {file: pieces for file, pieces in there.items() if pieces}
+
+
+def readers():
+    """The readers that laws describe: each as the file that it is in, and its name."""
+    return {(TOP / "crates" / file, name) for file, name in READERS}
+
+
+@functools.cache
+def reached(page):
+    """The pieces of definitions that the promises of a page reach, but for those of readers that laws describe."""
+    return pieces_from([(file, it) for file, text in promised(page) for it in source(file).named_in(text)], readers())
+
+
+@functools.cache
+def known_by_laws(page):
+    """The pieces that only those readers reach: they say which refusal comes first."""
+    there = pieces_from([(file, (None, None, name)) for file, name in readers()])
+    found = {file: pieces - reached(page).get(file, set()) for file, pieces in there.items()}
+    return {file: pieces for file, pieces in found.items() if pieces}
+
+
+def laws_left_out(page):
+    """The laws of readers that a page doesn't link to."""
+    linked = {re.findall(r"`([^`]+)`", said)[0] for said, _ in LINK.findall(page.read_text(encoding="utf-8"))}
+    return sorted(law for laws in READERS.values() for law in laws.split() if law not in linked)

@@ -127,15 +127,15 @@ spelled-is-command bytes t h =
     reads bytes h.1.0 h.0 h.1.1
     ∙ ap (λ r. stated r) (reads-timed h.1.0 t.at t.who t.command h.1.2 h.1.3.0 h.1.3.1 h.1.3.2)
 
+pub stated-skip : (r : Result Timed Refusal) → stated r ≡ line.Skip → false ≡ true
+stated-skip (Ok t) q = cc
+stated-skip (Err x) q = cc
+
 skips : (long empty : Bool) (found : Option Data) → read_as long empty found ≡ line.Skip → empty ≡ true
 skips true empty found e = cc
 skips false true found e = refl
 skips false false None e = cc
 skips false false (Some d) e = stated-skip (timed_of d) e
-  where
-    stated-skip : (r : Result Timed Refusal) → stated r ≡ line.Skip → false ≡ true
-    stated-skip (Ok t) q = cc
-    stated-skip (Err x) q = cc
 
 pub skipped-is-empty : (bytes : List ℕ) → line_of bytes ≡ line.Skip → without_cr bytes ≡ []
 skipped-is-empty bytes e = no-items (without_cr bytes) (skips _ _ _ (sym (is-read-as bytes) ∙ e))

@@ -25,7 +25,7 @@ use Rattle.vault_http_lines.specs.declared.read_line.Line.TheVariants as line
 use Rattle.vault_http_lines.specs.declared.verb.Verb.{Verb}
 use Rattle.vault_http_lines.proofs.CommandLemmas.{timeless-asker-fits, timeless-values}
 use Rattle.vault_http_lines.proofs.GrammarLemmas.{Decided, is-name, stated-then}
-use Rattle.vault_http_lines.proofs.LineLemmas.{is-filled, is-short, no-items, not-long, not-malformed, short-if-empty, spelled, stated-malformed, stated-ok}
+use Rattle.vault_http_lines.proofs.LineLemmas.{is-filled, is-short, no-items, not-long, not-malformed, short-if-empty, spelled, stated-malformed, stated-ok, stated-skip}
 use Rattle.vault_http_lines.proofs.SpelledLemmas.{chosen, do-ok, named, values-spelled}
 
 -- ---- what a value asks for
@@ -147,7 +147,18 @@ malformed moment bytes filled other =
     (λ e. filled (no-items (without_cr bytes) e))
     (λ d short found shape. other (not-long (length bytes) short, (d, found, shape)))
 
+-- an empty line asks for nothing
+pub skip-empty : (moment : Option ℕ) (bytes : List ℕ) → without_cr bytes ≡ [] → stamped_line_of moment bytes ≡ line.Skip
+skip-empty moment bytes e = is-read-as moment bytes ∙ rw (short-if-empty bytes e, e) refl
+
+skips : (moment : Option ℕ) (long empty : Bool) (found : Option Data) → read_as moment long empty found ≡ line.Skip → empty ≡ true
+skips moment true empty found e = cc
+skips moment false true found e = refl
+skips moment false false None e = cc
+skips moment false false (Some d) e = stated-skip (stamped_of moment d) e
+
+pub skipped-is-empty : (moment : Option ℕ) (bytes : List ℕ) → stamped_line_of moment bytes ≡ line.Skip → without_cr bytes ≡ []
+skipped-is-empty moment bytes e = no-items (without_cr bytes) (skips moment _ _ _ (sym (is-read-as moment bytes) ∙ e))
+
 pub malformed-is-filled : (moment : Option ℕ) (bytes : List ℕ) → stamped_line_of moment bytes ≡ line.Refused MalformedBody → without_cr bytes ≡ [] → ⊥
-malformed-is-filled moment bytes e f =
-    let skipped : stamped_line_of moment bytes ≡ line.Skip = is-read-as moment bytes ∙ rw (short-if-empty bytes f, f) refl in
-    cc
+malformed-is-filled moment bytes e f = let skipped = skip-empty moment bytes f in cc

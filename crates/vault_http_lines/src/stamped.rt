@@ -158,3 +158,8 @@ pub fn stamped_commands_are_spelled()
 pub fn other_timeless_shapes_are_malformed()
     ensures { (moment : Option ℕ) (line : List ℕ) → (spec.stamped_line_of moment line ≡ Line.Refused Refusal.MalformedBody) ↔ ((without_cr line ≢ []) × (¬ spec.HasTimelessShape line)) }
 {}
+
+/// Such a line is skipped exactly where nothing is in it, or a CR alone.
+pub fn empty_timeless_lines_are_skipped()
+    ensures { (moment : Option ℕ) (line : List ℕ) → (spec.stamped_line_of moment line ≡ Line.Skip) ↔ (without_cr line ≡ []) }
+{}
