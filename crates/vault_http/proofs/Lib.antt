@@ -4,5 +4,5 @@ pub mod Blank
 pub mod TextLemmas
 pub mod Counted
 pub mod Serves
-pub mod Taken
+pub mod JudgingLemmas
 pub mod StampedAt

@@ -1,21 +1,18 @@
 -- On what is written for a plan, and what a fault leaves of it.
-use Rattle.std.proofs.Common.{ℕ, ◌≡◌, ◌<◌, ◌+◌, ◌++◌, List, length, Bool, true, IsTrue, Option, Some, None, IfSome, Result, Ok, Err, ◌⊎◌, inl, inr, refl, sym, ap, ◌∙◌, subst, arith}
-use Rattle.std.proofs.lemmas.List.{length-append}
-use Rattle.std.specs.Io.KnownBytes.{Appends, Consumes}
+use Rattle.std.proofs.Common.{ℕ, ◌≡◌, ◌++◌, List, Bool, IsTrue, Option, Some, None, IfSome, Result, Ok, Err, ◌⊎◌, inl, inr, refl, sym, subst}
+use Rattle.std.specs.Io.KnownBytes.{Appends}
 use Rattle.std.proofs.KnownBytes.{Appends-trans}
 use Rattle.vault_base.specs.declared.refusal.Refusal.{Refusal}
-use Rattle.vault_base.specs.declared.refusal.Refusal.TheVariants as refusal
 use Rattle.vault_core_model.specs.Halts.{is_device_reply}
 use Rattle.vault_core_model.specs.Step.{IsStep}
 use Rattle.vault_core_model.specs.Vault.{Vault}
 use Rattle.vault_core_model.specs.declared.command.Command.{Command}
 use Rattle.vault_core_model.specs.declared.reply.Reply.{Reply}
 use Rattle.vault_http.specs.Reply.{AnswersReply}
-use Rattle.vault_http.specs.Head.{HasNoHead}
 use Rattle.vault_http_request.specs.declared.plan.Plan.{Plan}
 use Rattle.vault_io.specs.Begins.{Begins}
 use Rattle.vault_http.specs.Exchange.{drops, interim, planned_command, Done, Judged, PlanServed}
-use Rattle.vault_http.specs.Left.{DenyLeft, JudgedLeft, LeftFor, PlanLeft, Stepped}
+use Rattle.vault_http.specs.Left.{DenyLeft, JudgedLeft, PlanLeft, Stepped}
 use Rattle.vault_http.specs.declared.fault.ServeFault.{ServeFault}
 use Rattle.vault_http.specs.declared.fault.ServeFault.TheVariants as faults
 
@@ -38,17 +35,6 @@ answer_left Failed at shown who c old new a b reply dropped out sent step is say
     let P : ServeFault → Type 0 = λ f. JudgedLeft Failed f at shown who (Ok c) old new a b in
     let answers : AnswersReply (Some at) (drops c) reply shown out = subst (λ (t : Bool). AnswersReply (Some at) t reply shown out) is says in
     subst P (sym d.0) (out, (reply, step, answers, failed), subst (Begins a b) same d.1)
-
--- there is no head, and the answer to that failed
-pub none_left : (hosts : List (List ℕ)) (Failed : Type 0) (moment : Option ℕ) (left unread rest a b : Option (List ℕ)) (buf : List ℕ) (old : Vault) → Consumes left rest buf → IfSome left HasNoHead → 0 < length buf
-    → (e : ServeFault) → DenyLeft e moment refusal.InvalidArgument None true a b → IfSome left (λ input. LeftFor hosts Failed e moment input unread old old a b)
-none_left hosts Failed moment None unread rest a b buf old taken none some e d = tt
-none_left hosts Failed moment (Some input) unread None a b buf old taken none some e d = absurd taken
-none_left hosts Failed moment (Some input) unread (Some rest) a b buf old taken none some faults.Read d = absurd d
-none_left hosts Failed moment (Some input) unread (Some rest) a b buf old taken none some faults.Memory d = inl (refl, d)
-none_left hosts Failed moment (Some input) unread (Some rest) a b buf old taken none some faults.Write d =
-    let whole : length input ≡ length buf + length rest = ap length taken ∙ length-append buf rest in
-    inl (omega (arith, some, whole), none, (d.0, (refl, d.1), d.2))
 
 module _ (Failed : Type 0) (shown : Bool) (plan : Plan) (old new : Vault) where
   -- what a reader has left makes this command, or none

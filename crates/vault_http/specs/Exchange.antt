@@ -2,7 +2,7 @@
 use Rattle.std.specs.Prelude.{ℕ, ◌≡◌, ◌<◌, ◌⊎◌, List, [], ◌∷◌, ◌++◌, length, map, take, codes, Bool, true, false, not, IsTrue, Option, Some, None, IfSome, Result, Ok, Err, if◌then◌else◌}
 use Rattle.std.specs.Io.KnownBytes.{Appends}
 use Rattle.httparse.specs.Grammar.{RequestHead}
-use Rattle.httparse.specs.Spans.{name_and_value, span_bytes, header_bytes}
+use Rattle.httparse.specs.Spans.{name_and_value, header_bytes}
 use Rattle.httparse.specs.declared.spans.HeaderSpan.{HeaderSpan}
 use Rattle.httparse.specs.declared.spans.RequestSpans.{RequestSpans}
 use Rattle.vault_base.specs.declared.refusal.Refusal.{Refusal}
@@ -17,17 +17,15 @@ use Rattle.vault_http.specs.Reply.{AnswersRefusal, AnswersReply}
 use Rattle.vault_http.specs.declared.answer.head.Allow.{Allow}
 use Rattle.vault_http.specs.declared.answer.head.Allow.TheVariants as allow
 use Rattle.vault_http.specs.Head.{IsHead, HasNoHead}
-use Rattle.vault_http.specs.Host.{is_for}
+use Rattle.vault_http_request.specs.Host.{is_for}
 use Rattle.vault_http_request.specs.Operation.{is_head}
-use Rattle.vault_http_request.specs.Plan.{asked_of}
+use Rattle.vault_http_request.specs.Plan.{asked_in, asked_of}
 use Rattle.vault_http_target.specs.Fields.{Fields}
-use Rattle.vault_http_request.specs.declared.operation.Operation.{Operation}
 use Rattle.vault_http_request.specs.declared.operation.Resource.{Resource}
 use Rattle.vault_http_request.specs.declared.operation.Resource.TheVariants as resource
 use Rattle.vault_http_request.specs.declared.plan.Asked.{Asked}
 use Rattle.vault_http_request.specs.declared.plan.Asked.TheVariants as asked
 use Rattle.vault_http_request.specs.declared.plan.Plan.{Plan}
-use Rattle.vault_http_request.specs.declared.request_headers.Locks.{Locks}
 use Rattle.vault_http.specs.Command.{command_after}
 
 -- ---- commands and refusals
@@ -60,11 +58,6 @@ go_on = codes "HTTP/1.1 100 Continue" ++ (13 ∷ 10 ∷ 13 ∷ 10 ∷ [])
 -- what is written before the body is read
 abbrev pub interim : Bool → List ℕ
 interim waits = if waits then go_on else []
-
--- a plan by its parts
-abbrev pub plan_of : ℕ → Operation → Option ℕ → List ℕ → Locks → Bool → Plan
-plan_of at operation size caller locks waits =
-    record { at = at; operation = operation; headers = record { length = size; caller = caller; locks = locks; waits = waits } }
 
 -- the command of a plan and of what comes after its head
 abbrev pub planned_command : Plan → List ℕ → Result Command Refusal
@@ -126,10 +119,6 @@ ServedFor hosts Failed moment input old out new =
     ⊎ (((0 < length input) × HasNoHead input × Denied moment true refusal.InvalidArgument None old out new)
     ⊎ ((h : RequestHead) × (rest : List ℕ) × IsHead input h rest × HeadServed hosts Failed moment h rest old out new))
 
--- the same where requests for any host are answered
-abbrev pub Served : Type 0 → Option ℕ → List ℕ → Vault → List ℕ → Vault → Type 0
-Served = ServedFor []
-
 -- what is written for an input where it is known
 abbrev pub Answered : List (List ℕ) → Type 0 → Option ℕ → Option (List ℕ) → Vault → Vault → Option (List ℕ) → Option (List ℕ) → Type 0
 Answered hosts Failed moment known old new before after =
@@ -137,6 +126,4 @@ Answered hosts Failed moment known old new before after =
 
 -- the parts of a head where they lie in a buffer
 abbrev pub spans_asked : List (List ℕ) → Option ℕ → List ℕ → List HeaderSpan → RequestSpans → Said
-spans_asked hosts moment buf headers spans =
-    let fields = map (header_bytes buf) (take spans.headers headers) in
-    asked_for hosts fields (asked_of moment (span_bytes buf spans.method) (span_bytes buf spans.path) spans.version fields)
+spans_asked hosts moment buf headers spans = asked_for hosts (map (header_bytes buf) (take spans.headers headers)) (asked_in moment buf headers spans)

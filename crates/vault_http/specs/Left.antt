@@ -92,10 +92,6 @@ LeftFor hosts Failed e moment input unread old new before after =
     Early e moment input old new before after
     ⊎ ((h : RequestHead) × (rest : List ℕ) × IsHead input h rest × HeadLeft Failed e moment (is_shown h.method) (head_asked_for hosts moment h) rest unread old new before after)
 
--- the same where requests for any host are answered
-abbrev pub Left : Type 0 → ServeFault → Option ℕ → List ℕ → Option (List ℕ) → Vault → Vault → Option (List ℕ) → Option (List ℕ) → Type 0
-Left = LeftFor []
-
 -- the same where the input is known
 abbrev pub Unanswered : List (List ℕ) → Type 0 → ServeFault → Option ℕ → Option (List ℕ) → Option (List ℕ) → Vault → Vault → Option (List ℕ) → Option (List ℕ) → Type 0
 Unanswered hosts Failed e moment known unread old new before after =
@@ -118,10 +114,6 @@ IsTakenFor hosts moment input taken =
     ((input ≡ []) × (taken ≡ []))
     ⊎ ((HasNoHead input × (length taken ≤ 16384))
     ⊎ ((h : RequestHead) × (rest : List ℕ) × (body : List ℕ) × IsHead input h rest × (taken ≡ print_request h ++ body) × IsBodyTaken (head_asked_for hosts moment h) body))
-
--- the same where requests for any host are answered
-abbrev pub IsTaken : Option ℕ → List ℕ → List ℕ → Type 0
-IsTaken = IsTakenFor []
 
 -- the same where the input is known: of what was left before, what was taken until there is this left
 abbrev pub Taken : List (List ℕ) → Option ℕ → Option (List ℕ) → Option (List ℕ) → Type 0

@@ -1,8 +1,9 @@
 pub mod Exchange
 pub mod Left
+pub mod Calls
 pub mod Steady
 pub mod Head
-pub mod Host
+pub mod Judging
 pub mod Body
 pub mod Bytes
 pub mod Command

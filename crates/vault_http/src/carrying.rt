@@ -1,11 +1,10 @@
 //! Commands carried out, and refusals, with their answers written.
 ghost use Rattle.std.specs.Prelude.{◌≡◌, ◌≤◌, ℕ, List, IfErr, OnOk, Ok, Err, Some};
 ghost use Rattle.std.specs.Io.KnownBytes.{Appends};
-ghost use Rattle.vault_core_model.specs.Leaves.{RoseOrIsFull};
+ghost use Rattle.vault_http.specs.Calls.{DoneBy, JudgedBy, JudgedLeftBy, JudgedSteadyBy};
 ghost use Rattle.vault_http.specs.Reply.{AnswersRefusal};
 ghost use Rattle.vault_http.specs.Exchange as spec;
 ghost use Rattle.vault_http.specs.Left as left;
-ghost use Rattle.vault_http.specs.Steady.{JudgedSteady};
 ghost use Rattle.vault_http.specs.declared.fault.ServeFault.TheVariants as faults;
 
 use crate::answer::head::Allow;
@@ -21,6 +20,22 @@ use vault_core::step::step;
 use vault_core_model::command::Command;
 use vault_core_model::keeper::Keeper;
 
+/// Of a request: its moment, its caller, and whether its answer shows a body.
+#[derive(Drop)]
+pub struct RequestContext {
+    pub at: Moment,
+    pub caller: CallerName,
+    pub shown: bool,
+}
+
+/// Why a request is refused, which methods its answer reports to be allowed, and whether it shows a body.
+#[derive(Clone, Copy)]
+pub struct Denial {
+    pub refusal: Refusal,
+    pub allow: Option<Allow>,
+    pub shown: bool,
+}
+
 /// Whether a command drops what it names, and has nothing to say.
 fn drops(command: &Command) -> bool
     ensures { result ≡ spec.drops command.now }
@@ -34,21 +49,20 @@ fn answer<W: Write, K: Keeper>(
     alloc: Global,
     writer: &mut W,
     keeper: &mut K,
-    at: Moment,
-    who: &CallerName,
+    context: &RequestContext,
     command: &Command,
-    shown: bool,
 ) -> Result<(), ServeFault>
-    ensures ok { K.is_honest keeper.new → OnOk result ((out : List ℕ) × spec.Done (RoseOrIsFull (K.count keeper.old) (K.count keeper.new)) at shown who.now command.now (K.vault keeper.old) out (K.vault keeper.new) × Appends (W.contents writer.old) (W.contents writer.new) out) }
-    ensures err { K.is_honest keeper.new → IfErr result (λ e. left.JudgedLeft (RoseOrIsFull (K.count keeper.old) (K.count keeper.new)) e at shown who.now (Ok command.now) (K.vault keeper.old) (K.vault keeper.new) (W.contents writer.old) (W.contents writer.new)) }
+    ensures ok { DoneBy K.Kept keeper.old keeper.new W.Write writer.old writer.new result context.now command.now }
+    ensures err { JudgedLeftBy K.Kept keeper.old keeper.new W.Write writer.old writer.new result context.now (Ok command.now) }
     ensures kind { ¬ (result ≡ Err faults.Read) }
-    ensures once { K.is_honest keeper.new → left.AtMostOne (Some at) (K.vault keeper.old) (K.vault keeper.new) }
+    ensures once { K.is_honest keeper.new → left.AtMostOne (Some context.now.at) (K.vault keeper.old) (K.vault keeper.new) }
     ensures honest { K.is_honest keeper.new → K.is_honest keeper.old }
     ensures counted { K.count keeper.old ≤ K.count keeper.new }
-    ensures steady { JudgedSteady (K.is_honest keeper.new) result at shown who.now (Ok command.now) (K.vault keeper.old) (K.vault keeper.new) (K.count keeper.old) (K.count keeper.new) (W.contents writer.old) (W.contents writer.new) }
+    ensures steady { JudgedSteadyBy K.Kept keeper.old keeper.new W.Write writer.old writer.new result context.now (Ok command.now) }
 {
-    let reply = step(alloc, keeper, at, who, command);
-    let Ok(bytes) = reply_bytes(alloc, Some(at), drops(command), reply, shown) else {
+    let at = context.at;
+    let reply = step(alloc, keeper, at, &context.caller, command);
+    let Ok(bytes) = reply_bytes(alloc, Some(at), drops(command), reply, context.shown) else {
         return Err(ServeFault::Memory);
     };
     send(writer, bytes.as_slice())
@@ -59,20 +73,18 @@ fn finish<W: Write, K: Keeper>(
     alloc: Global,
     writer: &mut W,
     keeper: &mut K,
-    at: Moment,
-    who: CallerName,
+    context: &RequestContext,
     command: Command,
-    shown: bool,
 ) -> Result<(), ServeFault>
-    ensures ok { K.is_honest keeper.new → OnOk result ((out : List ℕ) × spec.Done (RoseOrIsFull (K.count keeper.old) (K.count keeper.new)) at shown who command (K.vault keeper.old) out (K.vault keeper.new) × Appends (W.contents writer.old) (W.contents writer.new) out) }
-    ensures err { K.is_honest keeper.new → IfErr result (λ e. left.JudgedLeft (RoseOrIsFull (K.count keeper.old) (K.count keeper.new)) e at shown who (Ok command) (K.vault keeper.old) (K.vault keeper.new) (W.contents writer.old) (W.contents writer.new)) }
+    ensures ok { DoneBy K.Kept keeper.old keeper.new W.Write writer.old writer.new result context.now command }
+    ensures err { JudgedLeftBy K.Kept keeper.old keeper.new W.Write writer.old writer.new result context.now (Ok command) }
     ensures kind { ¬ (result ≡ Err faults.Read) }
-    ensures once { K.is_honest keeper.new → left.AtMostOne (Some at) (K.vault keeper.old) (K.vault keeper.new) }
+    ensures once { K.is_honest keeper.new → left.AtMostOne (Some context.now.at) (K.vault keeper.old) (K.vault keeper.new) }
     ensures honest { K.is_honest keeper.new → K.is_honest keeper.old }
     ensures counted { K.count keeper.old ≤ K.count keeper.new }
-    ensures steady { JudgedSteady (K.is_honest keeper.new) result at shown who (Ok command) (K.vault keeper.old) (K.vault keeper.new) (K.count keeper.old) (K.count keeper.new) (W.contents writer.old) (W.contents writer.new) }
+    ensures steady { JudgedSteadyBy K.Kept keeper.old keeper.new W.Write writer.old writer.new result context.now (Ok command) }
 {
-    let written = answer(alloc, writer, keeper, at, &who, &command, shown);
+    let written = answer(alloc, writer, keeper, context, &command);
     drop(command);
     written
 }
@@ -82,15 +94,13 @@ pub fn deny<W: Write>(
     alloc: Global,
     writer: &mut W,
     moment: Option<Moment>,
-    refusal: Refusal,
-    allow: Option<Allow>,
-    shown: bool,
+    denial: &Denial,
 ) -> Result<(), ServeFault>
-    ensures ok { OnOk result ((out : List ℕ) × AnswersRefusal moment refusal allow shown out × Appends (W.contents writer.old) (W.contents writer.new) out) }
-    ensures err { IfErr result (λ e. left.DenyLeft e moment refusal allow shown (W.contents writer.old) (W.contents writer.new)) }
+    ensures ok { OnOk result ((out : List ℕ) × AnswersRefusal moment denial.now.refusal denial.now.allow denial.now.shown out × Appends (W.contents writer.old) (W.contents writer.new) out) }
+    ensures err { IfErr result (λ e. left.DenyLeft e moment denial.now.refusal denial.now.allow denial.now.shown (W.contents writer.old) (W.contents writer.new)) }
     ensures kind { ¬ (result ≡ Err faults.Read) }
 {
-    let Ok(bytes) = refusal_bytes(alloc, moment, refusal, allow, shown) else {
+    let Ok(bytes) = refusal_bytes(alloc, moment, denial.refusal, denial.allow, denial.shown) else {
         return Err(ServeFault::Memory);
     };
     send(writer, bytes.as_slice())
@@ -101,21 +111,26 @@ pub fn conclude<W: Write, K: Keeper>(
     alloc: Global,
     writer: &mut W,
     keeper: &mut K,
-    at: Moment,
-    who: CallerName,
+    context: &RequestContext,
     judged: Result<Command, Refusal>,
-    shown: bool,
 ) -> Result<(), ServeFault>
-    ensures ok { K.is_honest keeper.new → OnOk result ((out : List ℕ) × spec.Judged (RoseOrIsFull (K.count keeper.old) (K.count keeper.new)) at shown who judged (K.vault keeper.old) out (K.vault keeper.new) × Appends (W.contents writer.old) (W.contents writer.new) out) }
-    ensures err { K.is_honest keeper.new → IfErr result (λ e. left.JudgedLeft (RoseOrIsFull (K.count keeper.old) (K.count keeper.new)) e at shown who judged (K.vault keeper.old) (K.vault keeper.new) (W.contents writer.old) (W.contents writer.new)) }
-    ensures once { K.is_honest keeper.new → left.AtMostOne (Some at) (K.vault keeper.old) (K.vault keeper.new) }
+    ensures ok { JudgedBy K.Kept keeper.old keeper.new W.Write writer.old writer.new result context.now judged }
+    ensures err { JudgedLeftBy K.Kept keeper.old keeper.new W.Write writer.old writer.new result context.now judged }
+    ensures once { K.is_honest keeper.new → left.AtMostOne (Some context.now.at) (K.vault keeper.old) (K.vault keeper.new) }
     ensures kind { ¬ (result ≡ Err faults.Read) }
     ensures honest { K.is_honest keeper.new → K.is_honest keeper.old }
     ensures counted { K.count keeper.old ≤ K.count keeper.new }
-    ensures steady { JudgedSteady (K.is_honest keeper.new) result at shown who judged (K.vault keeper.old) (K.vault keeper.new) (K.count keeper.old) (K.count keeper.new) (W.contents writer.old) (W.contents writer.new) }
+    ensures steady { JudgedSteadyBy K.Kept keeper.old keeper.new W.Write writer.old writer.new result context.now judged }
 {
     match judged {
-        Ok(command) => finish(alloc, writer, keeper, at, who, command, shown),
-        Err(refusal) => deny(alloc, writer, Some(at), refusal, None, shown),
+        Ok(command) => finish(alloc, writer, keeper, context, command),
+        Err(refusal) => {
+            let denial = Denial {
+                refusal,
+                allow: None,
+                shown: context.shown,
+            };
+            deny(alloc, writer, Some(context.at), &denial)
+        }
     }
 }

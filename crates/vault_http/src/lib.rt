@@ -6,14 +6,14 @@ pub mod answer;
 pub mod carrying;
 pub mod command;
 pub mod fault;
-pub mod host;
+pub mod judging;
 pub mod read;
 mod send;
 pub mod serve;
 
 pub use crate::fault::ServeFault;
-pub use crate::host::Hosts;
 pub use crate::serve::{serve_for, serve_one};
 pub use vault_http_causes::explain_line;
 pub use vault_http_lines::{read_line, stamped};
 pub use vault_http_replies::reply_line;
+pub use vault_http_request::host::Hosts;

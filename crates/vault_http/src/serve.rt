@@ -1,63 +1,24 @@
 //! One request, served.
-ghost use Rattle.std.specs.Prelude.{◌≡◌, ◌≤◌, ℕ, List, IfErr, IfOk, IfSome, OnOk, Err, Some, length};
-ghost use Rattle.std.specs.Io.KnownBytes.{Appends, Consumes};
-ghost use Rattle.httparse.specs.Spans.{IsRequestWithin, span_bytes};
+ghost use Rattle.std.specs.Prelude.{◌≡◌, ◌≤◌, [], ℕ, List, OnOk, Err, Some};
+ghost use Rattle.std.specs.Io.KnownBytes.{Consumes};
 ghost use Rattle.vault_base.specs.Days.{moment_at};
-ghost use Rattle.vault_core_model.specs.Leaves.{RoseOrIsFull};
-ghost use Rattle.vault_http_request.specs.Plan.{IsAt};
-ghost use Rattle.vault_values.specs.Fault.{Gives};
+ghost use Rattle.vault_http.specs.Calls.{AnsweredBy, PlanLeftBy, PlanServedBy, SteadyBy, UnansweredBy};
 ghost use Rattle.vault_http.specs.Command.{IsWithinLength};
-ghost use Rattle.vault_http.specs.Exchange as spec;
 ghost use Rattle.vault_http.specs.Left as left;
-ghost use Rattle.vault_http.specs.Steady.{Steady};
 ghost use Rattle.vault_http.specs.declared.fault.ServeFault.TheVariants as faults;
 
-use crate::answer::head::Allow;
-use crate::carrying::{conclude, deny};
+use crate::carrying::{Denial, RequestContext, conclude, deny};
 use crate::command::command_after;
 use crate::fault::ServeFault;
-use crate::host::{Hosts, is_for};
-use crate::read::head::{Front, read_head};
+use crate::judging::{Judgement, judge_request};
 use crate::send::send_interim;
-use httparse::spans::{EMPTY_HEADER_SPAN, HeaderSpan, RequestSpans};
 use std::alloc::Global;
 use std::io::{Read, Write};
 use vault_base::moment::Moment;
-use vault_base::name::CallerName;
-use vault_base::refusal::Refusal;
 use vault_core_model::keeper::Keeper;
-use vault_http_request::operation::{Operation, Resource};
-use vault_http_request::plan::{Asked, Plan, asked_of};
-use vault_http_request::request_headers::{Locks, RequestHeaders};
-use vault_values::fault::LineFault;
-
-/// Serves the parts of a plan, with what comes after its head.
-fn serve_parts<R: Read, W: Write, K: Keeper>(
-    alloc: Global,
-    reader: &mut R,
-    writer: &mut W,
-    keeper: &mut K,
-    at: Moment,
-    operation: Operation,
-    size: Option<u64>,
-    caller: CallerName,
-    locks: Locks,
-    waits: bool,
-    shown: bool,
-) -> Result<(), ServeFault>
-    ensures ok { K.is_honest keeper.new → OnOk result (IfSome (R.remaining reader.old) (λ rest. (out : List ℕ) × spec.PlanServed (RoseOrIsFull (K.count keeper.old) (K.count keeper.new)) shown (spec.plan_of at operation size caller locks waits) rest (K.vault keeper.old) out (K.vault keeper.new) × Appends (W.contents writer.old) (W.contents writer.new) out)) }
-    ensures err { K.is_honest keeper.new → IfErr result (λ e. IfSome (R.remaining reader.old) (λ rest. left.PlanLeft (RoseOrIsFull (K.count keeper.old) (K.count keeper.new)) e shown (spec.plan_of at operation size caller locks waits) rest (R.remaining reader.new) (K.vault keeper.old) (K.vault keeper.new) (W.contents writer.old) (W.contents writer.new))) }
-    ensures once { K.is_honest keeper.new → left.AtMostOne (Some at) (K.vault keeper.old) (K.vault keeper.new) }
-    ensures unread { result ≡ Err faults.Read → K.vault keeper.new ≡ K.vault keeper.old }
-    ensures taken { OnOk result ((taken : List ℕ) × Consumes (R.remaining reader.old) (R.remaining reader.new) taken × IsWithinLength size taken) }
-    ensures honest { K.is_honest keeper.new → K.is_honest keeper.old }
-    ensures counted { K.count keeper.old ≤ K.count keeper.new }
-    ensures steady { Steady (K.is_honest keeper.new) result (Some at) (K.vault keeper.old) (K.vault keeper.new) (K.count keeper.old) (K.count keeper.new) (W.contents writer.old) (W.contents writer.new) }
-{
-    let stated = send_interim(writer, waits);
-    let judged = command_after(alloc, reader, operation, locks, size, stated)?;
-    conclude(alloc, writer, keeper, at, caller, judged, shown)
-}
+use vault_http_request::host::Hosts;
+use vault_http_request::plan::Plan;
+use vault_http_request::request_headers::RequestHeaders;
 
 /// Serves a plan, with what comes after its head.
 fn serve_plan<R: Read, W: Write, K: Keeper>(
@@ -68,14 +29,14 @@ fn serve_plan<R: Read, W: Write, K: Keeper>(
     plan: Plan,
     shown: bool,
 ) -> Result<(), ServeFault>
-    ensures ok { K.is_honest keeper.new → OnOk result (IfSome (R.remaining reader.old) (λ rest. (out : List ℕ) × spec.PlanServed (RoseOrIsFull (K.count keeper.old) (K.count keeper.new)) shown plan rest (K.vault keeper.old) out (K.vault keeper.new) × Appends (W.contents writer.old) (W.contents writer.new) out)) }
-    ensures err { K.is_honest keeper.new → IfErr result (λ e. IfSome (R.remaining reader.old) (λ rest. left.PlanLeft (RoseOrIsFull (K.count keeper.old) (K.count keeper.new)) e shown plan rest (R.remaining reader.new) (K.vault keeper.old) (K.vault keeper.new) (W.contents writer.old) (W.contents writer.new))) }
+    ensures ok { PlanServedBy K.Kept keeper.old keeper.new R.Read reader.old reader.new W.Write writer.old writer.new result shown plan }
+    ensures err { PlanLeftBy K.Kept keeper.old keeper.new R.Read reader.old reader.new W.Write writer.old writer.new result shown plan }
     ensures once { K.is_honest keeper.new → left.AtMostOne (Some plan.at) (K.vault keeper.old) (K.vault keeper.new) }
     ensures unread { result ≡ Err faults.Read → K.vault keeper.new ≡ K.vault keeper.old }
     ensures taken { OnOk result ((taken : List ℕ) × Consumes (R.remaining reader.old) (R.remaining reader.new) taken × IsWithinLength plan.headers.length taken) }
     ensures honest { K.is_honest keeper.new → K.is_honest keeper.old }
     ensures counted { K.count keeper.old ≤ K.count keeper.new }
-    ensures steady { Steady (K.is_honest keeper.new) result (Some plan.at) (K.vault keeper.old) (K.vault keeper.new) (K.count keeper.old) (K.count keeper.new) (W.contents writer.old) (W.contents writer.new) }
+    ensures steady { SteadyBy K.Kept keeper.old keeper.new W.Write writer.old writer.new result (Some plan.at) }
 {
     let Plan {
         at,
@@ -88,151 +49,10 @@ fn serve_plan<R: Read, W: Write, K: Keeper>(
         locks,
         waits,
     } = headers;
-    serve_parts(
-        alloc, reader, writer, keeper, at, operation, length, caller, locks, waits, shown,
-    )
-}
-
-/// Whether an answer to the method shows its body.
-fn is_shown(method: &[u8]) -> bool
-    ensures { result ≡ spec.is_shown method.now }
-{
-    method != b"HEAD".as_slice()
-}
-
-fn allow_of(resource: Resource) -> Allow
-    ensures { result ≡ spec.allow_of resource }
-{
-    match resource {
-        Resource::Object => Allow::Object,
-        Resource::Setting => Allow::Setting,
-        Resource::Bucket => Allow::Bucket,
-        Resource::Versions => Allow::Versions,
-        Resource::Lifecycle => Allow::Lifecycle,
-    }
-}
-
-/// What a head asks for, its parts where they lie in the buffer. It is refused where it is for none of the hosts.
-fn spans_asked(
-    alloc: Global,
-    hosts: &Hosts,
-    moment: &Option<Moment>,
-    buf: &[u8],
-    headers: &[HeaderSpan],
-    spans: RequestSpans,
-) -> Result<Asked, LineFault>
-    requires within { IsRequestWithin buf.now headers.now spans }
-    requires room { length headers.now ≡ 64 }
-    ensures value { Gives (λ x. x) result (spec.spans_asked hosts.now moment.now buf.now headers.now spans) }
-    ensures at { IfOk result (IsAt moment.now) }
-{
-    let headers = &headers[..spans.headers];
-    if !is_for(hosts, buf, headers) {
-        return Err(LineFault::Refused(Refusal::InvalidArgument));
-    }
-    asked_of(
-        alloc,
-        *moment,
-        spans.method.of(buf),
-        spans.path.of(buf),
-        spans.version,
-        buf,
-        headers,
-    )
-}
-
-/// Serves what a head asks for, with what comes after it.
-fn serve_asked<R: Read, W: Write, K: Keeper>(
-    alloc: Global,
-    reader: &mut R,
-    writer: &mut W,
-    keeper: &mut K,
-    moment: &Option<Moment>,
-    asked: Asked,
-    shown: bool,
-) -> Result<(), ServeFault>
-    requires { IsAt moment.now asked }
-    ensures ok { K.is_honest keeper.new → OnOk result (IfSome (R.remaining reader.old) (λ rest. (out : List ℕ) × spec.AskedServed (RoseOrIsFull (K.count keeper.old) (K.count keeper.new)) moment.now shown asked rest (K.vault keeper.old) out (K.vault keeper.new) × Appends (W.contents writer.old) (W.contents writer.new) out)) }
-    ensures err { K.is_honest keeper.new → IfErr result (λ e. IfSome (R.remaining reader.old) (λ rest. left.AskedLeft (RoseOrIsFull (K.count keeper.old) (K.count keeper.new)) e moment.now shown asked rest (R.remaining reader.new) (K.vault keeper.old) (K.vault keeper.new) (W.contents writer.old) (W.contents writer.new))) }
-    ensures once { K.is_honest keeper.new → left.AtMostOne moment.now (K.vault keeper.old) (K.vault keeper.new) }
-    ensures unread { result ≡ Err faults.Read → K.vault keeper.new ≡ K.vault keeper.old }
-    ensures taken { OnOk result ((taken : List ℕ) × Consumes (R.remaining reader.old) (R.remaining reader.new) taken × left.IsAskedTaken asked taken) }
-    ensures honest { K.is_honest keeper.new → K.is_honest keeper.old }
-    ensures counted { K.count keeper.old ≤ K.count keeper.new }
-    ensures steady { Steady (K.is_honest keeper.new) result moment.now (K.vault keeper.old) (K.vault keeper.new) (K.count keeper.old) (K.count keeper.new) (W.contents writer.old) (W.contents writer.new) }
-{
-    match asked {
-        Asked::Plan(plan) => serve_plan(alloc, reader, writer, keeper, plan, shown),
-        Asked::NotAllowed(resource) => deny(
-            alloc,
-            writer,
-            *moment,
-            Refusal::MethodNotAllowed,
-            Some(allow_of(resource)),
-            shown,
-        ),
-    }
-}
-
-/// Serves what was judged of a head, with what comes after it.
-fn serve_judged<R: Read, W: Write, K: Keeper>(
-    alloc: Global,
-    reader: &mut R,
-    writer: &mut W,
-    keeper: &mut K,
-    moment: &Option<Moment>,
-    judged: Result<Asked, LineFault>,
-    shown: bool,
-) -> Result<(), ServeFault>
-    requires { IfOk judged (IsAt moment.now) }
-    ensures ok { K.is_honest keeper.new → (said : spec.Said) → Gives (λ x. x) judged said → OnOk result (IfSome (R.remaining reader.old) (λ rest. (out : List ℕ) × spec.HeadJudged (RoseOrIsFull (K.count keeper.old) (K.count keeper.new)) moment.now shown said rest (K.vault keeper.old) out (K.vault keeper.new) × Appends (W.contents writer.old) (W.contents writer.new) out)) }
-    ensures err { K.is_honest keeper.new → (said : spec.Said) → Gives (λ x. x) judged said → IfErr result (λ e. IfSome (R.remaining reader.old) (λ rest. left.HeadLeft (RoseOrIsFull (K.count keeper.old) (K.count keeper.new)) e moment.now shown said rest (R.remaining reader.new) (K.vault keeper.old) (K.vault keeper.new) (W.contents writer.old) (W.contents writer.new))) }
-    ensures once { K.is_honest keeper.new → left.AtMostOne moment.now (K.vault keeper.old) (K.vault keeper.new) }
-    ensures unread { result ≡ Err faults.Read → K.vault keeper.new ≡ K.vault keeper.old }
-    ensures taken { (said : spec.Said) → Gives (λ x. x) judged said → OnOk result ((taken : List ℕ) × Consumes (R.remaining reader.old) (R.remaining reader.new) taken × left.IsBodyTaken said taken) }
-    ensures honest { K.is_honest keeper.new → K.is_honest keeper.old }
-    ensures counted { K.count keeper.old ≤ K.count keeper.new }
-    ensures steady { Steady (K.is_honest keeper.new) result moment.now (K.vault keeper.old) (K.vault keeper.new) (K.count keeper.old) (K.count keeper.new) (W.contents writer.old) (W.contents writer.new) }
-{
-    match judged {
-        Ok(asked) => serve_asked(alloc, reader, writer, keeper, moment, asked, shown),
-        Err(LineFault::Memory) => Err(ServeFault::Memory),
-        Err(LineFault::Refused(refusal)) => deny(alloc, writer, *moment, refusal, None, shown),
-    }
-}
-
-/// Serves a head, with what comes after it.
-fn serve_head<R: Read, W: Write, K: Keeper>(
-    alloc: Global,
-    reader: &mut R,
-    writer: &mut W,
-    keeper: &mut K,
-    hosts: &Hosts,
-    moment: &Option<Moment>,
-    buf: &[u8],
-    headers: &[HeaderSpan],
-    spans: RequestSpans,
-) -> Result<(), ServeFault>
-    requires within { IsRequestWithin buf.now headers.now spans }
-    requires room { length headers.now ≡ 64 }
-    ensures ok { K.is_honest keeper.new → OnOk result (IfSome (R.remaining reader.old) (λ rest. (out : List ℕ) × spec.HeadJudged (RoseOrIsFull (K.count keeper.old) (K.count keeper.new)) moment.now (spec.is_shown (span_bytes buf.now spans.method)) (spec.spans_asked hosts.now moment.now buf.now headers.now spans) rest (K.vault keeper.old) out (K.vault keeper.new) × Appends (W.contents writer.old) (W.contents writer.new) out)) }
-    ensures err { K.is_honest keeper.new → IfErr result (λ e. IfSome (R.remaining reader.old) (λ rest. left.HeadLeft (RoseOrIsFull (K.count keeper.old) (K.count keeper.new)) e moment.now (spec.is_shown (span_bytes buf.now spans.method)) (spec.spans_asked hosts.now moment.now buf.now headers.now spans) rest (R.remaining reader.new) (K.vault keeper.old) (K.vault keeper.new) (W.contents writer.old) (W.contents writer.new))) }
-    ensures once { K.is_honest keeper.new → left.AtMostOne moment.now (K.vault keeper.old) (K.vault keeper.new) }
-    ensures unread { result ≡ Err faults.Read → K.vault keeper.new ≡ K.vault keeper.old }
-    ensures taken { OnOk result ((taken : List ℕ) × Consumes (R.remaining reader.old) (R.remaining reader.new) taken × left.IsBodyTaken (spec.spans_asked hosts.now moment.now buf.now headers.now spans) taken) }
-    ensures honest { K.is_honest keeper.new → K.is_honest keeper.old }
-    ensures counted { K.count keeper.old ≤ K.count keeper.new }
-    ensures steady { Steady (K.is_honest keeper.new) result moment.now (K.vault keeper.old) (K.vault keeper.new) (K.count keeper.old) (K.count keeper.new) (W.contents writer.old) (W.contents writer.new) }
-{
-    serve_judged(
-        alloc,
-        reader,
-        writer,
-        keeper,
-        moment,
-        spans_asked(alloc, hosts, moment, buf, headers, spans),
-        is_shown(spans.method.of(buf)),
-    )
+    let context = RequestContext { at, caller, shown };
+    let stated = send_interim(writer, waits);
+    let judged = command_after(alloc, reader, operation, locks, length, stated)?;
+    conclude(alloc, writer, keeper, &context, judged)
 }
 
 /// Serves one request at a moment, where the reading is one.
@@ -244,32 +64,27 @@ fn serve_at<R: Read, W: Write, K: Keeper>(
     moment: Option<Moment>,
     hosts: &Hosts,
 ) -> Result<(), ServeFault>
-    ensures ok { K.is_honest keeper.new → OnOk result (spec.Answered hosts.now (RoseOrIsFull (K.count keeper.old) (K.count keeper.new)) moment (R.remaining reader.old)
-        (K.vault keeper.old) (K.vault keeper.new) (W.contents writer.old) (W.contents writer.new)) }
-    ensures err { K.is_honest keeper.new → IfErr result (λ e. left.Unanswered hosts.now (RoseOrIsFull (K.count keeper.old) (K.count keeper.new)) e moment (R.remaining reader.old) (R.remaining reader.new)
-        (K.vault keeper.old) (K.vault keeper.new) (W.contents writer.old) (W.contents writer.new)) }
+    ensures ok { AnsweredBy K.Kept keeper.old keeper.new R.Read reader.old reader.new W.Write writer.old writer.new result hosts.now moment }
+    ensures err { UnansweredBy K.Kept keeper.old keeper.new R.Read reader.old reader.new W.Write writer.old writer.new result hosts.now moment }
     ensures once { K.is_honest keeper.new → left.AtMostOne moment (K.vault keeper.old) (K.vault keeper.new) }
     ensures unread { result ≡ Err faults.Read → K.vault keeper.new ≡ K.vault keeper.old }
     ensures taken { OnOk result (left.Taken hosts.now moment (R.remaining reader.old) (R.remaining reader.new)) }
     ensures leaves { left.LeavesNoLess K.Kept keeper.old keeper.new }
-    ensures steady { Steady (K.is_honest keeper.new) result moment (K.vault keeper.old) (K.vault keeper.new) (K.count keeper.old) (K.count keeper.new) (W.contents writer.old) (W.contents writer.new) }
+    ensures steady { SteadyBy K.Kept keeper.old keeper.new W.Write writer.old writer.new result moment }
 {
-    let mut buf = Vec::new(alloc);
-    let mut headers = [EMPTY_HEADER_SPAN; 64];
-    match read_head(reader, &mut buf, &mut headers)? {
-        Front::Nothing => Ok(()),
-        Front::NoHead => deny(alloc, writer, moment, Refusal::InvalidArgument, None, true),
-        Front::Head(spans) => serve_head(
-            alloc,
-            reader,
-            writer,
-            keeper,
-            hosts,
-            &moment,
-            buf.as_slice(),
-            &headers,
-            spans,
-        ),
+    match judge_request(alloc, reader, hosts, &moment)? {
+        Judgement::Nothing => Ok(()),
+        Judgement::Denied(refusal, allow, shown) => {
+            let denial = Denial {
+                refusal,
+                allow,
+                shown,
+            };
+            deny(alloc, writer, moment, &denial)
+        }
+        Judgement::Planned(plan, shown) => {
+            serve_plan(alloc, reader, writer, keeper, plan, shown)
+        }
     }
 }
 
@@ -295,16 +110,16 @@ pub fn serve_one<R: Read, W: Write, K: Keeper>(
     keeper: &mut K,
     reading: i64,
 ) -> Result<(), ServeFault>
-    ensures ok { K.is_honest keeper.new → OnOk result (IfSome (R.remaining reader.old) (λ input. (out : List ℕ) × spec.Served (RoseOrIsFull (K.count keeper.old) (K.count keeper.new)) (moment_at reading) input (K.vault keeper.old) out (K.vault keeper.new) × Appends (W.contents writer.old) (W.contents writer.new) out)) }
-    ensures err { K.is_honest keeper.new → IfErr result (λ e. IfSome (R.remaining reader.old) (λ input. left.Left (RoseOrIsFull (K.count keeper.old) (K.count keeper.new)) e (moment_at reading) input (R.remaining reader.new) (K.vault keeper.old) (K.vault keeper.new) (W.contents writer.old) (W.contents writer.new))) }
+    ensures ok { AnsweredBy K.Kept keeper.old keeper.new R.Read reader.old reader.new W.Write writer.old writer.new result [] (moment_at reading) }
+    ensures err { UnansweredBy K.Kept keeper.old keeper.new R.Read reader.old reader.new W.Write writer.old writer.new result [] (moment_at reading) }
     ensures once { K.is_honest keeper.new → left.AtMostOne (moment_at reading) (K.vault keeper.old) (K.vault keeper.new) }
     ensures unread { result ≡ Err faults.Read → K.vault keeper.new ≡ K.vault keeper.old }
-    ensures taken { OnOk result (IfSome (R.remaining reader.old) (λ input. (taken : List ℕ) × Consumes (R.remaining reader.old) (R.remaining reader.new) taken × left.IsTaken (moment_at reading) input taken)) }
+    ensures taken { OnOk result (left.Taken [] (moment_at reading) (R.remaining reader.old) (R.remaining reader.new)) }
     ensures honest { K.is_honest keeper.new → K.is_honest keeper.old }
     ensures counted { K.count keeper.old ≤ K.count keeper.new }
     // Where the count rose, the reply of the one step says that the device failed, and what is written is its
     // answer, or a beginning of that.
-    ensures steady { Steady (K.is_honest keeper.new) result (moment_at reading) (K.vault keeper.old) (K.vault keeper.new) (K.count keeper.old) (K.count keeper.new) (W.contents writer.old) (W.contents writer.new) }
+    ensures steady { SteadyBy K.Kept keeper.old keeper.new W.Write writer.old writer.new result (moment_at reading) }
 {
     let hosts = Hosts::any(alloc);
     let moment = Moment::from_secs(reading);
@@ -323,16 +138,13 @@ pub fn serve_for<R: Read, W: Write, K: Keeper>(
     reading: i64,
     hosts: &Hosts,
 ) -> Result<(), ServeFault>
-    ensures ok { K.is_honest keeper.new → OnOk result (spec.Answered hosts.now (RoseOrIsFull (K.count keeper.old) (K.count keeper.new)) (moment_at reading) (R.remaining reader.old)
-        (K.vault keeper.old) (K.vault keeper.new) (W.contents writer.old) (W.contents writer.new)) }
-    ensures err { K.is_honest keeper.new → IfErr result (λ e. left.Unanswered hosts.now (RoseOrIsFull (K.count keeper.old) (K.count keeper.new)) e (moment_at reading) (R.remaining reader.old)
-        (R.remaining reader.new) (K.vault keeper.old) (K.vault keeper.new) (W.contents writer.old) (W.contents writer.new)) }
+    ensures ok { AnsweredBy K.Kept keeper.old keeper.new R.Read reader.old reader.new W.Write writer.old writer.new result hosts.now (moment_at reading) }
+    ensures err { UnansweredBy K.Kept keeper.old keeper.new R.Read reader.old reader.new W.Write writer.old writer.new result hosts.now (moment_at reading) }
     ensures once { K.is_honest keeper.new → left.AtMostOne (moment_at reading) (K.vault keeper.old) (K.vault keeper.new) }
     ensures unread { result ≡ Err faults.Read → K.vault keeper.new ≡ K.vault keeper.old }
     ensures taken { OnOk result (left.Taken hosts.now (moment_at reading) (R.remaining reader.old) (R.remaining reader.new)) }
     ensures leaves { left.LeavesNoLess K.Kept keeper.old keeper.new }
-    ensures steady { Steady (K.is_honest keeper.new) result (moment_at reading) (K.vault keeper.old) (K.vault keeper.new)
-        (K.count keeper.old) (K.count keeper.new) (W.contents writer.old) (W.contents writer.new) }
+    ensures steady { SteadyBy K.Kept keeper.old keeper.new W.Write writer.old writer.new result (moment_at reading) }
 {
     let moment = Moment::from_secs(reading);
     serve_at(alloc, reader, writer, keeper, moment, hosts)

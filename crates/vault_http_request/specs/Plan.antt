@@ -1,5 +1,8 @@
 -- What a head asks for: one point after another, and the first fault is the answer.
-use Rattle.std.specs.Prelude.{ℕ, ◌≡◌, List, Option, Some, None, Result, Ok, Err}
+use Rattle.std.specs.Prelude.{ℕ, ◌≡◌, List, map, take, Option, Some, None, Result, Ok, Err}
+use Rattle.httparse.specs.Spans.{span_bytes, header_bytes}
+use Rattle.httparse.specs.declared.spans.HeaderSpan.{HeaderSpan}
+use Rattle.httparse.specs.declared.spans.RequestSpans.{RequestSpans}
 use Rattle.vault_base.specs.declared.refusal.Refusal.{Refusal}
 use Rattle.vault_base.specs.declared.refusal.Refusal.TheVariants.{ClockOutOfRange}
 use Rattle.vault_values.specs.Fault.{◌>>=◌}
@@ -35,6 +38,11 @@ asked_of moment method target minor fields = do
   _ ← supported fields
   target ← target_of method target
   allowed at (operation_of method target) minor fields
+
+-- the same of a head whose parts lie in a buffer
+abbrev pub asked_in : Option ℕ → List ℕ → List HeaderSpan → RequestSpans → Result Asked Refusal
+asked_in moment buf headers spans =
+    asked_of moment (span_bytes buf spans.method) (span_bytes buf spans.path) spans.version (map (header_bytes buf) (take spans.headers headers))
 
 -- a plan is for the reading
 abbrev pub IsAt : Option ℕ → Asked → Type 0

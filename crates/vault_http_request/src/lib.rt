@@ -2,6 +2,7 @@
 #![tactic(auto)]
 
 pub mod command;
+pub mod host;
 pub mod operation;
 pub mod plan;
 pub mod request_headers;

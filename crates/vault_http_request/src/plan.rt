@@ -1,13 +1,13 @@
 //! What a head asks for, judged point by point.
 ghost use Rattle.std.specs.Prelude.{◌≡◌, ◌≤◌, All, IfOk, Some, length, map};
-ghost use Rattle.httparse.specs.Spans.{header_bytes, IsHeaderWithin};
+ghost use Rattle.httparse.specs.Spans.{header_bytes, IsHeaderWithin, IsRequestWithin};
 ghost use Rattle.vault_values.specs.Fault.{Gives};
 ghost use Rattle.vault_http_request.specs.Plan as spec;
 
 use crate::operation::{Operation, Resource, operation_of};
 use crate::request_headers::{RequestHeaders, accepted_headers_of, request_headers_of};
 use crate::supported::check_supported;
-use httparse::spans::HeaderSpan;
+use httparse::spans::{HeaderSpan, RequestSpans};
 use std::alloc::Global;
 use vault_base::moment::Moment;
 use vault_base::refusal::Refusal;
@@ -86,7 +86,7 @@ fn allowed(
     }
 }
 
-/// What a head asks for at a moment, where the reading is one.
+/// What a head asks for at a moment, where the reading is one; its parts lie in a buffer.
 ///
 /// The first fault is the answer, in this order: the reading; a header that asks for what the vault
 /// doesn't do; the path; the query; the method; the length of a body; headers twice; the caller; locks.
@@ -94,19 +94,20 @@ fn allowed(
 pub fn asked_of(
     alloc: Global,
     moment: Option<Moment>,
-    method: &[u8],
-    target: &[u8],
-    minor: u8,
     buf: &[u8],
     headers: &[HeaderSpan],
+    spans: RequestSpans,
 ) -> Result<Asked, LineFault>
-    requires within { All (IsHeaderWithin (length buf.now)) headers.now }
+    requires within { IsRequestWithin buf.now headers.now spans }
     requires few { length headers.now ≤ 64 }
-    ensures value { Gives (λ x. x) result (spec.asked_of moment method.now target.now minor (map (header_bytes buf.now) headers.now)) }
+    ensures value { Gives (λ x. x) result (spec.asked_in moment buf.now headers.now spans) }
     ensures at { IfOk result (spec.IsAt moment) }
 {
+    let headers = &headers[..spans.headers];
+    let method = spans.method.of(buf);
     let at = clock(moment)?;
     check_supported(buf, headers)?;
-    let target = target_of(alloc, method, target)?;
-    allowed(alloc, at, operation_of(method, target), minor, buf, headers)
+    let target = target_of(alloc, method, spans.path.of(buf))?;
+    let operation = operation_of(method, target);
+    allowed(alloc, at, operation, spans.version, buf, headers)
 }

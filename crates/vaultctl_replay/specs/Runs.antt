@@ -2,10 +2,12 @@
 use Rattle.std.specs.Prelude.{◌≡◌, ◌≤◌, ℕ, List, [], ◌∷◌, ◌++◌, length, Option, ◌⊎◌, false}
 use Rattle.std.specs.Io.KnownBytes.{Appends}
 use Rattle.std.specs.List.{flat_map, list_any}
+use Rattle.std.specs.declared.io.Write.{Ghosts as Writing}
 use Rattle.vault_core_model.specs.Leaves.{count_after}
 use Rattle.vault_core_model.specs.Halts.{is_device_reply}
 use Rattle.vault_core_model.specs.Step.{IsStep}
 use Rattle.vault_core_model.specs.Vault.{Vault}
+use Rattle.vault_core_model.specs.declared.kept.Kept.{Ghosts}
 use Rattle.vault_core_model.specs.declared.reply.Reply.{Reply}
 use Rattle.vault_core_model.specs.declared.reply.Reply.TheVariants as reply
 use Rattle.vault_http.specs.ReplyLine.{reply_text}
@@ -67,3 +69,23 @@ abbrev pub Steady : Type 0 → Type 0 → Vault → ℕ → Option (List ℕ) �
 Steady Honest AtEnd v n w taken v' n' w' =
     (made : List Line) × (later : List Line) × (replies : List Reply) × AskSoFar AtEnd taken (made ++ later) × Runs Honest v n made replies v' n'
     × Begins w w' (lines_of replies) × (list_any is_device_reply replies ≡ false → n' ≡ n)
+
+-- ---- the same, of the keeper and the writer of a call before it and after it
+
+module _ {K : Type 0} (g : Ghosts K) (old new : K) where
+  -- the keeper carried the line out, and this is to be written of its reply
+  abbrev pub RepliedBy : Line → List ℕ → Type 0
+  RepliedBy asked out = Replied (g.is_honest new) (g.vault old) (g.count old) asked out (g.vault new) (g.count new)
+
+  -- the keeper carried the line out or not, and nothing of its reply is written
+  abbrev pub UnwrittenBy : Line → Type 0
+  UnwrittenBy asked = Unwritten (g.is_honest new) (g.vault old) (g.count old) asked (g.vault new) (g.count new)
+
+module _ {K : Type 0} (g : Ghosts K) (old new : K) {W : Type 0} (w : Writing W) (before after : W) where
+  -- the keeper carried the lines out, and their replies were written
+  abbrev pub FinishedBy : List Line → Type 0
+  FinishedBy asked = Finished (g.is_honest new) (g.vault old) (g.count old) (w.contents before) asked (g.vault new) (g.count new) (w.contents after)
+
+  -- the keeper carried the first lines out, and their replies were written; of one line more, or of none, a beginning of its reply
+  abbrev pub BeganBy : List Line → Type 0
+  BeganBy asked = Began (g.is_honest new) (g.vault old) (g.count old) (w.contents before) asked (g.vault new) (g.count new) (w.contents after)

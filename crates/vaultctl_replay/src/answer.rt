@@ -5,7 +5,7 @@ ghost use Rattle.vault_http.specs.ReadLine.{line_of};
 ghost use Rattle.vault_http.specs.ReplyLine.{reply_text};
 ghost use Rattle.vault_http.specs.Line.TheVariants.{Command};
 ghost use Rattle.vaultctl_replay.specs.Lines.{unended_of};
-ghost use Rattle.vaultctl_replay.specs.Runs.{Began, Finished, Replied, Unwritten};
+ghost use Rattle.vaultctl_replay.specs.Runs.{BeganBy, FinishedBy, RepliedBy, UnwrittenBy};
 
 use crate::fault::ReplayFault;
 use crate::observer::Observer;
@@ -37,8 +37,8 @@ fn carried_out<K: Keeper, O: Observer>(
     observer: &mut O,
     timed: Timed,
 ) -> Result<String, AllocError>
-    ensures ok { IfOk result (λ text. Replied (K.is_honest keeper.new) (K.vault keeper.old) (K.count keeper.old) (Command timed) (string_bytes text) (K.vault keeper.new) (K.count keeper.new)) }
-    ensures err { OnErr result (Unwritten (K.is_honest keeper.new) (K.vault keeper.old) (K.count keeper.old) (Command timed) (K.vault keeper.new) (K.count keeper.new)) }
+    ensures ok { IfOk result (λ text. RepliedBy K.Kept keeper.old keeper.new (Command timed) (string_bytes text)) }
+    ensures err { OnErr result (UnwrittenBy K.Kept keeper.old keeper.new (Command timed)) }
     ensures leaves { LeavesNoLess K.Kept keeper.old keeper.new }
 {
     let reply = step(alloc, keeper, timed.at, &timed.who, &timed.command);
@@ -54,8 +54,8 @@ fn reply_to<K: Keeper, O: Observer>(
     observer: &mut O,
     asked: Line,
 ) -> Result<String, AllocError>
-    ensures ok { IfOk result (λ reply. Replied (K.is_honest keeper.new) (K.vault keeper.old) (K.count keeper.old) asked (string_bytes reply) (K.vault keeper.new) (K.count keeper.new)) }
-    ensures err { OnErr result (Unwritten (K.is_honest keeper.new) (K.vault keeper.old) (K.count keeper.old) asked (K.vault keeper.new) (K.count keeper.new)) }
+    ensures ok { IfOk result (λ reply. RepliedBy K.Kept keeper.old keeper.new asked (string_bytes reply)) }
+    ensures err { OnErr result (UnwrittenBy K.Kept keeper.old keeper.new asked) }
     ensures leaves { LeavesNoLess K.Kept keeper.old keeper.new }
 {
     match asked {
@@ -75,8 +75,8 @@ pub fn answer<K: Keeper, W: Write, O: Observer>(
     observer: &mut O,
     asked: Line,
 ) -> Result<(), ReplayFault>
-    ensures ok { OnOk result (Finished (K.is_honest keeper.new) (K.vault keeper.old) (K.count keeper.old) (W.contents writer.old) (asked ∷ []) (K.vault keeper.new) (K.count keeper.new) (W.contents writer.new)) }
-    ensures err { OnErr result (Began (K.is_honest keeper.new) (K.vault keeper.old) (K.count keeper.old) (W.contents writer.old) (asked ∷ []) (K.vault keeper.new) (K.count keeper.new) (W.contents writer.new)) }
+    ensures ok { OnOk result (FinishedBy K.Kept keeper.old keeper.new W.Write writer.old writer.new (asked ∷ [])) }
+    ensures err { OnErr result (BeganBy K.Kept keeper.old keeper.new W.Write writer.old writer.new (asked ∷ [])) }
     ensures kind { ¬ (result ≡ Err ReplayFault.Read) }
     ensures leaves { LeavesNoLess K.Kept keeper.old keeper.new }
 {
@@ -94,8 +94,8 @@ pub fn answer_line<K: Keeper, W: Write, O: Observer>(
     observer: &mut O,
     line: &[u8],
 ) -> Result<(), ReplayFault>
-    ensures ok { OnOk result (Finished (K.is_honest keeper.new) (K.vault keeper.old) (K.count keeper.old) (W.contents writer.old) (line_of line.now ∷ []) (K.vault keeper.new) (K.count keeper.new) (W.contents writer.new)) }
-    ensures err { OnErr result (Began (K.is_honest keeper.new) (K.vault keeper.old) (K.count keeper.old) (W.contents writer.old) (line_of line.now ∷ []) (K.vault keeper.new) (K.count keeper.new) (W.contents writer.new)) }
+    ensures ok { OnOk result (FinishedBy K.Kept keeper.old keeper.new W.Write writer.old writer.new (line_of line.now ∷ [])) }
+    ensures err { OnErr result (BeganBy K.Kept keeper.old keeper.new W.Write writer.old writer.new (line_of line.now ∷ [])) }
     ensures kind { ¬ (result ≡ Err ReplayFault.Read) }
     ensures honest { K.is_honest keeper.new → K.is_honest keeper.old }
     ensures counted { K.count keeper.old ≤ K.count keeper.new }
@@ -115,8 +115,8 @@ pub fn answer_unended<K: Keeper, W: Write, O: Observer>(
     observer: &mut O,
     line: &[u8],
 ) -> Result<(), ReplayFault>
-    ensures ok { OnOk result (Finished (K.is_honest keeper.new) (K.vault keeper.old) (K.count keeper.old) (W.contents writer.old) (unended_of line.now ∷ []) (K.vault keeper.new) (K.count keeper.new) (W.contents writer.new)) }
-    ensures err { OnErr result (Began (K.is_honest keeper.new) (K.vault keeper.old) (K.count keeper.old) (W.contents writer.old) (unended_of line.now ∷ []) (K.vault keeper.new) (K.count keeper.new) (W.contents writer.new)) }
+    ensures ok { OnOk result (FinishedBy K.Kept keeper.old keeper.new W.Write writer.old writer.new (unended_of line.now ∷ [])) }
+    ensures err { OnErr result (BeganBy K.Kept keeper.old keeper.new W.Write writer.old writer.new (unended_of line.now ∷ [])) }
     ensures kind { ¬ (result ≡ Err ReplayFault.Read) }
     ensures honest { K.is_honest keeper.new → K.is_honest keeper.old }
     ensures counted { K.count keeper.old ≤ K.count keeper.new }

@@ -1,7 +1,7 @@
 //! The lines of an input, whatever pieces it comes in.
 ghost use Rattle.std.specs.Prelude.{◌≡◌, ◌≤◌, [], ◌∷◌, ◌++◌, take, IfErr, OnOk, OnErr, vec_len};
 ghost use Rattle.vaultctl_replay.specs.Lines.{advance, asked_in, last_of};
-ghost use Rattle.vaultctl_replay.specs.Runs.{Began, Finished};
+ghost use Rattle.vaultctl_replay.specs.Runs.{BeganBy, FinishedBy};
 
 use crate::answer::{answer_line, answer_unended};
 use crate::fault::ReplayFault;
@@ -42,9 +42,9 @@ fn take_byte<K: Keeper, W: Write, O: Observer>(
     byte: u8,
 ) -> Result<(), ReplayFault>
     requires { vec_len part.old ≤ room.most }
-    ensures ok { OnOk result (Finished (K.is_honest keeper.new) (K.vault keeper.old) (K.count keeper.old) (W.contents writer.old) (asked_in room.most part.old.items (byte ∷ [])) (K.vault keeper.new) (K.count keeper.new) (W.contents writer.new)) }
+    ensures ok { OnOk result (FinishedBy K.Kept keeper.old keeper.new W.Write writer.old writer.new (asked_in room.most part.old.items (byte ∷ []))) }
     ensures part { OnOk result (part.new.items ≡ (advance room.most part.old.items (byte ∷ [])).1) }
-    ensures err { OnErr result (Began (K.is_honest keeper.new) (K.vault keeper.old) (K.count keeper.old) (W.contents writer.old) (asked_in room.most part.old.items (byte ∷ [])) (K.vault keeper.new) (K.count keeper.new) (W.contents writer.new)) }
+    ensures err { OnErr result (BeganBy K.Kept keeper.old keeper.new W.Write writer.old writer.new (asked_in room.most part.old.items (byte ∷ []))) }
     ensures bound { vec_len part.new ≤ room.most }
     ensures kind { ¬ (result ≡ Err ReplayFault.Read) }
     ensures honest { K.is_honest keeper.new → K.is_honest keeper.old }
@@ -69,9 +69,9 @@ pub fn feed<K: Keeper, W: Write, O: Observer>(
     piece: &[u8],
 ) -> Result<(), ReplayFault>
     requires { vec_len part.old ≤ room.most }
-    ensures ok { OnOk result (Finished (K.is_honest keeper.new) (K.vault keeper.old) (K.count keeper.old) (W.contents writer.old) (asked_in room.most part.old.items piece.now) (K.vault keeper.new) (K.count keeper.new) (W.contents writer.new)) }
+    ensures ok { OnOk result (FinishedBy K.Kept keeper.old keeper.new W.Write writer.old writer.new (asked_in room.most part.old.items piece.now)) }
     ensures part { OnOk result (part.new.items ≡ (advance room.most part.old.items piece.now).1) }
-    ensures err { OnErr result (Began (K.is_honest keeper.new) (K.vault keeper.old) (K.count keeper.old) (W.contents writer.old) (asked_in room.most part.old.items piece.now) (K.vault keeper.new) (K.count keeper.new) (W.contents writer.new)) }
+    ensures err { OnErr result (BeganBy K.Kept keeper.old keeper.new W.Write writer.old writer.new (asked_in room.most part.old.items piece.now)) }
     ensures bound { vec_len part.new ≤ room.most }
     ensures kind { ¬ (result ≡ Err ReplayFault.Read) }
     ensures honest { K.is_honest keeper.new → K.is_honest keeper.old }
@@ -91,8 +91,8 @@ fn answer_last<K: Keeper, W: Write, O: Observer>(
     observer: &mut O,
     part: &[u8],
 ) -> Result<(), ReplayFault>
-    ensures ok { OnOk result (Finished (K.is_honest keeper.new) (K.vault keeper.old) (K.count keeper.old) (W.contents writer.old) (last_of part.now) (K.vault keeper.new) (K.count keeper.new) (W.contents writer.new)) }
-    ensures err { OnErr result (Began (K.is_honest keeper.new) (K.vault keeper.old) (K.count keeper.old) (W.contents writer.old) (last_of part.now) (K.vault keeper.new) (K.count keeper.new) (W.contents writer.new)) }
+    ensures ok { OnOk result (FinishedBy K.Kept keeper.old keeper.new W.Write writer.old writer.new (last_of part.now)) }
+    ensures err { OnErr result (BeganBy K.Kept keeper.old keeper.new W.Write writer.old writer.new (last_of part.now)) }
     ensures kind { ¬ (result ≡ Err ReplayFault.Read) }
     ensures honest { K.is_honest keeper.new → K.is_honest keeper.old }
     ensures counted { K.count keeper.old ≤ K.count keeper.new }
@@ -112,8 +112,8 @@ pub fn finish<K: Keeper, W: Write, O: Observer>(
     observer: &mut O,
     part: &[u8],
 ) -> Result<(), ReplayFault>
-    ensures ok { OnOk result (Finished (K.is_honest keeper.new) (K.vault keeper.old) (K.count keeper.old) (W.contents writer.old) (last_of part.now) (K.vault keeper.new) (K.count keeper.new) (W.contents writer.new)) }
-    ensures err { OnErr result (Began (K.is_honest keeper.new) (K.vault keeper.old) (K.count keeper.old) (W.contents writer.old) (last_of part.now) (K.vault keeper.new) (K.count keeper.new) (W.contents writer.new)) }
+    ensures ok { OnOk result (FinishedBy K.Kept keeper.old keeper.new W.Write writer.old writer.new (last_of part.now)) }
+    ensures err { OnErr result (BeganBy K.Kept keeper.old keeper.new W.Write writer.old writer.new (last_of part.now)) }
     ensures kind { ¬ (result ≡ Err ReplayFault.Read) }
     ensures honest { K.is_honest keeper.new → K.is_honest keeper.old }
     ensures counted { K.count keeper.old ≤ K.count keeper.new }

@@ -9,30 +9,30 @@ use Rattle.vault_http.proofs.carrying.answer.Goals as goal
 
 pub returns-clause-once : goal.returns-clause-once
 returns-clause-once g c = λ h.
-    inr (c.args.at, c.args.who.now, c.args.command.now, c.step-reply.result, refl, c.step-reply.ensures.step h)
+    inr (c.args.context.now.at, c.args.context.now.caller, c.args.command.now, c.step-reply.result, refl, c.step-reply.ensures.step h)
 
 pub returns-clause-ok : goal.returns-clause-ok
 returns-clause-ok g c = λ h.
     on_ok_weaker c.send.result
-    (answer_served (RoseOrIsFull (g.K.Kept.count c.args.keeper.now) (g.K.Kept.count c.step-reply.new.keeper)) c.args.at c.args.shown c.args.who.now c.args.command.now (g.K.Kept.vault c.args.keeper.now) (g.K.Kept.vault c.step-reply.new.keeper) (g.W.Write.contents c.args.writer.now) (g.W.Write.contents c.send.new.writer) c.step-reply.result c.drops.result c.in-Ok.bytes.items c.as_slice.result.now (c.step-reply.ensures.step h) c.drops.ensures c.in-Ok.ensures (rose _ _ _ c.step-reply.ensures.leaves.counted) c.as_slice.ensures.value)
+    (answer_served (RoseOrIsFull (g.K.Kept.count c.args.keeper.now) (g.K.Kept.count c.step-reply.new.keeper)) c.args.context.now.at c.args.context.now.shown c.args.context.now.caller c.args.command.now (g.K.Kept.vault c.args.keeper.now) (g.K.Kept.vault c.step-reply.new.keeper) (g.W.Write.contents c.args.writer.now) (g.W.Write.contents c.send.new.writer) c.step-reply.result c.drops.result c.in-Ok.bytes.items c.as_slice.result.now (c.step-reply.ensures.step h) c.drops.ensures c.in-Ok.ensures (rose _ _ _ c.step-reply.ensures.leaves.counted) c.as_slice.ensures.value)
     c.send.ensures.ok
 
 pub returns-clause-err : goal.returns-clause-err
 returns-clause-err g c = λ h.
     IfErr-weaker c.send.result _ _
-    (answer_left (RoseOrIsFull (g.K.Kept.count c.args.keeper.now) (g.K.Kept.count c.step-reply.new.keeper)) c.args.at c.args.shown c.args.who.now c.args.command.now (g.K.Kept.vault c.args.keeper.now) (g.K.Kept.vault c.step-reply.new.keeper) (g.W.Write.contents c.args.writer.now) (g.W.Write.contents c.send.new.writer) c.step-reply.result c.drops.result c.in-Ok.bytes.items c.as_slice.result.now (c.step-reply.ensures.step h) c.drops.ensures c.in-Ok.ensures (rose _ _ _ c.step-reply.ensures.leaves.counted) c.as_slice.ensures.value)
+    (answer_left (RoseOrIsFull (g.K.Kept.count c.args.keeper.now) (g.K.Kept.count c.step-reply.new.keeper)) c.args.context.now.at c.args.context.now.shown c.args.context.now.caller c.args.command.now (g.K.Kept.vault c.args.keeper.now) (g.K.Kept.vault c.step-reply.new.keeper) (g.W.Write.contents c.args.writer.now) (g.W.Write.contents c.send.new.writer) c.step-reply.result c.drops.result c.in-Ok.bytes.items c.as_slice.result.now (c.step-reply.ensures.step h) c.drops.ensures c.in-Ok.ensures (rose _ _ _ c.step-reply.ensures.leaves.counted) c.as_slice.ensures.value)
     c.send.ensures.err
 
 pub returns-in_default-clause-steady : goal.returns-in_default-clause-steady
 returns-in_default-clause-steady g c =
     let step = c.step-reply in
     let a = g.W.Write.contents c.args.writer.now in
-    step_steady _ (Err faults.Memory) c.args.at c.args.shown c.args.who.now _ _ _ _ c.args.command.now step.result a a step.ensures.step (stays _ _ _ step.ensures.leaves.counted) (refl {a = a})
+    step_steady _ (Err faults.Memory) c.args.context.now.at c.args.context.now.shown c.args.context.now.caller _ _ _ _ c.args.command.now step.result a a step.ensures.step (stays _ _ _ step.ensures.leaves.counted) (refl {a = a})
 
 pub returns-clause-steady : goal.returns-clause-steady
 returns-clause-steady g c =
     let step = c.step-reply in
     let a = g.W.Write.contents c.args.writer.now in
     let b = g.W.Write.contents c.send.new.writer in
-    step_steady _ c.send.result c.args.at c.args.shown c.args.who.now _ _ _ _ c.args.command.now step.result a b step.ensures.step (stays _ _ _ step.ensures.leaves.counted)
-    (reply_sent c.send.result c.args.at c.args.command.now c.args.shown step.result a b c.drops.result c.in-Ok.bytes.items c.as_slice.result.now c.drops.ensures c.in-Ok.ensures c.as_slice.ensures.value c.send.ensures.ok c.send.ensures.err)
+    step_steady _ c.send.result c.args.context.now.at c.args.context.now.shown c.args.context.now.caller _ _ _ _ c.args.command.now step.result a b step.ensures.step (stays _ _ _ step.ensures.leaves.counted)
+    (reply_sent c.send.result c.args.context.now.at c.args.command.now c.args.context.now.shown step.result a b c.drops.result c.in-Ok.bytes.items c.as_slice.result.now c.drops.ensures c.in-Ok.ensures c.as_slice.ensures.value c.send.ensures.ok c.send.ensures.err)

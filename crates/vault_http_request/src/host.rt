@@ -4,7 +4,7 @@ ghost use Rattle.std.specs.List.{list_all, list_any};
 ghost use Rattle.std.specs.Option.{option_copied};
 ghost use Rattle.std.specs.Char.{is_ascii_digit};
 ghost use Rattle.httparse.specs.Spans.{header_bytes, IsHeaderWithin};
-ghost use Rattle.vault_http.specs.Host as spec;
+ghost use Rattle.vault_http_request.specs.Host as spec;
 
 use httparse::spans::HeaderSpan;
 use std::alloc::{AllocError, Global};

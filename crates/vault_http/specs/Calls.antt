@@ -1,0 +1,62 @@
+-- What a call makes of the keeper, the reader and the writer that it is given: what Exchange, Left and Steady say, of what these are before it and after it. Each speaks of steps while the device has returned what was written; that it failed (Failed there) is that the keeper's count of failures rose in the call, or stands at its greatest value.
+use Rattle.std.specs.Prelude.{ℕ, List, Bool, Option, IfSome, Result, IfErr, OnOk}
+use Rattle.std.specs.Io.KnownBytes.{Appends}
+use Rattle.std.specs.declared.io.Read.{Ghosts as Reading}
+use Rattle.std.specs.declared.io.Write.{Ghosts as Writing}
+use Rattle.vault_base.specs.declared.refusal.Refusal.{Refusal}
+use Rattle.vault_core_model.specs.Leaves.{RoseOrIsFull}
+use Rattle.vault_core_model.specs.declared.command.Command.{Command}
+use Rattle.vault_core_model.specs.declared.kept.Kept.{Ghosts}
+use Rattle.vault_http.specs.Exchange.{Answered, Done, Judged, PlanServed}
+use Rattle.vault_http.specs.Left.{JudgedLeft, PlanLeft, Unanswered}
+use Rattle.vault_http.specs.Steady.{JudgedSteady, Steady}
+use Rattle.vault_http.specs.declared.carrying.RequestContext.{RequestContext}
+use Rattle.vault_http.specs.declared.fault.ServeFault.{ServeFault}
+use Rattle.vault_http_request.specs.declared.plan.Plan.{Plan}
+
+module _ {K : Type 0} (g : Ghosts K) (old new : K) {W : Type 0} (w : Writing W) (before after : W) (result : Result (Unit {0}) ServeFault) where
+  -- a command was carried out, and the answer to its reply was written
+  abbrev pub DoneBy : RequestContext → Command → Type 0
+  DoneBy context c =
+      g.is_honest new → OnOk result ((out : List ℕ) × Done (RoseOrIsFull (g.count old) (g.count new)) context.at context.shown context.caller c (g.vault old) out (g.vault new) × Appends (w.contents before) (w.contents after) out)
+
+  -- what was judged was carried out or refused, and the answer was written
+  abbrev pub JudgedBy : RequestContext → Result Command Refusal → Type 0
+  JudgedBy context judged =
+      g.is_honest new → OnOk result ((out : List ℕ) × Judged (RoseOrIsFull (g.count old) (g.count new)) context.at context.shown context.caller judged (g.vault old) out (g.vault new) × Appends (w.contents before) (w.contents after) out)
+
+  -- what is left after a fault
+  abbrev pub JudgedLeftBy : RequestContext → Result Command Refusal → Type 0
+  JudgedLeftBy context judged =
+      g.is_honest new → IfErr result (λ e. JudgedLeft (RoseOrIsFull (g.count old) (g.count new)) e context.at context.shown context.caller judged (g.vault old) (g.vault new) (w.contents before) (w.contents after))
+
+  -- what was answered where the count of failures rose
+  abbrev pub JudgedSteadyBy : RequestContext → Result Command Refusal → Type 0
+  JudgedSteadyBy context judged =
+      JudgedSteady (g.is_honest new) result context.at context.shown context.caller judged (g.vault old) (g.vault new) (g.count old) (g.count new) (w.contents before) (w.contents after)
+
+  -- the same of a request
+  abbrev pub SteadyBy : Option ℕ → Type 0
+  SteadyBy moment =
+      Steady (g.is_honest new) result moment (g.vault old) (g.vault new) (g.count old) (g.count new) (w.contents before) (w.contents after)
+
+module _ {K : Type 0} (g : Ghosts K) (old new : K) {R : Type 0} (r : Reading R) (input unread : R) {W : Type 0} (w : Writing W) (before after : W) (result : Result (Unit {0}) ServeFault) where
+  -- a plan was served with what comes after its head, where that is known, and the answer was written
+  abbrev pub PlanServedBy : Bool → Plan → Type 0
+  PlanServedBy shown plan =
+      g.is_honest new → OnOk result (IfSome (r.remaining input) (λ rest. (out : List ℕ) × PlanServed (RoseOrIsFull (g.count old) (g.count new)) shown plan rest (g.vault old) out (g.vault new) × Appends (w.contents before) (w.contents after) out))
+
+  -- what is left after a fault
+  abbrev pub PlanLeftBy : Bool → Plan → Type 0
+  PlanLeftBy shown plan =
+      g.is_honest new → IfErr result (λ e. IfSome (r.remaining input) (λ rest. PlanLeft (RoseOrIsFull (g.count old) (g.count new)) e shown plan rest (r.remaining unread) (g.vault old) (g.vault new) (w.contents before) (w.contents after)))
+
+  -- a request was answered, at a server that answers for these hosts; where there are none, for any
+  abbrev pub AnsweredBy : List (List ℕ) → Option ℕ → Type 0
+  AnsweredBy hosts moment =
+      g.is_honest new → OnOk result (Answered hosts (RoseOrIsFull (g.count old) (g.count new)) moment (r.remaining input) (g.vault old) (g.vault new) (w.contents before) (w.contents after))
+
+  -- what is left after a fault
+  abbrev pub UnansweredBy : List (List ℕ) → Option ℕ → Type 0
+  UnansweredBy hosts moment =
+      g.is_honest new → IfErr result (λ e. Unanswered hosts (RoseOrIsFull (g.count old) (g.count new)) e moment (r.remaining input) (r.remaining unread) (g.vault old) (g.vault new) (w.contents before) (w.contents after))
