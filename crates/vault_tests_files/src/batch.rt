@@ -13,8 +13,9 @@ use vault_files::lines::intake_lines;
 use vault_files::list_folder::ListFolder;
 use vault_files::report::IntakeReport;
 use vault_transcript::trial::compare;
+use vaultctl_commands::asked::AskedIntake;
 use vaultctl_commands::fault::JobFault;
-use vaultctl_commands::intake::take_in_and_print;
+use vaultctl_commands::intake::{ListedIntake, take_in_and_print};
 use vaultctl_commands::outcome::Outcome;
 
 fn file(alloc: Global, name: &str, bytes: &str) -> Result<File, Fail> {
@@ -40,9 +41,7 @@ pub fn folder(
 #[derive(Drop)]
 pub struct Batch {
     at: Moment,
-    who: CallerName,
-    bucket: BucketName,
-    batch: BatchName,
+    asked: AskedIntake,
 }
 
 impl Batch {
@@ -50,9 +49,12 @@ impl Batch {
     pub fn new(alloc: Global) -> Result<Batch, Fail> {
         Ok(Batch {
             at: Moment::read("2024-01-15T10:30:00Z").ok().ok_or("at")?,
-            who: CallerName::read(alloc, "ann")?.ok().ok_or("who")?,
-            bucket: BucketName::read(alloc, "docs")?.ok().ok_or("bucket")?,
-            batch: BatchName::read(alloc, "b1")?.ok().ok_or("batch")?,
+            asked: AskedIntake {
+                at: None,
+                who: CallerName::read(alloc, "ann")?.ok().ok_or("who")?,
+                bucket: BucketName::read(alloc, "docs")?.ok().ok_or("bucket")?,
+                batch: BatchName::read(alloc, "b1")?.ok().ok_or("batch")?,
+            },
         })
     }
 
@@ -67,9 +69,9 @@ impl Batch {
             alloc,
             keeper,
             self.at,
-            &self.who,
-            &self.bucket,
-            &self.batch,
+            &self.asked.who,
+            &self.asked.bucket,
+            &self.asked.batch,
             list,
             folder,
         )
@@ -84,17 +86,12 @@ impl Batch {
         folder: &mut F,
         out: &mut W,
     ) -> (Result<Outcome, JobFault>, IntakeReport) {
-        take_in_and_print(
-            alloc,
-            keeper,
-            self.at,
-            &self.who,
-            &self.bucket,
-            &self.batch,
+        let intake = ListedIntake {
+            at: self.at,
+            asked: &self.asked,
             list,
-            folder,
-            out,
-        )
+        };
+        take_in_and_print(alloc, keeper, intake, folder, out)
     }
 }
 

@@ -37,7 +37,7 @@ pub fn print_events<K: Keeper, W: Write>(
     asked: &AskedEvents,
     out: &mut W,
 ) -> Result<Outcome, JobFault>
-    ensures ok { K.is_honest keeper.new → IfOk result (λ stated. (stated ≡ Outcome.Done) × Appends (W.contents out.old) (W.contents out.new) (events_text (events_asked asked.now.before (K.vault keeper.old)))) }
+    ensures ok { K.is_honest keeper.new → IfOk result (λ stated. spec.PrintsEvents asked.now.before (K.vault keeper.old) stated (W.contents out.old) (W.contents out.new)) }
     ensures err { K.is_honest keeper.new → OnErr result (Begins (W.contents out.old) (W.contents out.new) (events_text (events_asked asked.now.before (K.vault keeper.old)))) }
     ensures leaves { LeavesSame K.Kept keeper.old keeper.new (reports_device result) }
     ensures reader { result ≢ Err JobFault.Read }

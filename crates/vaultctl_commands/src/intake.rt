@@ -5,20 +5,29 @@ ghost use Rattle.vault_base.specs.declared.refusal.Refusal.TheVariants.{Device a
 ghost use Rattle.vault_core_model.specs.Step.{Reached};
 ghost use Rattle.vault_files.specs.Lines.{lines, stopped_line as stop_line};
 ghost use Rattle.vaultctl_commands.specs.PrintedIntake as spec;
+ghost use Rattle.vaultctl_commands.specs.PrintedIntake.{IntakePrintedBy, IsTakenInBy, SteadyBy};
 
+use crate::asked::AskedIntake;
 use crate::fault::JobFault;
 use crate::outcome::Outcome;
 use crate::printing::print;
 use std::alloc::Global;
 use std::io::Write;
 use vault_base::moment::Moment;
-use vault_base::name::{BatchName, BucketName, CallerName};
 use vault_base::refusal::Refusal;
 use vault_core_model::keeper::Keeper;
 use vault_files::folder::Folder;
 use vault_files::intake::take_in;
 use vault_files::lines::{intake_lines, is_accepted, stopped_line};
 use vault_files::report::IntakeReport;
+
+/// An intake that is asked for, the moment at which it is made, and the bytes of its list.
+#[derive(Clone, Copy)]
+pub struct ListedIntake<'a> {
+    pub at: Moment,
+    pub asked: &'a AskedIntake,
+    pub list: &'a [u8],
+}
 
 /// What came of an intake: refused where a row was, or it stopped.
 fn outcome(report: &IntakeReport) -> Outcome
@@ -37,7 +46,7 @@ fn print_report<W: Write>(
     report: &IntakeReport,
     out: &mut W,
 ) -> Result<Outcome, JobFault>
-    ensures ok { IfOk result (λ outcome. (outcome ≡ spec.intake_outcome report.now.rows.items report.now.stopped) × Appends (W.contents out.old) (W.contents out.new) (lines report.now.rows.items report.now.stopped)) }
+    ensures ok { IfOk result (λ outcome. spec.PrintsReport report.now.rows.items report.now.stopped outcome (W.contents out.old) (W.contents out.new)) }
     ensures reader { result ≢ Err JobFault.Read }
     ensures device { result ≢ Err JobFault.Device }
 {
@@ -56,28 +65,31 @@ fn print_report<W: Write>(
 pub fn take_in_and_print<K: Keeper, F: Folder, W: Write>(
     alloc: Global,
     keeper: &mut K,
-    at: Moment,
-    who: &CallerName,
-    bucket: &BucketName,
-    batch: &BatchName,
-    list: &[u8],
+    intake: ListedIntake<'_>,
     folder: &mut F,
     out: &mut W,
 ) -> (Result<Outcome, JobFault>, IntakeReport)
-    ensures ok { K.is_honest keeper.new → IfOk result.0 (λ outcome. spec.IntakePrinted (F.files folder.old) at who.now bucket.now batch.now list.now (K.vault keeper.old) (K.vault keeper.new) outcome (W.contents out.old) (W.contents out.new)) }
+    ensures ok { K.is_honest keeper.new → IfOk result.0 (IntakePrintedBy K.Kept keeper.old keeper.new W.Write out.old out.new (F.files folder.old) intake.at intake.asked.now intake.list.now) }
     // Whatever the device does, what is answered is what the printed lines say.
     ensures printed { IfOk result.0 (λ outcome. spec.PrintsIntake outcome (W.contents out.old) (W.contents out.new)) }
     // The intake was made whole before its lines were tried.
-    ensures err { K.is_honest keeper.new → OnErr result.0 (spec.IsTakenIn (F.files folder.old) at who.now bucket.now batch.now list.now (K.vault keeper.old) (K.vault keeper.new)) }
+    ensures err { K.is_honest keeper.new → OnErr result.0 (IsTakenInBy K.Kept keeper.old keeper.new (F.files folder.old) intake.at intake.asked.now intake.list.now) }
     ensures reached { K.is_honest keeper.new → Reached (K.vault keeper.old) → Reached (K.vault keeper.new) }
     ensures honest { K.is_honest keeper.new → K.is_honest keeper.old }
     ensures counted { K.count keeper.old ≤ K.count keeper.new }
     ensures counted_there { F.count folder.old ≤ F.count folder.new }
     // That a device failed is reported where it did.
-    ensures steady { spec.SteadyIntake (K.is_honest keeper.new) (F.files folder.old) at who.now bucket.now batch.now list.now (K.vault keeper.old) (K.vault keeper.new) (K.count keeper.old) (K.count keeper.new) (F.count folder.old) (F.count folder.new) result.0 (W.contents out.old) (W.contents out.new) }
+    ensures steady { SteadyBy K.Kept keeper.old keeper.new W.Write out.old out.new (F.files folder.old) (F.count folder.old) (F.count folder.new) intake.at intake.asked.now intake.list.now result.0 }
     ensures reader { result.0 ≢ Err JobFault.Read }
     ensures device { result.0 ≢ Err JobFault.Device }
 {
+    let ListedIntake { at, asked, list } = intake;
+    let AskedIntake {
+        who,
+        bucket,
+        batch,
+        ..
+    } = asked;
     let report = take_in(alloc, keeper, at, who, bucket, batch, list, folder);
     let stated = print_report(alloc, &report, out);
     (stated, report)

@@ -26,7 +26,7 @@ use vault_values::fault::LineFault;
 use vaultctl_commands::asked::{AskedIntake, intake};
 use vaultctl_commands::carrying::print_refusal;
 use vaultctl_commands::fault::JobFault;
-use vaultctl_commands::intake::{print_unread_list, take_in_and_print};
+use vaultctl_commands::intake::{ListedIntake, print_unread_list, take_in_and_print};
 use vaultctl_commands::outcome::Outcome;
 use vaultctl_job::job::IntakeJob;
 use vaultctl_remedies::remedies::remedy;
@@ -59,17 +59,8 @@ fn take_in_at<K: Keeper, W: Write, E: Write>(
     let alloc = rt.alloc();
     let Delivery { list, folder: path } = delivery;
     let mut folder = ProgressFolder::new(DiskFolder::new(alloc, rt, path), terminal(rt));
-    let (stated, report) = take_in_and_print(
-        alloc,
-        keeper,
-        at,
-        &asked.who,
-        &asked.bucket,
-        &asked.batch,
-        list,
-        &mut folder,
-        out,
-    );
+    let intake = ListedIntake { at, asked, list };
+    let (stated, report) = take_in_and_print(alloc, keeper, intake, &mut folder, out);
     let taken = TakenList {
         alloc,
         files: rt,
