@@ -66,18 +66,32 @@ pub(crate) fn find_lock_to_admit<K: Keeper>(
     Ok(lock)
 }
 
+/// What a new version gets beside what its put says: its id, when and by whom it is admitted, its bucket's department,
+/// and its lock.
+#[derive(Clone, Copy)]
+pub(crate) struct NewVersion<'a> {
+    pub(crate) id: VersionId,
+    pub(crate) at: Moment,
+    pub(crate) who: &'a CallerName,
+    pub(crate) dept: &'a DeptName,
+    pub(crate) lock: Lock,
+}
+
 /// The version that a put admits, with its first setting and its bucket's department.
 pub(crate) fn new_version(
     alloc: Global,
-    id: VersionId,
-    at: Moment,
-    who: &CallerName,
-    dept: &DeptName,
+    new: NewVersion<'_>,
     command: &Put,
-    lock: Lock,
 ) -> Result<History, AllocError>
-    ensures { IfOk result (λ history. history ≡ outcome.new_version id at who.now dept.now command.now lock) }
+    ensures { IfOk result (λ history. history ≡ outcome.new_version new.id new.at new.who.now new.dept.now command.now new.lock) }
 {
+    let NewVersion {
+        id,
+        at,
+        who,
+        dept,
+        lock,
+    } = new;
     let settings = first_settings(alloc, at, who, lock)?;
     let tenures = first_tenures(alloc, at, dept)?;
     let content = command.content.clone()?;
