@@ -1,10 +1,12 @@
-"""Kills: a server that is killed as it ends by its line, and one that is killed during a night's work over its door.
+"""Kills: a server that is killed as it carries out changes at both doors, as it ends by its line, and during a night's work
+over its door.
 
 The kills come by `strace`, before calls that change the vault's file or its log: at fifty points of each, or as many as
 `TRIALS_KILLS` says, spread over all calls that an untroubled run makes; the gate tries five. After each kill
 
   - a server opens the vault, and so its tables are sound;
-  - each change that was answered is there, with its content;
+  - each change that was answered is there, with its content, and of those that weren't answered at most the one that was
+    under way;
   - the next try works: the server ends by its line with status 0, or the night is done, and then the vault has what it has
     after an untroubled night, and each copy with the name of one is sound.
 
@@ -12,6 +14,8 @@ An `init` and a `migrate` are killed before each such call in `faults.py` and `m
 """
 
 import collections
+import contextlib
+import http.client
 import json
 import os
 import pathlib
@@ -20,7 +24,7 @@ import socket
 import subprocess
 import time
 import unittest
-from typing import Any, NamedTuple
+from typing import Any, Iterator, NamedTuple
 
 from trials.calls import CHANGING, KILLED, needs_strace
 from trials.program import DESK, IS_LONG, OPENED_AT, PROGRAM, Case, Ran, check, make_office, ran_words
@@ -30,6 +34,8 @@ POINTS = int(os.environ.get("TRIALS_KILLS", 50 if IS_LONG else 5))
 CALLS = (*CHANGING, "unlink")
 KEYS = [f"2024/{number:02}" for number in range(12)]
 NEW = range(40)
+# How many puts come before a kill, and after each third of them a removal.
+WORKED = 30
 RULE = {
     "ID": "old", "Status": "Enabled", "Prefix": "2024/", "Expiration": {"Days": 30},
     "NoncurrentVersionExpiration": {"NoncurrentDays": 1},
@@ -71,7 +77,8 @@ class Server:
         at = [it for end in ("", "-wal") for it in ("-P", f"{self.file}{end}")]
         killing = ["-e", f"inject={kill.call}:signal=KILL:when={kill.number}"] if kill else []
         front = ["strace", "-qq", "-o", self.trace, *at, "-e", f"trace={','.join(CALLS)}", *killing]
-        words = [PROGRAM, "serve", self.file, str(free_port()), "--lines", self.where]
+        self.port = free_port()
+        words = [PROGRAM, "serve", self.file, str(self.port), "--lines", self.where]
         self.said = folder / "said"
         with self.said.open("wb") as said:
             self.process = subprocess.Popen([*front, *words], stdout=subprocess.DEVNULL, stderr=said)
@@ -94,6 +101,14 @@ class Server:
             except (ConnectionError, FileNotFoundError):
                 return None
         return json.loads(found) if found.endswith(b"\n") else None
+
+    def request(self, method: str, what: str, content: str | None = None) -> int | None:
+        """The status of the answer to a request; none where the server is killed before it answers."""
+        peer = http.client.HTTPConnection("127.0.0.1", self.port, timeout=LIMIT)
+        with contextlib.closing(peer), contextlib.suppress(ConnectionError, http.client.HTTPException):
+            peer.request(method, f"/docs/{what}", content, {"x-vault-caller": "ann"})
+            return peer.getresponse().status
+        return None
 
     def done(self, do: str, **members: Any) -> Any:
         """What is answered to a line that is carried out."""
@@ -125,7 +140,7 @@ class Kills(Case):
         self.made, self.place = self.folder / "made", self.folder / "place"
         self.made.mkdir()
         file = self.made / "records.vault"
-        rights = ("put", "get", "list", "run", "config", "report")
+        rights = ("put", "get", "list", "delete-version", "run", "config", "report")
         make_office(file, *rights, at=["--at", OPENED_AT])
         lines = [{"do": "set-rules", "bucket": "docs", "rules": [RULE]}]
         lines += [{"do": "put", "bucket": "docs", "key": key, "text": f"{key} {it}"} for it in "ab" for key in KEYS]
@@ -133,11 +148,15 @@ class Kills(Case):
         replies = self.printed("replay", file, given=script).splitlines()
         self.assertEqual([it for it in replies if not it.startswith('{"ok"')], [])
 
-    def begin(self, kill: Point | None = None) -> Server:
-        """A server of the vault as it was made, to which something was put meanwhile: all of it was answered."""
+    def begin_anew(self, kill: Point | None = None) -> Server:
+        """A server of the vault as it was made."""
         shutil.rmtree(self.place, ignore_errors=True)
         shutil.copytree(self.made, self.place)
-        server = self.serve(kill)
+        return self.serve(kill)
+
+    def begin(self, kill: Point | None = None) -> Server:
+        """The same, to which something was put meanwhile: all of it was answered."""
+        server = self.begin_anew(kill)
         for number in NEW:
             server.done("put", bucket="docs", key=f"new/{number}", text=f"{number} " * 300)
         return server
@@ -159,6 +178,70 @@ class Kills(Case):
 
     def is_killed(self, server: Server, point: Point) -> None:
         self.assertIn(server.ended(), KILLED, f"no kill came before {point}")
+
+
+def is_answered(answer: Any) -> bool:
+    """Whether a change was answered; fails where it was refused."""
+    check(answer in (None, 200, 204) or not isinstance(answer, int) and "ok" in answer, f"a change is answered {answer}")
+    return answer is not None
+
+
+class AtChanges(Kills):
+    def put(self, server: Server, number: int) -> bool:
+        """Puts a version, by a line or by a request; whether that was answered."""
+        key, text = f"new/{number}", f"{number} " * 300
+        if number % 2 == 0:
+            return is_answered(server.ask("put", bucket="docs", key=key, text=text))
+        return is_answered(server.request("PUT", key, text))
+
+    def remove(self, server: Server, number: int) -> bool:
+        """Removes it, at the other door; whether that was answered."""
+        key, version = f"new/{number}", 2 * len(KEYS) + 1 + number
+        if number % 2 == 0:
+            return is_answered(server.request("DELETE", f"{key}?versionId={version}"))
+        return is_answered(server.ask("delete-version", bucket="docs", key=key, id=version))
+
+    def changes(self, server: Server) -> Iterator[tuple[set[int], bool]]:
+        """Puts, and after each third one its removal: the numbers of what is there after each, and whether it was answered.
+        The first that isn't is the last."""
+        held: set[int] = set()
+        for number in range(WORKED):
+            for change, left in ((self.put, held | {number}), (self.remove, held))[: 2 if number % 3 == 2 else 1]:
+                answered = change(server, number)
+                yield left, answered
+                if not answered:
+                    return
+                held = left
+
+    def found(self, server: Server) -> set[int]:
+        """The numbers of what is there, each with its content."""
+        entries = server.done("list-versions", bucket="docs", prefix="new/", most=1_000)["entries"]
+        numbers = {int(it["key"].removeprefix("new/")) for it in entries}
+        for number in numbers:
+            content = server.done("get", bucket="docs", key=f"new/{number}")["hex"]
+            self.assertEqual(bytes.fromhex(content).decode(), f"{number} " * 300)
+        return numbers
+
+    def test_points(self) -> None:
+        """A server that is killed as it carries out changes: the next one has all that was answered, and one more at most."""
+        server = self.begin_anew()
+        begun = len(points_of(server.trace))
+        *_, (whole, is_answered) = self.changes(server)
+        self.assertTrue(is_answered)
+        self.assertEqual(self.found(server), whole)
+        points = points_of(server.trace)[begun:]
+        server.close()
+        for point in spread(points):
+            with self.subTest(point):
+                server = self.begin_anew(point)
+                made = [(set[int](), True), *self.changes(server)]
+                self.is_killed(server, point)
+                again = self.serve()
+                # What the last answered change left, or the one after it, which wasn't answered.
+                may_be = [left for left, _ in (made[-1:] if made[-1][1] else made[-2:])]
+                self.assertIn(self.found(again), may_be)
+                again.close()
+                self.is_sound(self.place / "records.vault")
 
 
 class AtClose(Kills):
