@@ -202,47 +202,6 @@ impl<S: Alter> SqlKeeper<S> {
         }
     }
 
-    /// Makes a change at a moment, which becomes the last one, in one transaction; or changes nothing.
-    ///
-    /// `Memory` where the store wanted memory. `Device` where it refused for another cause.
-    pub fn make(&mut self, at: Moment, change: &Change) -> Result<(), Fault>
-        requires in_time { HasCleanDisk (state S.Store self.old.conn) → (vault_of S.Store self.old).last ≤ at }
-        requires allowed { HasCleanDisk (state S.Store self.old.conn) → Allows (vault_of S.Store self.old) at change.now }
-        ensures ok { OnOk result (vault_of S.Store self.new ≡ changed (vault_of S.Store self.old) at change.now) }
-        ensures err { OnErr result (vault_of S.Store self.new ≡ vault_of S.Store self.old) }
-        ensures honest { HasCleanDisk (state S.Store self.new.conn) → HasCleanDisk (state S.Store self.old.conn) }
-        ensures counted { self.new.blamed.faults ≡ count_after self.old.blamed.faults (is_device_given result) }
-        // Which changes were refused since the last one that was made.
-        ensures forgotten { OnOk result (self.new.refused.items ≡ []) }
-        ensures refused { OnErr result (self.new.refused.items ≡ self.old.refused.items ++ (at, change.now) ∷ []) }
-        // A crash leaves what it could leave before, or the vault with the change; once that is acknowledged, this vault alone.
-        ensures crash { HasCleanDisk (state S.Store self.new.conn) → ∥ Survives (state S.Store self.old.conn) (state S.Store self.new.conn) (IsFoundIn (changed (vault_of S.Store self.old) at change.now)) ∥₁ }
-        ensures alone { HasCleanDisk (state S.Store self.new.conn) → OnOk result (∥ LeavesAlone (state S.Store self.new.conn) (vault_of S.Store self.new) ∥₁) }
-        ensures open { HasCleanDisk (state S.Store self.new.conn) → OnOk result (IsTrue (state S.Store self.new.conn).is_open) }
-    {
-        match self.check_open() {
-            Ok(()) => {}
-            Err(fault) => {
-                let refused = self.refused.and(&at, change);
-                self.refused = refused;
-                return Err(fault);
-            }
-        }
-        match apply_change(&mut self.conn, &self.known, self.alloc, at, change) {
-            Ok(()) => {
-                self.known.follow(at, change);
-                self.made = self.made.and(&at, change);
-                self.refused = Log::new();
-                self.blamed.trust();
-                Ok(())
-            }
-            Err(error) => {
-                self.refused = self.refused.and(&at, change);
-                Err(self.blamed.blame(error))
-            }
-        }
-    }
-
     /// Makes sure that the connection is open, where a failure may have shut it: no clause says what a crash
     /// leaves after a read of a connection that is shut. After a failure nothing is known.
     ///
@@ -551,13 +510,35 @@ impl<S: Alter> Keeper for SqlKeeper<S> {
         ensures err { OnErr result (vault_of S.Store self.new ≡ vault_of S.Store self.old) }
         ensures honest { HasCleanDisk (state S.Store self.new.conn) → HasCleanDisk (state S.Store self.old.conn) }
         ensures counted { self.new.blamed.faults ≡ count_after self.old.blamed.faults (is_device_given result) }
-        // What `make` says of refused changes and of a crash.
+        // Which changes were refused since the last one that was made.
         ensures forgotten { OnOk result (self.new.refused.items ≡ []) }
         ensures refused { OnErr result (self.new.refused.items ≡ self.old.refused.items ++ (at, change.now) ∷ []) }
-        ensures crash { HasCleanDisk (state S.Store self.new.conn) → ∥ Survives (state S.Store self.old.conn) (state S.Store self.new.conn) (IsFoundIn (changed (vault_of S.Store self.old) at change.now)) ∥₁ }
+        // A crash leaves what it could leave before, or the vault with the change; once that is acknowledged, this vault alone.
+        ensures crash { HasCleanDisk (state S.Store self.new.conn)
+            → ∥ Survives (state S.Store self.old.conn) (state S.Store self.new.conn) (IsFoundIn (changed (vault_of S.Store self.old) at change.now)) ∥₁ }
         ensures alone { HasCleanDisk (state S.Store self.new.conn) → OnOk result (∥ LeavesAlone (state S.Store self.new.conn) (vault_of S.Store self.new) ∥₁) }
         ensures open { HasCleanDisk (state S.Store self.new.conn) → OnOk result (IsTrue (state S.Store self.new.conn).is_open) }
     {
-        self.make(at, change)
+        match self.check_open() {
+            Ok(()) => {}
+            Err(fault) => {
+                let refused = self.refused.and(&at, change);
+                self.refused = refused;
+                return Err(fault);
+            }
+        }
+        match apply_change(&mut self.conn, &self.known, self.alloc, at, change) {
+            Ok(()) => {
+                self.known.follow(at, change);
+                self.made = self.made.and(&at, change);
+                self.refused = Log::new();
+                self.blamed.trust();
+                Ok(())
+            }
+            Err(error) => {
+                self.refused = self.refused.and(&at, change);
+                Err(self.blamed.blame(error))
+            }
+        }
     }
 }

@@ -15,7 +15,7 @@ use Rattle.vault_store.specs.Left.{IsKept}
 use Rattle.vault_store.specs.Opening.{noted_vault}
 use Rattle.vault_store.proofs.KeptLemmas.{after_push, kept_alone, found_before, found_with}
 use Rattle.vault_store.proofs.KnownLemmas.{known_still, known_of_each}
-use Rattle.vault_store.proofs.sql_keeper.SqlKeeper.make.Goals as goal
+use Rattle.vault_store.proofs.sql_keeper.SqlKeeperKeeper.apply.Goals as goal
 
 pub apply_change-requires-clause-known : goal.apply_change-requires-clause-known
 apply_change-requires-clause-known g c =
