@@ -33,6 +33,8 @@ pub(crate) enum Argument {
     Host,
     /// What becomes of each request is logged.
     Log,
+    /// Where the lines go that make each change again.
+    Journal,
     /// The caller who asks.
     Asker,
     /// The moment at which it is asked.
@@ -134,6 +136,18 @@ fn log<'a>(alloc: Global) -> Arg<'a>
         )
 }
 
+fn journal<'a>(alloc: Global) -> Arg<'a>
+    ensures rule { rule_of result ≡ spec.journal }
+    ensures local { result.global ≡ false }
+{
+    Arg::new(alloc, "journal")
+        .long("journal")
+        .value_name("FILE")
+        .help(
+            "Appends each change as the script line that makes it again\nto this file, which may not be there yet",
+        )
+}
+
 fn asker<'a>(alloc: Global) -> Arg<'a>
     ensures rule { rule_of result ≡ spec.asker }
     ensures local { result.global ≡ false }
@@ -198,6 +212,7 @@ fn made<'a>(alloc: Global, argument: Argument) -> Arg<'a>
         Argument::Lines => lines(alloc),
         Argument::Host => host(alloc),
         Argument::Log => log(alloc),
+        Argument::Journal => journal(alloc),
         Argument::Asker => asker(alloc),
         Argument::Moment => moment(alloc),
         Argument::Before { help } => before(alloc, help),
