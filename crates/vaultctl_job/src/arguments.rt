@@ -107,7 +107,7 @@ fn lines<'a>(alloc: Global) -> Arg<'a>
         .long("lines")
         .value_name("WHERE")
         .help(
-            "Takes script lines too, without \"at\": at the path of a\nUnix socket, or at a port of 127.0.0.1 if WHERE is digits",
+            "Takes script lines too, without \"at\": at the path of a\nUnix socket, or a port of 127.0.0.1 if WHERE is digits",
         )
 }
 
@@ -120,7 +120,7 @@ fn host<'a>(alloc: Global) -> Arg<'a>
         .value_name("NAME")
         .action(ArgAction::Append)
         .help(
-            "Refuses requests for other hosts than this name, those of\nfurther --host, localhost, 127.0.0.1 and [::1]",
+            "Refuses requests for other hosts than this name, those\nof further --host, localhost, 127.0.0.1 and [::1]",
         )
 }
 
@@ -144,7 +144,7 @@ fn journal<'a>(alloc: Global) -> Arg<'a>
         .long("journal")
         .value_name("FILE")
         .help(
-            "Appends each change as the script line that makes it again\nto this file, which may not be there yet",
+            "Appends each change as the script line that makes it\nagain to this file, which may not be there yet",
         )
 }
 
