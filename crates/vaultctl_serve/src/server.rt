@@ -59,10 +59,9 @@ fn serve_taken<C: Clock, A: Arrivals, K: Keeper, H: Hears>(
     ensures leaves { LeavesNoLess K.Kept keeper.old keeper.new }
 {
     let mut noted = Noted::new(means.alloc);
-    let occasion = Occasion {
-        moment: Moment::from_secs(reading),
-        hosts: arrivals.hosts(),
-    };
+    let moment = Moment::from_secs(reading);
+    let hosts = arrivals.hosts();
+    let occasion = Occasion { moment, hosts };
     // A fault of the connection is its own.
     let served = serve_connection(means.clock, &mut noted, peer, keeper, hears, occasion);
     arrivals.log(&noted.request(reading, trouble_of(served)));

@@ -148,10 +148,9 @@ fn serve_request<C: Clock, D: Doors, K: Keeper, H: Hears>(
 {
     let reading = doors.reading();
     let mut noted = Noted::new(server.service.alloc);
-    let occasion = Occasion {
-        moment: Moment::from_secs(reading),
-        hosts: doors.hosts(),
-    };
+    let moment = Moment::from_secs(reading);
+    let hosts = doors.hosts();
+    let occasion = Occasion { moment, hosts };
     // A fault of the connection is its own.
     let served = serve_connection(server.clock, &mut noted, peer, keeper, hears, occasion);
     doors.log(&noted.request(reading, trouble_of(served)));
