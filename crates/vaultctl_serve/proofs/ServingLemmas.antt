@@ -6,7 +6,7 @@ use Rattle.vault_core_model.specs.Vault.{Vault}
 use Rattle.vault_core_model.specs.declared.command.Timed.{Timed}
 use Rattle.vault_core_model.specs.declared.reply.Reply.{Reply}
 use Rattle.vault_core_laws.proofs.Runs.{IsRun-append}
-use Rattle.vault_http.specs.Hearing.{AreHeard, HearsAll, HearsOnce}
+use Rattle.vault_http.specs.Hearing.{AreHeard, HearsAll, HearsOnce, HearsSome}
 use Rattle.vault_http.specs.Left.{AtMostOne}
 use Rattle.vaultctl_serve.specs.Serving.{Missed, Next, ReadsAs, Stepped, SteppedAt, SteppedOnTime, SteppedWhile, Taken, Tries, Try}
 
@@ -109,26 +109,28 @@ While-ended going n most before after old new ended within timely = (n, within, 
 
 -- ---- what is heard
 
-module _ {J : Type 0} (hears : J → Timed → Reply → J → Type 0) where
-  pub HearsAll-none : (who : J) (vault : Vault) → HearsAll hears who who vault vault
+module _ {J : Type 0} (going : J → Bool) (hears : J → Timed → Reply → J → Type 0) where
+  pub HearsAll-none : (who : J) (vault : Vault) → HearsAll going hears who who vault vault
   HearsAll-none who vault = ([], [], refl, refl)
 
-  pub HearsAll-one : (before after : J) (moment : Option ℕ) (old new : Vault) → HearsOnce hears before after moment old new → HearsAll hears before after old new
-  HearsAll-one before after moment old new once = elim once [
+  HearsAll-one : (before after : J) (moment : Option ℕ) (old new : Vault) → going before ≡ true → HearsOnce hears before after moment old new → HearsAll going hears before after old new
+  HearsAll-one before after moment old new may once = elim once [
     | inl same ↦ ([], [], same.0, same.1)
-    | inr step ↦ (step.0 ∷ [], step.1 ∷ [], (new, step.3, refl), (after, step.4, refl))
+    | inr step ↦ (step.0 ∷ [], step.1 ∷ [], (new, step.3, refl), (may, after, step.4, refl))
   ]
 
-  AreHeard-append : (before mid after : J) (cs ds : List Timed) (rs ss : List Reply) → AreHeard hears before mid cs rs → AreHeard hears mid after ds ss → AreHeard hears before after (cs ++ ds) (rs ++ ss)
-  AreHeard-append before mid after [] ds [] ss first second = let P : J → Type 0 = λ who. AreHeard hears who after ds ss in subst P first second
+  AreHeard-append : (before mid after : J) (cs ds : List Timed) (rs ss : List Reply) → AreHeard going hears before mid cs rs → AreHeard going hears mid after ds ss → AreHeard going hears before after (cs ++ ds) (rs ++ ss)
+  AreHeard-append before mid after [] ds [] ss first second = let P : J → Type 0 = λ who. AreHeard going hears who after ds ss in subst P first second
   AreHeard-append before mid after [] ds (r ∷ rs) ss first second = absurd first
   AreHeard-append before mid after (c ∷ cs) ds [] ss first second = absurd first
-  AreHeard-append before mid after (c ∷ cs) ds (r ∷ rs) ss first second = (first.0, first.1, AreHeard-append first.0 mid after cs ds rs ss first.2 second)
+  AreHeard-append before mid after (c ∷ cs) ds (r ∷ rs) ss first second = (first.0, first.1, first.2, AreHeard-append first.1 mid after cs ds rs ss first.3 second)
 
-  pub HearsAll-append : (before between after : J) (old mid new : Vault) → HearsAll hears before between old mid → HearsAll hears between after mid new → HearsAll hears before after old new
-  HearsAll-append before between after old mid new first second = (
-    first.0 ++ second.0,
-    first.1 ++ second.1,
-    IsRun-append old mid new first.0 second.0 first.1 second.1 first.2 second.2,
-    AreHeard-append before between after first.0 second.0 first.1 second.1 first.3 second.3,
-  )
+  -- one turn more, while it might be taken
+  pub HearsAll-more : (before between after : J) (old mid new : Vault) → HearsAll going hears before between old mid → going between ≡ true → HearsSome hears between after mid new → HearsAll going hears before after old new
+  HearsAll-more before between after old mid new first may some =
+      let second = HearsAll-one between after some.0 mid new may some.1 in (
+        first.0 ++ second.0,
+        first.1 ++ second.1,
+        IsRun-append old mid new first.0 second.0 first.1 second.1 first.2 second.2,
+        AreHeard-append before between after first.0 second.0 first.1 second.1 first.3 second.3,
+      )

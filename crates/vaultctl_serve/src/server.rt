@@ -3,7 +3,7 @@ ghost use Rattle.std.specs.Prelude.{◌≡◌, ◌≢◌, OnOk, OnErr};
 ghost use Rattle.std.specs.Io.KnownBytes.{Keeps};
 ghost use Rattle.vault_base.specs.Days.{moment_at};
 ghost use Rattle.vault_core_model.specs.Step.{Reached};
-ghost use Rattle.vault_http.specs.Hearing.{HearsAll, HearsOnce};
+ghost use Rattle.vault_http.specs.Hearing.{HearsAll, HearsOnce, HearsSome};
 ghost use Rattle.vault_http.specs.Left.{AtMostOne, LeavesNoLess};
 ghost use Rattle.vaultctl_serve.specs.Account.{IsAccounted, trouble_of as trouble_in};
 ghost use Rattle.vaultctl_serve.specs.Serving.{ReportsOnce, Stepped, SteppedOnTime, SteppedWhile};
@@ -84,7 +84,7 @@ fn serve_next<C: Clock, A: Arrivals, K: Keeper, H: Hears>(
     hears: &mut H,
 )
     ensures timely { K.is_honest keeper.new → SteppedOnTime 1 (A.tries arrivals.old) (A.tries arrivals.new) (K.vault keeper.old) (K.vault keeper.new) }
-    ensures heard { K.is_honest keeper.new → HearsAll H.hears hears.old hears.new (K.vault keeper.old) (K.vault keeper.new) }
+    ensures heard { K.is_honest keeper.new → HearsSome H.hears hears.old hears.new (K.vault keeper.old) (K.vault keeper.new) }
     ensures leaves { LeavesNoLess K.Kept keeper.old keeper.new }
 {
     match arrivals.take() {
@@ -107,7 +107,7 @@ fn serve_watched<C: Clock, A: Arrivals, K: Keeper, H: Hears, T: Reporter>(
     reporter: &mut T,
 )
     ensures timely { K.is_honest keeper.new → SteppedOnTime 1 (A.tries arrivals.old) (A.tries arrivals.new) (K.vault keeper.old) (K.vault keeper.new) }
-    ensures heard { K.is_honest keeper.new → HearsAll H.hears hears.old hears.new (K.vault keeper.old) (K.vault keeper.new) }
+    ensures heard { K.is_honest keeper.new → HearsSome H.hears hears.old hears.new (K.vault keeper.old) (K.vault keeper.new) }
     ensures reported { K.count keeper.old ≡ since → ReportsOnce T.fails since (K.count keeper.new) reporter.old reporter.new }
     // It isn't reported a second time.
     ensures once { K.count keeper.old ≢ since → reporter.new ≡ reporter.old }
@@ -138,8 +138,8 @@ pub fn serve_arrivals<C: Clock, A: Arrivals, K: Keeper, H: Hears, T: Reporter>(
     // `count` times one tried to take a connection, or less often where who hears lets no more commands be carried out;
     // and for each that was taken at most one command was carried out, at the clock's reading then.
     ensures timely { K.is_honest keeper.new → SteppedWhile (H.going hears.new) count (A.tries arrivals.old) (A.tries arrivals.new) (K.vault keeper.old) (K.vault keeper.new) }
-    // Commands led to the vault, and each was heard of with its reply.
-    ensures heard { K.is_honest keeper.new → HearsAll H.hears hears.old hears.new (K.vault keeper.old) (K.vault keeper.new) }
+    // Commands led to the vault, and each was heard of with its reply, while who hears let it be carried out.
+    ensures heard { K.is_honest keeper.new → HearsAll H.going H.hears hears.old hears.new (K.vault keeper.old) (K.vault keeper.new) }
     ensures stepped { K.is_honest keeper.new → Stepped count (K.vault keeper.old) (K.vault keeper.new) }
     // A vault that runs lead to from a new one is left as such a vault.
     ensures reached { K.is_honest keeper.new → Reached (K.vault keeper.old) → Reached (K.vault keeper.new) }
@@ -186,8 +186,8 @@ pub fn serve<R: Net<Stream = TcpStream> + Clock, K: Keeper, H: Hears, T: Reporte
     log: Option<W>,
 ) -> Result<(), PortFault>
     ensures stepped { K.is_honest keeper.new → Stepped place.entry.count (K.vault keeper.old) (K.vault keeper.new) }
-    // Commands led to the vault, and each was heard of with its reply.
-    ensures heard { K.is_honest keeper.new → HearsAll H.hears hears.old hears.new (K.vault keeper.old) (K.vault keeper.new) }
+    // Commands led to the vault, and each was heard of with its reply, while who hears let it be carried out.
+    ensures heard { K.is_honest keeper.new → HearsAll H.going H.hears hears.old hears.new (K.vault keeper.old) (K.vault keeper.new) }
     ensures reached { K.is_honest keeper.new → Reached (K.vault keeper.old) → Reached (K.vault keeper.new) }
     ensures err { OnErr result (K.vault keeper.new ≡ K.vault keeper.old) }
     // That it listens is reported first, and then, once, that the device failed where it did.

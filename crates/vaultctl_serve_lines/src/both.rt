@@ -87,8 +87,8 @@ pub fn serve_with_lines<
     log: Option<Stderr>,
 ) -> Result<Next, DoorFault>
     ensures stepped { K.is_honest keeper.new → Stepped places.entry.count (K.vault keeper.old) (K.vault keeper.new) }
-    // Commands led to the vault, and each was heard of with its reply.
-    ensures heard { K.is_honest keeper.new → HearsAll H.hears hears.old hears.new (K.vault keeper.old) (K.vault keeper.new) }
+    // Commands led to the vault, and each was heard of with its reply, while who hears let it be carried out.
+    ensures heard { K.is_honest keeper.new → HearsAll H.going H.hears hears.old hears.new (K.vault keeper.old) (K.vault keeper.new) }
     ensures reached { K.is_honest keeper.new → Reached (K.vault keeper.old) → Reached (K.vault keeper.new) }
     // Only a caller with the right to administer ends it.
     ensures end { IfOk result (λ next. next ≡ Next.End → K.is_honest keeper.new → IsEnded (K.vault keeper.new)) }

@@ -1,6 +1,6 @@
 use Rattle.std.proofs.Common.{refl, inl, arith}
 use Rattle.vaultctl_serve.proofs.ReportLemmas.{reports-then}
-use Rattle.vaultctl_serve.proofs.ServingLemmas.{HearsAll-append, HearsAll-none, OnTime-append, OnTime-none, OnTime-stepped, Stepped-more, Stepped-reached, While-all, While-ended}
+use Rattle.vaultctl_serve.proofs.ServingLemmas.{HearsAll-more, HearsAll-none, OnTime-append, OnTime-none, OnTime-stepped, Stepped-more, Stepped-reached, While-all, While-ended}
 use Rattle.vaultctl_serve.proofs.server.serve_arrivals.Goals as goal
 
 pub loop-init : goal.loop-init
@@ -10,7 +10,7 @@ loop-init g c =
       counted = omega arith;
       reported = inl (refl, refl);
       timely = λ h. OnTime-none (g.A.Arrivals.tries c.args.arrivals.now) (g.K.Kept.vault c.args.keeper.now);
-      heard = λ h. HearsAll-none g.H.Hears.hears c.args.hears.now (g.K.Kept.vault c.args.keeper.now);
+      heard = λ h. HearsAll-none g.H.Hears.going g.H.Hears.hears c.args.hears.now (g.K.Kept.vault c.args.keeper.now);
     }
 
 -- the steps so far, and then that of this connection
@@ -20,7 +20,7 @@ loop-preserved g c = record {
   counted = omega (arith, c.loop.invariant.counted, c.serve_watched.ensures.leaves.1);
   reported = reports-then g.T.Reporter.fails _ _ _ _ _ _ _ c.faults-since.ensures c.loop.invariant.counted c.serve_watched.ensures.leaves.1 c.loop.invariant.reported c.serve_watched.ensures.reported c.serve_watched.ensures.once;
   timely = λ h. OnTime-append c.loop.counter 1 _ _ _ _ _ _ (c.loop.invariant.timely (c.serve_watched.ensures.leaves.0 h)) (c.serve_watched.ensures.timely h);
-  heard = λ h. HearsAll-append g.H.Hears.hears _ _ _ _ _ _ (c.loop.invariant.heard (c.serve_watched.ensures.leaves.0 h)) (c.serve_watched.ensures.heard h);
+  heard = λ h. HearsAll-more g.H.Hears.going g.H.Hears.hears _ _ _ _ _ _ (c.loop.invariant.heard (c.serve_watched.ensures.leaves.0 h)) (sym c.goes_on.ensures ∙ @@) (c.serve_watched.ensures.heard h);
 }
 
 pub returns-clause-stepped : goal.returns-clause-stepped

@@ -10,5 +10,5 @@ invariant-loop g l = record {
   counted : g.K.Kept.count l.fn.keeper ≤ g.K.Kept.count l.keeper;
   reported : ReportsOnce g.T.Reporter.fails (g.K.Kept.count l.fn.keeper) (g.K.Kept.count l.keeper) l.fn.reporter l.reporter;
   timely : g.K.Kept.is_honest l.keeper → SteppedOnTime l.counter (g.A.Arrivals.tries l.fn.arrivals) (g.A.Arrivals.tries l.arrivals) (g.K.Kept.vault l.fn.keeper) (g.K.Kept.vault l.keeper);
-  heard : g.K.Kept.is_honest l.keeper → HearsAll g.H.Hears.hears l.fn.hears l.hears (g.K.Kept.vault l.fn.keeper) (g.K.Kept.vault l.keeper);
+  heard : g.K.Kept.is_honest l.keeper → HearsAll g.H.Hears.going g.H.Hears.hears l.fn.hears l.hears (g.K.Kept.vault l.fn.keeper) (g.K.Kept.vault l.keeper);
 }

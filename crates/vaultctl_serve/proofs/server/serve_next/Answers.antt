@@ -1,8 +1,8 @@
-use Rattle.std.proofs.Common.{◌≡◌, ℤ, Option, List, FitsSigned, rules, subst, sym, to_z, to_z-of_z, of_z, w64}
+use Rattle.std.proofs.Common.{◌≡◌, ℤ, Option, None, List, inl, refl, FitsSigned, rules, subst, sym, to_z, to_z-of_z, of_z, w64}
 use Rattle.vault_base.specs.Days.{moment_at}
 use Rattle.vault_http.specs.Left.{AtMostOne}
 use Rattle.vaultctl_serve.specs.Serving.{SteppedOnTime, Try}
-use Rattle.vaultctl_serve.proofs.ServingLemmas.{HearsAll-none, HearsAll-one, OnTime-taken}
+use Rattle.vaultctl_serve.proofs.ServingLemmas.{OnTime-taken}
 use Rattle.vaultctl_serve.proofs.server.serve_next.Goals as goal
 
 -- the reading is what the clock shows as the connection was taken, and what is logged changes nothing of what comes
@@ -19,7 +19,7 @@ returns-in-Ok-clause-timely g c =
     λ h. subst Q (sym c.serve_taken.ensures.tries) (OnTime-taken before (g.A.Arrivals.tries c.take.new.self) (g.A.Arrivals.shown c.take.new.self) (moment_at reading) old new c.in-Ok.ensures c.reading-reading.ensures (subst P same (c.serve_taken.ensures.once h)))
 
 pub returns-in-Ok-clause-heard : goal.returns-in-Ok-clause-heard
-returns-in-Ok-clause-heard g c = λ h. HearsAll-one g.H.Hears.hears _ _ _ _ _ (c.serve_taken.ensures.heard h)
+returns-in-Ok-clause-heard g c = λ h. (_, c.serve_taken.ensures.heard h)
 
 pub returns-clause-heard : goal.returns-clause-heard
-returns-clause-heard g c = λ h. HearsAll-none g.H.Hears.hears c.args.hears.now (g.K.Kept.vault c.args.keeper.now)
+returns-clause-heard g c = λ h. (None, inl (refl, refl))

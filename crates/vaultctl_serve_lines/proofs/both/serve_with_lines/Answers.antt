@@ -7,4 +7,4 @@ pub returns-in-Err-clause-stepped : goal.returns-in-Err-clause-stepped
 returns-in-Err-clause-stepped g c = λ h. Stepped-none c.args.places.count (g.K.Kept.vault c.args.keeper.now) (g.K.Kept.vault c.args.keeper.now) refl
 
 pub returns-in-Err-clause-heard : goal.returns-in-Err-clause-heard
-returns-in-Err-clause-heard g c = λ h. HearsAll-none g.H.Hears.hears c.args.hears.now (g.K.Kept.vault c.args.keeper.now)
+returns-in-Err-clause-heard g c = λ h. HearsAll-none g.H.Hears.going g.H.Hears.hears c.args.hears.now (g.K.Kept.vault c.args.keeper.now)

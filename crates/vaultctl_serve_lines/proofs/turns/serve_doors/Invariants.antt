@@ -12,5 +12,5 @@ invariant-loop-turn g l = record {
   counted : g.K.Kept.count l.fn.keeper ≤ g.K.Kept.count l.keeper;
   reported : ReportsOnce g.T.Reporter.fails (g.K.Kept.count l.fn.keeper) (g.K.Kept.count l.keeper) l.fn.reporter l.reporter;
   timely : g.K.Kept.is_honest l.keeper → SteppedWithin l.taken (g.D.Doors.tries l.fn.doors) (g.D.Doors.tries l.doors) (g.K.Kept.vault l.fn.keeper) (g.K.Kept.vault l.keeper);
-  heard : g.K.Kept.is_honest l.keeper → HearsAll g.H.Hears.hears l.fn.hears l.hears (g.K.Kept.vault l.fn.keeper) (g.K.Kept.vault l.keeper);
+  heard : g.K.Kept.is_honest l.keeper → HearsAll g.H.Hears.going g.H.Hears.hears l.fn.hears l.hears (g.K.Kept.vault l.fn.keeper) (g.K.Kept.vault l.keeper);
 }

@@ -2,7 +2,6 @@ use Rattle.std.proofs.Common.{◌≡◌, ◌∙◌, ℕ, Option, FitsSigned, rul
 use Rattle.vault_base.specs.Days.{moment_at}
 use Rattle.vault_http.specs.Left.{AtMostOne}
 use Rattle.vaultctl_serve.proofs.AccountLemmas.{late-unread}
-use Rattle.vaultctl_serve.proofs.ServingLemmas.{HearsAll-one}
 use Rattle.vaultctl_serve_lines.proofs.turns.serve_request.Goals as goal
 
 -- the reading is what the clock shows
@@ -42,4 +41,4 @@ returns-clause-logged g c =
     )
 
 pub returns-clause-heard : goal.returns-clause-heard
-returns-clause-heard g c = λ h. HearsAll-one g.H.Hears.hears _ _ _ _ _ (c.serve_connection-served.ensures.heard h)
+returns-clause-heard g c = λ h. (_, c.serve_connection-served.ensures.heard h)

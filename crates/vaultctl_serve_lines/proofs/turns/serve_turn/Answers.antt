@@ -1,6 +1,5 @@
-use Rattle.std.proofs.Common.{◌≡◌, List, Option, subst, sym, ◌∙◌}
+use Rattle.std.proofs.Common.{◌≡◌, List, Option, None, inl, refl, subst, sym, ◌∙◌}
 use Rattle.vaultctl_serve.specs.Serving.{Try}
-use Rattle.vaultctl_serve.proofs.ServingLemmas.{HearsAll-none}
 use Rattle.vaultctl_serve_lines.specs.Doors.{most_of, SteppedWithin}
 use Rattle.vaultctl_serve_lines.proofs.TurnLemmas.{takes-one, Within-more, Within-taken}
 use Rattle.vaultctl_serve_lines.proofs.turns.serve_turn.Goals as goal
@@ -28,4 +27,4 @@ returns-in-Line-clause-timely g c =
 
 -- nothing came
 pub returns-in-Nothing-clause-heard : goal.returns-in-Nothing-clause-heard
-returns-in-Nothing-clause-heard g c = λ h. HearsAll-none g.H.Hears.hears c.args.hears.now (g.K.Kept.vault c.args.keeper.now)
+returns-in-Nothing-clause-heard g c = λ h. (None, inl (refl, refl))
