@@ -20,7 +20,7 @@ loop-preserved g c = record {
   counted = omega (arith, c.loop.invariant.counted, c.serve_watched.ensures.leaves.1);
   reported = reports-then g.T.Reporter.fails _ _ _ _ _ _ _ c.faults-since.ensures c.loop.invariant.counted c.serve_watched.ensures.leaves.1 c.loop.invariant.reported c.serve_watched.ensures.reported c.serve_watched.ensures.once;
   timely = λ h. OnTime-append c.loop.counter 1 _ _ _ _ _ _ (c.loop.invariant.timely (c.serve_watched.ensures.leaves.0 h)) (c.serve_watched.ensures.timely h);
-  heard = λ h. HearsAll-more g.H.Hears.going g.H.Hears.hears _ _ _ _ _ _ (c.loop.invariant.heard (c.serve_watched.ensures.leaves.0 h)) (sym c.goes_on.ensures ∙ @@) (c.serve_watched.ensures.heard h);
+  heard = λ h. HearsAll-more g.H.Hears.going g.H.Hears.hears _ _ _ _ _ _ (c.loop.invariant.heard (c.serve_watched.ensures.leaves.0 h)) ? (c.serve_watched.ensures.heard h);
 }
 
 pub returns-clause-stepped : goal.returns-clause-stepped
