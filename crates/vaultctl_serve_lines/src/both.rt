@@ -66,6 +66,15 @@ fn listen<R: Net<Stream = TcpStream, Listener = TcpListener> + Files>(
     Ok((requests, lines))
 }
 
+/// What a server says of itself that begins now.
+fn service_from<R: Clock>(rt: &R, places: Places<'_>) -> Service {
+    Service {
+        alloc: places.alloc,
+        version: places.version,
+        since: now(rt),
+    }
+}
+
 /// Serves requests and lines, one after another, as many as are counted, or up to the line that asks for the end: answers
 /// which of these it was. It ends too after the command after which who hears lets no more be carried out; that is answered
 /// as if all were served.
@@ -105,11 +114,7 @@ pub fn serve_with_lines<
         Err(fault) => return Err(fault),
     };
     reporter.listening_at_both(places.file, places.port, places.lines);
-    let service = Service {
-        alloc: places.alloc,
-        version: places.version,
-        since: now(rt),
-    };
+    let service = service_from(rt, places);
     let mut doors = TwoDoors {
         clock: rt,
         alloc: places.alloc,
