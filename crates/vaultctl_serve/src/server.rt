@@ -121,7 +121,8 @@ fn serve_watched<C: Clock, A: Arrivals, K: Keeper, H: Hears, T: Reporter>(
 }
 
 /// Takes `count` connections, one after another, and serves one request on each, at the clock's reading
-/// when it was taken; or fewer, up to the command after which who hears lets no more be carried out. That the vault's device failed is reported once, when it first does.
+/// when it was taken; or fewer, up to the command after which who hears lets no more be carried out. That the vault's
+/// device failed is reported once, when it first does.
 ///
 /// A connection that can't be taken, or whose request isn't served to its end, counts as any other, and
 /// the next one is taken. The head of a request has to come within 5 seconds from when its connection was taken,
