@@ -109,8 +109,9 @@ pub fn serve_one<R: Read, W: Write, K: Keeper>(
     ensures steady { SteadyBy K.Kept keeper.old keeper.new W.Write writer.old writer.new result (moment_at reading) }
 {
     let hosts = Hosts::any(alloc);
+    let moment = Moment::from_secs(reading);
     let occasion = Occasion {
-        moment: Moment::from_secs(reading),
+        moment,
         hosts: &hosts,
     };
     serve_for(alloc, reader, writer, keeper, &mut Nobody, occasion)

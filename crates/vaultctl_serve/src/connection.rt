@@ -36,12 +36,14 @@ pub fn serve_in_time<I: Inbound + Drop, W: Write, K: Keeper, H: Hears>(
     hears: &mut H,
     occasion: Occasion<'_>,
 ) -> Result<(), ServeFault>
-    ensures ok { K.is_honest keeper.new → OnOk result (Answered occasion.entry.hosts.now (RoseOrIsFull (K.count keeper.old) (K.count keeper.new)) occasion.entry.moment
-        (known_in_time Leading (I.coming inbound)) (K.vault keeper.old) (K.vault keeper.new) (W.contents writer.old) (W.contents writer.new)) }
-    ensures err { K.is_honest keeper.new → IfErr result (λ e. (unread : Option (List ℕ)) × Unanswered occasion.entry.hosts.now (RoseOrIsFull (K.count keeper.old) (K.count keeper.new)) e occasion.entry.moment
+    ensures ok { K.is_honest keeper.new → OnOk result (Answered occasion.entry.hosts.now (RoseOrIsFull (K.count keeper.old) (K.count keeper.new))
+        occasion.entry.moment (known_in_time Leading (I.coming inbound)) (K.vault keeper.old) (K.vault keeper.new) (W.contents writer.old) (W.contents writer.new)) }
+    ensures err { K.is_honest keeper.new → IfErr result (λ e. (unread : Option (List ℕ))
+        × Unanswered occasion.entry.hosts.now (RoseOrIsFull (K.count keeper.old) (K.count keeper.new)) e occasion.entry.moment
         (known_in_time Leading (I.coming inbound)) unread (K.vault keeper.old) (K.vault keeper.new) (W.contents writer.old) (W.contents writer.new)) }
     // A request that isn't whole in time changes nothing.
-    ensures late { K.is_honest keeper.new → IfSome (known_in_time Leading (I.coming inbound)) (λ input. WaitsForAll occasion.entry.hosts.now occasion.entry.moment input (K.vault keeper.old) (K.vault keeper.new)) }
+    ensures late { K.is_honest keeper.new → IfSome (known_in_time Leading (I.coming inbound)) (λ input. WaitsForAll occasion.entry.hosts.now occasion.entry.moment input
+        (K.vault keeper.old) (K.vault keeper.new)) }
     // Where hosts are named, a request for another one changes nothing, and is answered InvalidArgument.
     ensures strangers { K.is_honest keeper.new → IfSome (known_in_time Leading (I.coming inbound)) (λ input. RefusesStrangers occasion.entry.hosts.now occasion.entry.moment input result
         (K.vault keeper.old) (K.vault keeper.new) (W.contents writer.old) (W.contents writer.new)) }

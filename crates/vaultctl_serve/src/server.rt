@@ -3,7 +3,7 @@ ghost use Rattle.std.specs.Prelude.{◌≡◌, ◌≢◌, OnOk, OnErr};
 ghost use Rattle.std.specs.Io.KnownBytes.{Keeps};
 ghost use Rattle.vault_base.specs.Days.{moment_at};
 ghost use Rattle.vault_core_model.specs.Step.{Reached};
-ghost use Rattle.vault_http.specs.Hearing.{HearsAll, HearsOnce};
+ghost use Rattle.vault_http.specs.Hearing.{HearsAll, HearsOnce, HearsSome};
 ghost use Rattle.vault_http.specs.Left.{AtMostOne, LeavesNoLess};
 ghost use Rattle.vaultctl_serve.specs.Account.{IsAccounted, trouble_of as trouble_in};
 ghost use Rattle.vaultctl_serve.specs.Serving.{ReportsOnce, Stepped, SteppedOnTime, SteppedWhile};
@@ -59,10 +59,9 @@ fn serve_taken<C: Clock, A: Arrivals, K: Keeper, H: Hears>(
     ensures leaves { LeavesNoLess K.Kept keeper.old keeper.new }
 {
     let mut noted = Noted::new(means.alloc);
-    let occasion = Occasion {
-        moment: Moment::from_secs(reading),
-        hosts: arrivals.hosts(),
-    };
+    let moment = Moment::from_secs(reading);
+    let hosts = arrivals.hosts();
+    let occasion = Occasion { moment, hosts };
     // A fault of the connection is its own.
     let served = serve_connection(means.clock, &mut noted, peer, keeper, hears, occasion);
     arrivals.log(&noted.request(reading, trouble_of(served)));
@@ -85,7 +84,7 @@ fn serve_next<C: Clock, A: Arrivals, K: Keeper, H: Hears>(
     hears: &mut H,
 )
     ensures timely { K.is_honest keeper.new → SteppedOnTime 1 (A.tries arrivals.old) (A.tries arrivals.new) (K.vault keeper.old) (K.vault keeper.new) }
-    ensures heard { K.is_honest keeper.new → HearsAll H.hears hears.old hears.new (K.vault keeper.old) (K.vault keeper.new) }
+    ensures heard { K.is_honest keeper.new → HearsSome H.hears hears.old hears.new (K.vault keeper.old) (K.vault keeper.new) }
     ensures leaves { LeavesNoLess K.Kept keeper.old keeper.new }
 {
     match arrivals.take() {
@@ -108,7 +107,7 @@ fn serve_watched<C: Clock, A: Arrivals, K: Keeper, H: Hears, T: Reporter>(
     reporter: &mut T,
 )
     ensures timely { K.is_honest keeper.new → SteppedOnTime 1 (A.tries arrivals.old) (A.tries arrivals.new) (K.vault keeper.old) (K.vault keeper.new) }
-    ensures heard { K.is_honest keeper.new → HearsAll H.hears hears.old hears.new (K.vault keeper.old) (K.vault keeper.new) }
+    ensures heard { K.is_honest keeper.new → HearsSome H.hears hears.old hears.new (K.vault keeper.old) (K.vault keeper.new) }
     ensures reported { K.count keeper.old ≡ since → ReportsOnce T.fails since (K.count keeper.new) reporter.old reporter.new }
     // It isn't reported a second time.
     ensures once { K.count keeper.old ≢ since → reporter.new ≡ reporter.old }
@@ -122,7 +121,8 @@ fn serve_watched<C: Clock, A: Arrivals, K: Keeper, H: Hears, T: Reporter>(
 }
 
 /// Takes `count` connections, one after another, and serves one request on each, at the clock's reading
-/// when it was taken; or fewer, up to the command after which who hears lets no more be carried out. That the vault's device failed is reported once, when it first does.
+/// when it was taken; or fewer, up to the command after which who hears lets no more be carried out. That the vault's
+/// device failed is reported once, when it first does.
 ///
 /// A connection that can't be taken, or whose request isn't served to its end, counts as any other, and
 /// the next one is taken. The head of a request has to come within 5 seconds from when its connection was taken,
@@ -139,8 +139,8 @@ pub fn serve_arrivals<C: Clock, A: Arrivals, K: Keeper, H: Hears, T: Reporter>(
     // `count` times one tried to take a connection, or less often where who hears lets no more commands be carried out;
     // and for each that was taken at most one command was carried out, at the clock's reading then.
     ensures timely { K.is_honest keeper.new → SteppedWhile (H.going hears.new) count (A.tries arrivals.old) (A.tries arrivals.new) (K.vault keeper.old) (K.vault keeper.new) }
-    // Commands led to the vault, and each was heard of with its reply.
-    ensures heard { K.is_honest keeper.new → HearsAll H.hears hears.old hears.new (K.vault keeper.old) (K.vault keeper.new) }
+    // Commands led to the vault, and each was heard of with its reply, while who hears let it be carried out.
+    ensures heard { K.is_honest keeper.new → HearsAll H.going H.hears hears.old hears.new (K.vault keeper.old) (K.vault keeper.new) }
     ensures stepped { K.is_honest keeper.new → Stepped count (K.vault keeper.old) (K.vault keeper.new) }
     // A vault that runs lead to from a new one is left as such a vault.
     ensures reached { K.is_honest keeper.new → Reached (K.vault keeper.old) → Reached (K.vault keeper.new) }
@@ -187,8 +187,8 @@ pub fn serve<R: Net<Stream = TcpStream> + Clock, K: Keeper, H: Hears, T: Reporte
     log: Option<W>,
 ) -> Result<(), PortFault>
     ensures stepped { K.is_honest keeper.new → Stepped place.entry.count (K.vault keeper.old) (K.vault keeper.new) }
-    // Commands led to the vault, and each was heard of with its reply.
-    ensures heard { K.is_honest keeper.new → HearsAll H.hears hears.old hears.new (K.vault keeper.old) (K.vault keeper.new) }
+    // Commands led to the vault, and each was heard of with its reply, while who hears let it be carried out.
+    ensures heard { K.is_honest keeper.new → HearsAll H.going H.hears hears.old hears.new (K.vault keeper.old) (K.vault keeper.new) }
     ensures reached { K.is_honest keeper.new → Reached (K.vault keeper.old) → Reached (K.vault keeper.new) }
     ensures err { OnErr result (K.vault keeper.new ≡ K.vault keeper.old) }
     // That it listens is reported first, and then, once, that the device failed where it did.

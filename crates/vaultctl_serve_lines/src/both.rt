@@ -66,6 +66,15 @@ fn listen<R: Net<Stream = TcpStream, Listener = TcpListener> + Files>(
     Ok((requests, lines))
 }
 
+/// What a server says of itself that begins now.
+fn service_from<R: Clock>(rt: &R, places: Places<'_>) -> Service {
+    Service {
+        alloc: places.alloc,
+        version: places.version,
+        since: now(rt),
+    }
+}
+
 /// Serves requests and lines, one after another, as many as are counted, or up to the line that asks for the end: answers
 /// which of these it was. It ends too after the command after which who hears lets no more be carried out; that is answered
 /// as if all were served.
@@ -87,8 +96,8 @@ pub fn serve_with_lines<
     log: Option<Stderr>,
 ) -> Result<Next, DoorFault>
     ensures stepped { K.is_honest keeper.new → Stepped places.entry.count (K.vault keeper.old) (K.vault keeper.new) }
-    // Commands led to the vault, and each was heard of with its reply.
-    ensures heard { K.is_honest keeper.new → HearsAll H.hears hears.old hears.new (K.vault keeper.old) (K.vault keeper.new) }
+    // Commands led to the vault, and each was heard of with its reply, while who hears let it be carried out.
+    ensures heard { K.is_honest keeper.new → HearsAll H.going H.hears hears.old hears.new (K.vault keeper.old) (K.vault keeper.new) }
     ensures reached { K.is_honest keeper.new → Reached (K.vault keeper.old) → Reached (K.vault keeper.new) }
     // Only a caller with the right to administer ends it.
     ensures end { IfOk result (λ next. next ≡ Next.End → K.is_honest keeper.new → IsEnded (K.vault keeper.new)) }
@@ -105,11 +114,7 @@ pub fn serve_with_lines<
         Err(fault) => return Err(fault),
     };
     reporter.listening_at_both(places.file, places.port, places.lines);
-    let service = Service {
-        alloc: places.alloc,
-        version: places.version,
-        since: now(rt),
-    };
+    let service = service_from(rt, places);
     let mut doors = TwoDoors {
         clock: rt,
         alloc: places.alloc,

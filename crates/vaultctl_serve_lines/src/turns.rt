@@ -2,7 +2,7 @@
 ghost use Rattle.std.specs.Prelude.{◌≡◌, ◌≢◌, ℕ, Ok, Option};
 ghost use Rattle.vault_base.specs.Days.{moment_at};
 ghost use Rattle.vault_core_model.specs.Step.{Reached};
-ghost use Rattle.vault_http.specs.Hearing.{HearsAll, HearsOnce};
+ghost use Rattle.vault_http.specs.Hearing.{HearsAll, HearsOnce, HearsSome};
 ghost use Rattle.vault_http.specs.Left.{AtMostOne, LeavesNoLess};
 ghost use Rattle.vaultctl_serve.specs.Account.{IsAccounted, IsLineAccounted};
 ghost use Rattle.vaultctl_serve.specs.Serving.{ReadsAs, ReportsOnce, Stepped};
@@ -140,7 +140,7 @@ fn serve_request<C: Clock, D: Doors, K: Keeper, H: Hears>(
 )
     ensures tries { D.tries doors.new ≡ D.tries doors.old }
     ensures timely { K.is_honest keeper.new → StepsAt (D.tries doors.old) (D.shown doors.old) (K.vault keeper.old) (K.vault keeper.new) }
-    ensures heard { K.is_honest keeper.new → HearsAll H.hears hears.old hears.new (K.vault keeper.old) (K.vault keeper.new) }
+    ensures heard { K.is_honest keeper.new → HearsSome H.hears hears.old hears.new (K.vault keeper.old) (K.vault keeper.new) }
     // What is logged is what happened: the moment, and that nothing was carried out of what came late.
     ensures logged { K.is_honest keeper.new → (moment : Option ℕ) × ReadsAs (D.tries doors.old) (D.shown doors.old) moment
         × IsAccounted D.logs doors.old doors.new moment (K.vault keeper.old) (K.vault keeper.new) }
@@ -148,10 +148,9 @@ fn serve_request<C: Clock, D: Doors, K: Keeper, H: Hears>(
 {
     let reading = doors.reading();
     let mut noted = Noted::new(server.service.alloc);
-    let occasion = Occasion {
-        moment: Moment::from_secs(reading),
-        hosts: doors.hosts(),
-    };
+    let moment = Moment::from_secs(reading);
+    let hosts = doors.hosts();
+    let occasion = Occasion { moment, hosts };
     // A fault of the connection is its own.
     let served = serve_connection(server.clock, &mut noted, peer, keeper, hears, occasion);
     doors.log(&noted.request(reading, trouble_of(served)));
@@ -170,7 +169,7 @@ fn answer_heard<C: Clock, D: Doors, K: Keeper, H: Hears>(
 ) -> Result<Next, ReplayFault>
     ensures tries { D.tries doors.new ≡ D.tries doors.old }
     ensures timely { K.is_honest keeper.new → StepsAt (D.tries doors.old) (D.shown doors.old) (K.vault keeper.old) (K.vault keeper.new) }
-    ensures heard { K.is_honest keeper.new → HearsAll H.hears hears.old hears.new (K.vault keeper.old) (K.vault keeper.new) }
+    ensures heard { K.is_honest keeper.new → HearsSome H.hears hears.old hears.new (K.vault keeper.old) (K.vault keeper.new) }
     ensures end { result ≡ Ok Next.End → K.is_honest keeper.new → IsEnded (K.vault keeper.new) }
     // What is logged is what happened: the line, the moment.
     ensures logged { K.is_honest keeper.new → (moment : Option ℕ) × ReadsAs (D.tries doors.old) (D.shown doors.old) moment
@@ -196,7 +195,7 @@ fn serve_turn<C: Clock, D: Doors, K: Keeper, H: Hears>(
     hears: &mut H,
 ) -> Turn
     ensures timely { K.is_honest keeper.new → SteppedWithin (most_of result) (D.tries doors.old) (D.tries doors.new) (K.vault keeper.old) (K.vault keeper.new) }
-    ensures heard { K.is_honest keeper.new → HearsAll H.hears hears.old hears.new (K.vault keeper.old) (K.vault keeper.new) }
+    ensures heard { K.is_honest keeper.new → HearsSome H.hears hears.old hears.new (K.vault keeper.old) (K.vault keeper.new) }
     ensures end { result ≡ Turn.End → K.is_honest keeper.new → IsEnded (K.vault keeper.new) }
     ensures leaves { LeavesNoLess K.Kept keeper.old keeper.new }
 {
@@ -225,7 +224,7 @@ fn watch_turn<C: Clock, D: Doors, K: Keeper, H: Hears, T: Reporter>(
     reporter: &mut T,
 ) -> Turn
     ensures timely { K.is_honest keeper.new → SteppedWithin (most_of result) (D.tries doors.old) (D.tries doors.new) (K.vault keeper.old) (K.vault keeper.new) }
-    ensures heard { K.is_honest keeper.new → HearsAll H.hears hears.old hears.new (K.vault keeper.old) (K.vault keeper.new) }
+    ensures heard { K.is_honest keeper.new → HearsSome H.hears hears.old hears.new (K.vault keeper.old) (K.vault keeper.new) }
     ensures end { result ≡ Turn.End → K.is_honest keeper.new → IsEnded (K.vault keeper.new) }
     ensures reported { K.count keeper.old ≡ since → ReportsOnce T.fails since (K.count keeper.new) reporter.old reporter.new }
     // It isn't reported a second time.
@@ -259,8 +258,8 @@ pub fn serve_doors<C: Clock, D: Doors, K: Keeper, H: Hears, T: Reporter>(
     // and no more than `count` were taken.
     ensures timely { K.is_honest keeper.new → SteppedWithin count (D.tries doors.old) (D.tries doors.new) (K.vault keeper.old) (K.vault keeper.new) }
     ensures stepped { K.is_honest keeper.new → Stepped count (K.vault keeper.old) (K.vault keeper.new) }
-    // Commands led to the vault, and each was heard of with its reply.
-    ensures heard { K.is_honest keeper.new → HearsAll H.hears hears.old hears.new (K.vault keeper.old) (K.vault keeper.new) }
+    // Commands led to the vault, and each was heard of with its reply, while who hears let it be carried out.
+    ensures heard { K.is_honest keeper.new → HearsAll H.going H.hears hears.old hears.new (K.vault keeper.old) (K.vault keeper.new) }
     // A vault that runs lead to from a new one is left as such a vault.
     ensures reached { K.is_honest keeper.new → Reached (K.vault keeper.old) → Reached (K.vault keeper.new) }
     // Only a caller with the right to administer ends it.
