@@ -56,7 +56,8 @@ class StandbyTest(MachineTest):
 
     def follow(self) -> subprocess.Popen[bytes]:
         """Follows in a process of its own, until the test ends."""
-        following = subprocess.Popen(["vaultdesk", "standby", "follow", "records"], stderr=subprocess.PIPE)
+        words = ["vaultdesk", "standby", "follow", "records", "--json"]
+        following = subprocess.Popen(words, stdout=subprocess.DEVNULL, stderr=subprocess.PIPE)
         assert following.stderr
         self.addCleanup(following.stderr.close)
         self.addCleanup(following.wait)
@@ -165,6 +166,11 @@ class Wrong(StandbyTest):
         self.assertEqual(done.status, 1)
         self.assertIn("STANDBY is missing", done.err)
 
+    def test_what_it_follows_is_said_as_json(self) -> None:
+        done = self.desk("standby", "follow", "records", "--json", at=None)
+        self.assertEqual(done.status, 1)
+        self.assertEqual(json.loads(done.out), {"vault": "records", "standby": "other.example.org"})
+
     def test_no_journal_began(self) -> None:
         for words in (["follow"], ["lag"]):
             self.assertEqual(self.desk("standby", *words, "records", at=None).status, 1)
@@ -174,6 +180,7 @@ class Wrong(StandbyTest):
         heads = [{"journal": "20240115T090000Z", "lines": 0, "files": it} for it in files]
         for head in (*heads, {**heads[0], "journal": "../up", "files": {"records.vault": 1}}, [], {}):
             given = (json.dumps(head) + "\nx").encode()
-            done = subprocess.run(["vaultdesk", "standby", "take", "records"], input=given, capture_output=True)
+            words = ["vaultdesk", "standby", "take", "records"]
+            done = subprocess.run(words, input=given, capture_output=True, check=False)
             self.assertEqual((done.returncode, done.stdout), (1, b""), head)
         self.assertEqual(sorted(it.name for it in self.folder.iterdir() if "standby" in it.name), [])

@@ -216,6 +216,8 @@ def follow(words: argparse.Namespace) -> int:
         raise DeskError(f"{served.conf.path}: STANDBY is missing: the machine that follows, as ssh has it")
     ssh = shlex.split(os.environ.get("VAULT_SSH", "ssh -o BatchMode=yes -o ServerAliveInterval=15"))
     os.umask(0o077)
+    print_done(words.json, vault=served.name, standby=other)
+    sys.stdout.flush()
     while True:
         made = _newest(_journals(served))
         if made is None:
