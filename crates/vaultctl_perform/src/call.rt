@@ -15,7 +15,7 @@ pub struct Call<'a> {
 }
 
 /// A job, and what it does with its vault.
-#[derive(Clone, Copy)]
+#[derive(Drop)]
 pub struct Task<'a, T> {
     pub call: Call<'a>,
     pub work: &'a T,

@@ -56,7 +56,8 @@ fn replay_script<A: Start, B: Start, R: Read, W: Write, E: Write>(
         (R.remaining reader.old) (R.remaining reader.new) (W.contents out.old) (W.contents out.new) }
     ensures status { result ≢ 2 }
 {
-    match &task.work.file {
+    let job = task.work;
+    match &job.file {
         Some(_) => in_vault(machine, start, task, reader, out, err),
         None => replay::from_new(machine.runtime().alloc(), reader, out, err),
     }
