@@ -139,7 +139,8 @@ pub fn serve_for<R: Read, W: Write, K: Keeper, H: Hears>(
     ensures leaves { left.LeavesNoLess K.Kept keeper.old keeper.new }
     ensures steady { SteadyBy K.Kept keeper.old keeper.new W.Write writer.old writer.new result occasion.entry.moment }
 {
-    match judge_request(alloc, reader, occasion.hosts, &occasion.moment)? {
+    let Occasion { moment, hosts } = occasion;
+    match judge_request(alloc, reader, hosts, &moment)? {
         Judgement::Nothing => Ok(()),
         Judgement::Denied(refusal, allow, shown) => {
             let denial = Denial {
@@ -147,7 +148,7 @@ pub fn serve_for<R: Read, W: Write, K: Keeper, H: Hears>(
                 allow,
                 shown,
             };
-            deny(alloc, writer, occasion.moment, &denial)
+            deny(alloc, writer, moment, &denial)
         }
         Judgement::Planned(plan, shown) => {
             let planned = Planned { plan, shown };
