@@ -98,7 +98,7 @@ fn serve_both<K: Keeper, H: Hears, E: Write>(
     log: Option<Stderr>,
 ) -> Result<Outcome, JobFault>
     ensures done { K.is_honest keeper.new → K.is_honest keeper.old × Stepped places.entry.count (K.vault keeper.old) (K.vault keeper.new) }
-    ensures heard { K.is_honest keeper.new → HearsAll H.hears hears.old hears.new (K.vault keeper.old) (K.vault keeper.new) }
+    ensures heard { K.is_honest keeper.new → HearsAll H.going H.hears hears.old hears.new (K.vault keeper.old) (K.vault keeper.new) }
 {
     let ended = serve_with_lines(rt, keeper, hears, places, err, log);
     if let Err(fault) = ended {
@@ -118,7 +118,7 @@ fn serve_for_hosts<K: Keeper, H: Hears, E: Write>(
     err: &mut E,
 ) -> Result<Outcome, JobFault>
     ensures done { K.is_honest keeper.new → K.is_honest keeper.old × IsServed job.now (K.vault keeper.old) (K.vault keeper.new) }
-    ensures heard { K.is_honest keeper.new → HearsAll H.hears hears.old hears.new (K.vault keeper.old) (K.vault keeper.new) }
+    ensures heard { K.is_honest keeper.new → HearsAll H.going H.hears hears.old hears.new (K.vault keeper.old) (K.vault keeper.new) }
 {
     let (file, port, alloc) = (job.file.as_str(), job.port, rt.alloc());
     let Some(place) = &job.lines else {
@@ -158,7 +158,7 @@ pub fn serve_heard<K: Keeper, H: Hears, E: Write>(
     err: &mut E,
 ) -> Result<Outcome, JobFault>
     ensures done { K.is_honest keeper.new → K.is_honest keeper.old × IsServed job.now (K.vault keeper.old) (K.vault keeper.new) }
-    ensures heard { K.is_honest keeper.new → HearsAll H.hears hears.old hears.new (K.vault keeper.old) (K.vault keeper.new) }
+    ensures heard { K.is_honest keeper.new → HearsAll H.going H.hears hears.old hears.new (K.vault keeper.old) (K.vault keeper.new) }
 {
     let Ok(hosts) = hosts_of(rt.alloc(), job.hosts.as_slice()) else {
         return Err(JobFault::Memory);
