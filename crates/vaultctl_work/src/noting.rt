@@ -1,6 +1,8 @@
 //! A server that notes each change in a journal.
-ghost use Rattle.std.specs.Prelude.{◌≡◌};
+ghost use Rattle.std.specs.Prelude.{◌≡◌, ◌≢◌, Ok, false};
+ghost use Rattle.vaultctl_journal.specs.Entries.{is_open};
 ghost use Rattle.vaultctl_work.specs.Done.{IsServed};
+ghost use Rattle.vaultctl_work.specs.Noted.{IsNoted};
 ghost use Rattle.vaultctl_work.specs.Outcomes as spec;
 
 use crate::saying::say;
@@ -13,7 +15,8 @@ use vault_http::Hears;
 use vaultctl_commands::fault::JobFault;
 use vaultctl_commands::outcome::Outcome;
 use vaultctl_job::job::ServeJob;
-use vaultctl_journal::Journal;
+use vaultctl_journal::laws::journals_lead_to_the_vault;
+use vaultctl_journal::{Journal, JournalState};
 
 /// A journal has what is put into the vault: so its owner alone may read and write it.
 const OWNERS_ALONE: u32 = 0o600;
@@ -45,18 +48,18 @@ fn unmade(kind: ErrorKind) -> &'static str {
 }
 
 /// Says in words why a journal doesn't go on, where it doesn't.
-fn say_ended<W: Write, E: Write>(err: &mut E, journal: &Journal<W>) {
-    if journal.goes_on() {
-        return;
+fn say_ended<E: Write>(err: &mut E, state: JournalState) {
+    match state {
+        JournalState::Open => {}
+        JournalState::Ended => say(
+            err,
+            "--journal: it has ended, as no line makes the vault's last change again, such as that of a lifecycle run which a fault stopped: make a new copy of the vault, and a new journal",
+        ),
+        JournalState::Lost => say(
+            err,
+            "--journal: it can't be written, as on a full disk, or where memory is wanting, so the vault's last change isn't in it: make room, a new copy of the vault, and a new journal",
+        ),
     }
-    say(
-        err,
-        if journal.is_lost() {
-            "--journal: it can't be written, as on a full disk: the vault's last change isn't in it; make room, a new copy of the vault, and a new journal"
-        } else {
-            "--journal: it has ended, as no line makes the vault's last change again, such as that of a lifecycle run which a fault stopped; make a new copy of the vault, and a new journal"
-        },
-    );
 }
 
 /// What came of a server whose journal goes on, or doesn't.
@@ -81,9 +84,14 @@ fn serve_noted<K: Keeper, W: Write, E: Write>(
     err: &mut E,
 ) -> Result<Outcome, JobFault>
     ensures done { K.is_honest keeper.new → K.is_honest keeper.old × IsServed job.now (K.vault keeper.old) (K.vault keeper.new) }
+    // Over the vault of its beginning the journal's lines lead to the vault, or to the one before its last change.
+    ensures noted { K.is_honest keeper.new → IsNoted W.Write journal.old journal.new (K.vault keeper.old) (K.vault keeper.new) }
+    // Where the journal doesn't go on, that is reported.
+    ensures open { is_open journal.new.state ≡ false → result ≢ Ok Outcome.Done }
 {
     let ended = serve_heard(rt, keeper, journal, job, err);
-    say_ended(err, journal);
+    journals_lead_to_the_vault::<W>();
+    say_ended(err, journal.state);
     with_journal(journal.goes_on(), ended)
 }
 
