@@ -16,7 +16,9 @@ from pathlib import Path
 from vaultdesk.errors import DeskError
 from vaultdesk.output import say
 
-KNOWN = ("PORT", "LINES_GROUP", "ADMIN", "BUCKETS", "NIGHT", "BACKUP", "KEEP", "ALARM", "TRUST_CLOCK", "MAX_JUMP")
+KNOWN = (
+    "PORT", "LINES_GROUP", "ADMIN", "BUCKETS", "NIGHT", "BACKUP", "KEEP", "ALARM", "TRUST_CLOCK", "MAX_JUMP", "STANDBY",
+)  # fmt: skip
 NAME = re.compile(r"[A-Za-z0-9_][A-Za-z0-9_.-]*")  # of a vault: a file's name, and a unit's
 CALLER = re.compile(r"[a-z0-9._-]{1,64}")
 BUCKET = re.compile(r"[a-z0-9-]{3,63}")
@@ -124,6 +126,10 @@ class Configuration:
     def trusts_clock(self) -> bool:
         """Whether somebody looks after a clock that nothing synchronizes."""
         return self.values.get("TRUST_CLOCK") == "yes"
+
+    def standby(self) -> str:
+        """The machine that follows the vault, as ssh has it; empty where none is named."""
+        return self.values.get("STANDBY", "")
 
     def alarm(self) -> str:
         """The shell command that reports a failure; empty where none is set."""

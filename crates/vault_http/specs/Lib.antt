@@ -1,5 +1,6 @@
 pub mod Exchange
 pub mod Left
+pub mod Hearing
 pub mod Calls
 pub mod Steady
 pub mod Head

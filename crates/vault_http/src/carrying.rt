@@ -4,12 +4,14 @@ ghost use Rattle.std.specs.Io.KnownBytes.{Appends};
 ghost use Rattle.vault_http.specs.Calls.{DoneBy, JudgedBy, JudgedLeftBy, JudgedSteadyBy};
 ghost use Rattle.vault_http.specs.Reply.{AnswersRefusal};
 ghost use Rattle.vault_http.specs.Exchange as spec;
+ghost use Rattle.vault_http.specs.Hearing.{HearsOnce};
 ghost use Rattle.vault_http.specs.Left as left;
 ghost use Rattle.vault_http.specs.declared.fault.ServeFault.TheVariants as faults;
 
 use crate::answer::head::Allow;
 use crate::answer::reply::{refusal_bytes, reply_bytes};
 use crate::fault::ServeFault;
+use crate::hearing::Hears;
 use crate::send::send;
 use std::alloc::Global;
 use std::io::Write;
@@ -43,12 +45,13 @@ fn drops(command: &Command) -> bool
     matches!(command, Command::DropRules(_))
 }
 
-/// Carries a command out and writes its answer.
+/// Carries a command out, which is then heard of, and writes its answer.
 #[tactic(auto, using(vault_core_model::proofs::Counts::no_less))]
-fn answer<W: Write, K: Keeper>(
+fn answer<W: Write, K: Keeper, H: Hears>(
     alloc: Global,
     writer: &mut W,
     keeper: &mut K,
+    hears: &mut H,
     context: &RequestContext,
     command: &Command,
 ) -> Result<(), ServeFault>
@@ -56,12 +59,14 @@ fn answer<W: Write, K: Keeper>(
     ensures err { JudgedLeftBy K.Kept keeper.old keeper.new W.Write writer.old writer.new result context.now (Ok command.now) }
     ensures kind { ¬ (result ≡ Err faults.Read) }
     ensures once { K.is_honest keeper.new → left.AtMostOne (Some context.now.at) (K.vault keeper.old) (K.vault keeper.new) }
+    ensures heard { K.is_honest keeper.new → HearsOnce H.hears hears.old hears.new (Some context.now.at) (K.vault keeper.old) (K.vault keeper.new) }
     ensures honest { K.is_honest keeper.new → K.is_honest keeper.old }
     ensures counted { K.count keeper.old ≤ K.count keeper.new }
     ensures steady { JudgedSteadyBy K.Kept keeper.old keeper.new W.Write writer.old writer.new result context.now (Ok command.now) }
 {
     let at = context.at;
     let reply = step(alloc, keeper, at, &context.caller, command);
+    hears.hear(alloc, at, &context.caller, command, &reply);
     let Ok(bytes) = reply_bytes(alloc, Some(at), drops(command), reply, context.shown) else {
         return Err(ServeFault::Memory);
     };
@@ -69,10 +74,11 @@ fn answer<W: Write, K: Keeper>(
 }
 
 /// Carries a command out, which is dropped, and writes its answer.
-fn finish<W: Write, K: Keeper>(
+fn finish<W: Write, K: Keeper, H: Hears>(
     alloc: Global,
     writer: &mut W,
     keeper: &mut K,
+    hears: &mut H,
     context: &RequestContext,
     command: Command,
 ) -> Result<(), ServeFault>
@@ -80,11 +86,12 @@ fn finish<W: Write, K: Keeper>(
     ensures err { JudgedLeftBy K.Kept keeper.old keeper.new W.Write writer.old writer.new result context.now (Ok command) }
     ensures kind { ¬ (result ≡ Err faults.Read) }
     ensures once { K.is_honest keeper.new → left.AtMostOne (Some context.now.at) (K.vault keeper.old) (K.vault keeper.new) }
+    ensures heard { K.is_honest keeper.new → HearsOnce H.hears hears.old hears.new (Some context.now.at) (K.vault keeper.old) (K.vault keeper.new) }
     ensures honest { K.is_honest keeper.new → K.is_honest keeper.old }
     ensures counted { K.count keeper.old ≤ K.count keeper.new }
     ensures steady { JudgedSteadyBy K.Kept keeper.old keeper.new W.Write writer.old writer.new result context.now (Ok command) }
 {
-    let written = answer(alloc, writer, keeper, context, &command);
+    let written = answer(alloc, writer, keeper, hears, context, &command);
     drop(command);
     written
 }
@@ -107,23 +114,25 @@ pub fn deny<W: Write>(
 }
 
 /// Carries a command out, where there is one, and writes the answer to it or to its refusal.
-pub fn conclude<W: Write, K: Keeper>(
+pub fn conclude<W: Write, K: Keeper, H: Hears>(
     alloc: Global,
     writer: &mut W,
     keeper: &mut K,
+    hears: &mut H,
     context: &RequestContext,
     judged: Result<Command, Refusal>,
 ) -> Result<(), ServeFault>
     ensures ok { JudgedBy K.Kept keeper.old keeper.new W.Write writer.old writer.new result context.now judged }
     ensures err { JudgedLeftBy K.Kept keeper.old keeper.new W.Write writer.old writer.new result context.now judged }
     ensures once { K.is_honest keeper.new → left.AtMostOne (Some context.now.at) (K.vault keeper.old) (K.vault keeper.new) }
+    ensures heard { K.is_honest keeper.new → HearsOnce H.hears hears.old hears.new (Some context.now.at) (K.vault keeper.old) (K.vault keeper.new) }
     ensures kind { ¬ (result ≡ Err faults.Read) }
     ensures honest { K.is_honest keeper.new → K.is_honest keeper.old }
     ensures counted { K.count keeper.old ≤ K.count keeper.new }
     ensures steady { JudgedSteadyBy K.Kept keeper.old keeper.new W.Write writer.old writer.new result context.now judged }
 {
     match judged {
-        Ok(command) => finish(alloc, writer, keeper, context, command),
+        Ok(command) => finish(alloc, writer, keeper, hears, context, command),
         Err(refusal) => {
             let denial = Denial {
                 refusal,

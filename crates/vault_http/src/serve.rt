@@ -4,12 +4,14 @@ ghost use Rattle.std.specs.Io.KnownBytes.{Consumes};
 ghost use Rattle.vault_base.specs.Days.{moment_at};
 ghost use Rattle.vault_http.specs.Calls.{AnsweredBy, PlanLeftBy, PlanServedBy, SteadyBy, UnansweredBy};
 ghost use Rattle.vault_http.specs.Command.{IsWithinLength};
+ghost use Rattle.vault_http.specs.Hearing.{HearsOnce};
 ghost use Rattle.vault_http.specs.Left as left;
 ghost use Rattle.vault_http.specs.declared.fault.ServeFault.TheVariants as faults;
 
 use crate::carrying::{Denial, RequestContext, conclude, deny};
 use crate::command::command_after;
 use crate::fault::ServeFault;
+use crate::hearing::{Hears, Nobody};
 use crate::judging::{Judgement, judge_request};
 use crate::send::send_interim;
 use std::alloc::Global;
@@ -20,24 +22,42 @@ use vault_http_request::host::Hosts;
 use vault_http_request::plan::Plan;
 use vault_http_request::request_headers::RequestHeaders;
 
+/// What a request asks for, and whether its answer shows a body.
+#[derive(Drop)]
+struct Planned {
+    plan: Plan,
+    shown: bool,
+}
+
+/// When a request is served, and for whom.
+#[derive(Clone, Copy)]
+pub struct Occasion<'a> {
+    /// The moment that the clock shows; none where its reading is no moment.
+    pub moment: Option<Moment>,
+    /// The hosts that the request may be for, beside this machine; where there are none, any host.
+    pub hosts: &'a Hosts,
+}
+
 /// Serves a plan, with what comes after its head.
-fn serve_plan<R: Read, W: Write, K: Keeper>(
+fn serve_plan<R: Read, W: Write, K: Keeper, H: Hears>(
     alloc: Global,
     reader: &mut R,
     writer: &mut W,
     keeper: &mut K,
-    plan: Plan,
-    shown: bool,
+    hears: &mut H,
+    planned: Planned,
 ) -> Result<(), ServeFault>
-    ensures ok { PlanServedBy K.Kept keeper.old keeper.new R.Read reader.old reader.new W.Write writer.old writer.new result shown plan }
-    ensures err { PlanLeftBy K.Kept keeper.old keeper.new R.Read reader.old reader.new W.Write writer.old writer.new result shown plan }
-    ensures once { K.is_honest keeper.new → left.AtMostOne (Some plan.at) (K.vault keeper.old) (K.vault keeper.new) }
+    ensures ok { PlanServedBy K.Kept keeper.old keeper.new R.Read reader.old reader.new W.Write writer.old writer.new result planned.shown planned.plan }
+    ensures err { PlanLeftBy K.Kept keeper.old keeper.new R.Read reader.old reader.new W.Write writer.old writer.new result planned.shown planned.plan }
+    ensures once { K.is_honest keeper.new → left.AtMostOne (Some planned.plan.at) (K.vault keeper.old) (K.vault keeper.new) }
+    ensures heard { K.is_honest keeper.new → HearsOnce H.hears hears.old hears.new (Some planned.plan.at) (K.vault keeper.old) (K.vault keeper.new) }
     ensures unread { result ≡ Err faults.Read → K.vault keeper.new ≡ K.vault keeper.old }
-    ensures taken { OnOk result ((taken : List ℕ) × Consumes (R.remaining reader.old) (R.remaining reader.new) taken × IsWithinLength plan.headers.length taken) }
+    ensures taken { OnOk result ((taken : List ℕ) × Consumes (R.remaining reader.old) (R.remaining reader.new) taken × IsWithinLength planned.plan.headers.length taken) }
     ensures honest { K.is_honest keeper.new → K.is_honest keeper.old }
     ensures counted { K.count keeper.old ≤ K.count keeper.new }
-    ensures steady { SteadyBy K.Kept keeper.old keeper.new W.Write writer.old writer.new result (Some plan.at) }
+    ensures steady { SteadyBy K.Kept keeper.old keeper.new W.Write writer.old writer.new result (Some planned.plan.at) }
 {
+    let Planned { plan, shown } = planned;
     let Plan {
         at,
         operation,
@@ -52,40 +72,7 @@ fn serve_plan<R: Read, W: Write, K: Keeper>(
     let context = RequestContext { at, caller, shown };
     let stated = send_interim(writer, waits);
     let judged = command_after(alloc, reader, operation, locks, length, stated)?;
-    conclude(alloc, writer, keeper, &context, judged)
-}
-
-/// Serves one request at a moment, where the reading is one.
-fn serve_at<R: Read, W: Write, K: Keeper>(
-    alloc: Global,
-    reader: &mut R,
-    writer: &mut W,
-    keeper: &mut K,
-    moment: Option<Moment>,
-    hosts: &Hosts,
-) -> Result<(), ServeFault>
-    ensures ok { AnsweredBy K.Kept keeper.old keeper.new R.Read reader.old reader.new W.Write writer.old writer.new result hosts.now moment }
-    ensures err { UnansweredBy K.Kept keeper.old keeper.new R.Read reader.old reader.new W.Write writer.old writer.new result hosts.now moment }
-    ensures once { K.is_honest keeper.new → left.AtMostOne moment (K.vault keeper.old) (K.vault keeper.new) }
-    ensures unread { result ≡ Err faults.Read → K.vault keeper.new ≡ K.vault keeper.old }
-    ensures taken { OnOk result (left.Taken hosts.now moment (R.remaining reader.old) (R.remaining reader.new)) }
-    ensures leaves { left.LeavesNoLess K.Kept keeper.old keeper.new }
-    ensures steady { SteadyBy K.Kept keeper.old keeper.new W.Write writer.old writer.new result moment }
-{
-    match judge_request(alloc, reader, hosts, &moment)? {
-        Judgement::Nothing => Ok(()),
-        Judgement::Denied(refusal, allow, shown) => {
-            let denial = Denial {
-                refusal,
-                allow,
-                shown,
-            };
-            deny(alloc, writer, moment, &denial)
-        }
-        Judgement::Planned(plan, shown) => {
-            serve_plan(alloc, reader, writer, keeper, plan, shown)
-        }
-    }
+    conclude(alloc, writer, keeper, hears, &context, judged)
 }
 
 /// Serves one request: what is written is the answer to what is read, by at most one step at the reading,
@@ -123,29 +110,49 @@ pub fn serve_one<R: Read, W: Write, K: Keeper>(
 {
     let hosts = Hosts::any(alloc);
     let moment = Moment::from_secs(reading);
-    serve_at(alloc, reader, writer, keeper, moment, &hosts)
+    let occasion = Occasion {
+        moment,
+        hosts: &hosts,
+    };
+    serve_for(alloc, reader, writer, keeper, &mut Nobody, occasion)
 }
 
 /// As `serve_one`, where requests for these hosts are answered, and for this machine; where there are none, for any host.
+/// The command that is carried out is heard of, with its reply, before its answer is written.
 ///
 /// A request for another host, without one, or with two is refused, `InvalidArgument`, before anything else of it is looked
 /// at, and nothing after its head is read.
-pub fn serve_for<R: Read, W: Write, K: Keeper>(
+pub fn serve_for<R: Read, W: Write, K: Keeper, H: Hears>(
     alloc: Global,
     reader: &mut R,
     writer: &mut W,
     keeper: &mut K,
-    reading: i64,
-    hosts: &Hosts,
+    hears: &mut H,
+    occasion: Occasion<'_>,
 ) -> Result<(), ServeFault>
-    ensures ok { AnsweredBy K.Kept keeper.old keeper.new R.Read reader.old reader.new W.Write writer.old writer.new result hosts.now (moment_at reading) }
-    ensures err { UnansweredBy K.Kept keeper.old keeper.new R.Read reader.old reader.new W.Write writer.old writer.new result hosts.now (moment_at reading) }
-    ensures once { K.is_honest keeper.new → left.AtMostOne (moment_at reading) (K.vault keeper.old) (K.vault keeper.new) }
+    ensures ok { AnsweredBy K.Kept keeper.old keeper.new R.Read reader.old reader.new W.Write writer.old writer.new result occasion.entry.hosts.now occasion.entry.moment }
+    ensures err { UnansweredBy K.Kept keeper.old keeper.new R.Read reader.old reader.new W.Write writer.old writer.new result occasion.entry.hosts.now occasion.entry.moment }
+    ensures once { K.is_honest keeper.new → left.AtMostOne occasion.entry.moment (K.vault keeper.old) (K.vault keeper.new) }
+    ensures heard { K.is_honest keeper.new → HearsOnce H.hears hears.old hears.new occasion.entry.moment (K.vault keeper.old) (K.vault keeper.new) }
     ensures unread { result ≡ Err faults.Read → K.vault keeper.new ≡ K.vault keeper.old }
-    ensures taken { OnOk result (left.Taken hosts.now (moment_at reading) (R.remaining reader.old) (R.remaining reader.new)) }
+    ensures taken { OnOk result (left.Taken occasion.entry.hosts.now occasion.entry.moment (R.remaining reader.old) (R.remaining reader.new)) }
     ensures leaves { left.LeavesNoLess K.Kept keeper.old keeper.new }
-    ensures steady { SteadyBy K.Kept keeper.old keeper.new W.Write writer.old writer.new result (moment_at reading) }
+    ensures steady { SteadyBy K.Kept keeper.old keeper.new W.Write writer.old writer.new result occasion.entry.moment }
 {
-    let moment = Moment::from_secs(reading);
-    serve_at(alloc, reader, writer, keeper, moment, hosts)
+    let Occasion { moment, hosts } = occasion;
+    match judge_request(alloc, reader, hosts, &moment)? {
+        Judgement::Nothing => Ok(()),
+        Judgement::Denied(refusal, allow, shown) => {
+            let denial = Denial {
+                refusal,
+                allow,
+                shown,
+            };
+            deny(alloc, writer, moment, &denial)
+        }
+        Judgement::Planned(plan, shown) => {
+            let planned = Planned { plan, shown };
+            serve_plan(alloc, reader, writer, keeper, hears, planned)
+        }
+    }
 }

@@ -1,6 +1,7 @@
 //! Two doors of which it is known what comes in by them: requests and lines in turns, and the line that ends a server.
 ghost use Rattle.std.specs.Prelude.{None};
 
+use crate::counting::Counting;
 use crate::slow::{MovingClock, Part, SlowPeer};
 use std::alloc::Global;
 use std::cell::Cell;
@@ -9,14 +10,14 @@ use std::time::Duration;
 use vault_base::moment::Moment;
 use vault_core::fuse_keeper::FuseKeeper;
 use vault_core_model::keeper::Keeper;
-use vault_http::Hosts;
+use vault_http::{Hears, Hosts, Nobody};
 use vault_transcript::transcript::opened;
 use vaultctl_log::entry::{Entry, log_entry};
 use vaultctl_serve_lines::doors::{Arrived, Doors};
 use vaultctl_serve_lines::heard::Heard;
 use vaultctl_serve_lines::line::Next;
-use vaultctl_serve_lines::serve_doors;
 use vaultctl_serve_lines::service::Service;
+use vaultctl_serve_lines::{Server, serve_doors};
 
 /// 2024-01-15T10:30:00Z.
 const READING: i64 = 1_705_314_600;
@@ -158,9 +159,10 @@ struct Served {
 }
 
 /// Serves up to n requests and lines of these turns.
-fn serve<K: Keeper>(
+fn serve<K: Keeper, H: Hears>(
     alloc: Global,
     keeper: &mut K,
+    hears: &mut H,
     turns: &[Turn],
     pace: u64,
     n: u32,
@@ -187,7 +189,11 @@ fn serve<K: Keeper>(
         version: "1.2 (schema 3)",
         since: Moment::from_secs(READING - 60),
     };
-    let next = serve_doors(&clock, &service, &mut doors, keeper, n, &mut reports);
+    let server = Server {
+        clock: &clock,
+        service: &service,
+    };
+    let next = serve_doors(&server, &mut doors, keeper, hears, n, &mut reports);
     let (left, kept) = (doors.turns.len(), doors.kept);
     drop(doors);
     let log = log.replace(None).ok_or("a log")?;
@@ -208,7 +214,7 @@ fn serve_turns<K: Keeper>(
     turns: &[Turn],
     n: u32,
 ) -> Result<Served, Fail> {
-    let served = serve(alloc, keeper, turns, 0, n)?;
+    let served = serve(alloc, keeper, &mut Nobody, turns, 0, n)?;
     let come = turns.len().saturating_sub(served.left);
     let mut wanted = String::new(alloc);
     for Turn(_, text) in turns.iter().take(come) {
@@ -281,6 +287,7 @@ fn a_reply_that_is_not_taken(rt: HostRuntime) -> Result<(), Fail> {
     let served = serve(
         alloc,
         &mut keeper,
+        &mut Nobody,
         &[Turn(Coming::Line(PUT), STORED)],
         4_000,
         1,
@@ -327,7 +334,7 @@ fn a_trail(rt: HostRuntime) -> Result<(), Fail> {
         Turn(Coming::Line("{\"a"), MALFORMED),
         Turn(Coming::Line(""), ""),
     ];
-    let served = serve(alloc, &mut keeper, &turns, 5, 5)?;
+    let served = serve(alloc, &mut keeper, &mut Nobody, &turns, 5, 5)?;
     let wanted =
         r#"{"door":"lines","at":"2024-01-15T10:30:00Z","as":"ann","do":"put","bucket":"docs","key":"a","result":"ok","in":64,"out":24,"ms":120}
 {"door":"http","at":"2024-01-15T10:30:00Z","as":"ann","do":"GET","target":"/docs/a","status":200,"result":"ok","in":45,"out":195,"ms":975}
@@ -336,5 +343,26 @@ fn a_trail(rt: HostRuntime) -> Result<(), Fail> {
 {"door":"lines","at":"2024-01-15T10:30:00Z","result":"nothing","in":0,"out":0,"ms":0}
 "#;
     assert_eq!(rt; served.log.as_str(), wanted);
+    Ok(())
+}
+
+/// Commands of both doors are heard of, and nothing else is; after as many as who hears lets be carried out, none is.
+#[test]
+fn who_hears_ends_it(rt: HostRuntime) -> Result<(), Fail> {
+    let alloc = rt.alloc();
+    let mut keeper = opened(alloc)?;
+    let mut counting = Counting { most: 2, heard: 0 };
+    let turns = [
+        Turn(Coming::Line(PUT), STORED),
+        Turn(Coming::Line("{\"a"), MALFORMED),
+        Turn(Coming::Line(STATUS), ""),
+        Turn(Coming::Request(GET), GOT),
+        Turn(Coming::Line(PUT), STORED),
+    ];
+    let served = serve(alloc, &mut keeper, &mut counting, &turns, 0, 5)?;
+    assert!(rt; served.next == Next::On);
+    assert_eq!(rt; served.left, 1);
+    assert_eq!(rt; counting.heard, 2);
+    assert!(rt; served.taken.ends_with(GOT));
     Ok(())
 }

@@ -1,13 +1,15 @@
 //! Requests whose bytes come at known times: what comes in time is answered, and else nothing is carried out.
+use crate::counting::Counting;
 use crate::known::{KnownArrivals, KnownByte, KnownRequest};
 use crate::peers::StandingClock;
 use std::alloc::Global;
 use std::io;
 use std::test::Fail;
+use vault_base::moment::Moment;
 use vault_core_model::keeper::Keeper;
-use vault_http::Hosts;
+use vault_http::{Hears, Hosts, Nobody, Occasion};
 use vault_transcript::transcript::opened;
-use vaultctl_serve::{serve_arrivals, serve_in_time};
+use vaultctl_serve::{Means, serve_arrivals, serve_in_time};
 
 const HEAD: &str = "PUT /docs/a HTTP/1.1\r\nx-vault-caller: ann\r\ncontent-length: 5\r\n\r\n";
 
@@ -29,14 +31,15 @@ fn push_bytes(coming: &mut Vec<KnownByte>, bytes: &[u8], at: u64) -> Result<(), 
 }
 
 /// Serves the put of a head and of a body that come then, at a server of these hosts, and returns what is written.
-fn put_at<K: Keeper>(
+fn put_at<K: Keeper, H: Hears>(
     alloc: Global,
     keeper: &mut K,
+    hears: &mut H,
     head: &str,
-    head_at: u64,
-    body_at: u64,
+    times: (u64, u64),
     hosts: &Hosts,
 ) -> Result<String, Fail> {
+    let (head_at, body_at) = times;
     let mut coming = Vec::new(alloc);
     push_bytes(&mut coming, head.as_bytes(), head_at)?;
     push_bytes(&mut coming, b"hello", body_at)?;
@@ -45,42 +48,55 @@ fn put_at<K: Keeper>(
         now: 0,
     };
     let mut answer = Vec::new(alloc);
-    let _ = serve_in_time(alloc, request, &mut answer, keeper, READING, hosts);
+    let occasion = Occasion {
+        moment: Moment::from_secs(READING),
+        hosts,
+    };
+    let _ = serve_in_time(alloc, request, &mut answer, keeper, hears, occasion);
     Ok(String::from_utf8(answer)?)
 }
 
 /// Serves a put whose head and body come then, and returns what is written.
-fn put<K: Keeper>(
+fn put<K: Keeper, H: Hears>(
     alloc: Global,
     keeper: &mut K,
+    hears: &mut H,
     head_at: u64,
     body_at: u64,
 ) -> Result<String, Fail> {
-    put_at(alloc, keeper, HEAD, head_at, body_at, &Hosts::any(alloc))
+    put_at(
+        alloc,
+        keeper,
+        hears,
+        HEAD,
+        (head_at, body_at),
+        &Hosts::any(alloc),
+    )
 }
 
-/// A nanosecond too late, and the request is as one that never came: the put after it is the vault's first.
+/// A nanosecond too late, and the request is as one that never came: the put after it is the vault's first, and the only one
+/// that is heard of.
 #[test]
 fn a_nanosecond_too_late(rt: HostRuntime) -> Result<(), Fail> {
     let alloc = rt.alloc();
     let mut keeper = opened(alloc)?;
+    let mut counting = Counting { most: 1, heard: 0 };
     for (head_at, body_at) in [
         (HEADS[1], HEADS[1]),
         (0, REQUESTS[1]),
         (HEADS[0], REQUESTS[1]),
     ] {
-        let nothing = put(alloc, &mut keeper, head_at, body_at)?;
+        let nothing = put(alloc, &mut keeper, &mut counting, head_at, body_at)?;
         assert_eq!(rt; nothing.as_str(), "");
     }
-    let answer = put(alloc, &mut keeper, HEADS[0], REQUESTS[0])?;
+    let answer = put(alloc, &mut keeper, &mut counting, HEADS[0], REQUESTS[0])?;
     assert!(rt; answer.ends_with("x-amz-version-id: 1\r\n\r\n"));
+    assert_eq!(rt; counting.heard, 1);
     Ok(())
 }
 
-/// As many tries are made as it is reported, those without a connection too.
-#[test]
-fn as_many_tries_as_reported(rt: HostRuntime) -> Result<(), Fail> {
-    let alloc = rt.alloc();
+/// Makes tries to take one of four connections, at one of which the clock shows no moment, and returns how many are left.
+fn tries_left<H: Hears>(alloc: Global, hears: &mut H, count: u32) -> Result<usize, Fail> {
     let mut keeper = opened(alloc)?;
     let readings = [Some(READING), None, Some(READING), Some(READING)];
     let hosts = Hosts::any(alloc);
@@ -89,16 +105,30 @@ fn as_many_tries_as_reported(rt: HostRuntime) -> Result<(), Fail> {
         shown: 0,
         hosts: &hosts,
     };
+    let means = Means {
+        clock: &StandingClock,
+        alloc,
+    };
     let mut reports = io::sink();
     serve_arrivals(
-        &StandingClock,
-        alloc,
+        &means,
         &mut arrivals,
         &mut keeper,
-        3,
+        hears,
+        count,
         &mut reports,
     );
-    assert_eq!(rt; arrivals.readings.len(), 1);
+    Ok(arrivals.readings.len())
+}
+
+/// As many tries are made as it is reported, those without a connection too. None is made where who hears lets no command be
+/// carried out.
+#[test]
+fn as_many_tries_as_reported(rt: HostRuntime) -> Result<(), Fail> {
+    let alloc = rt.alloc();
+    assert_eq!(rt; tries_left(alloc, &mut Nobody, 3)?, 1);
+    let mut counting = Counting { most: 0, heard: 0 };
+    assert_eq!(rt; tries_left(alloc, &mut counting, 3)?, 4);
     Ok(())
 }
 
@@ -134,7 +164,7 @@ fn put_for<K: Keeper>(alloc: Global, keeper: &mut K, host: &str) -> Result<Strin
     let head = format!(in alloc;
         "PUT /docs/a HTTP/1.1\r\nx-vault-caller: ann\r\n{host}content-length: 5\r\n\r\n"
     )?;
-    put_at(alloc, keeper, head.as_str(), 0, 0, &hosts)
+    put_at(alloc, keeper, &mut Nobody, head.as_str(), (0, 0), &hosts)
 }
 
 /// A server of one host answers requests for that and for its machine. What is for another host is refused, and changes

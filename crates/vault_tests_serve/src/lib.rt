@@ -6,6 +6,8 @@
 #[cfg(test)]
 mod broken;
 #[cfg(test)]
+mod counting;
+#[cfg(test)]
 mod doors;
 #[cfg(test)]
 mod in_time;

@@ -7,11 +7,11 @@ use std::net::{Net, OpenListener, Shutdown, SocketAddr, TcpListener, TcpStream};
 use std::test::Fail;
 use std::time::{Clock, Duration};
 use vault_core_model::keeper::Keeper;
-use vault_http::Hosts;
+use vault_http::{Hosts, Nobody};
 use vaultctl_serve::arrivals::Listened;
 use vaultctl_serve::peer::Peer;
 use vaultctl_serve::reporter::Reporter;
-use vaultctl_serve::{Port, PortFault, serve, serve_arrivals};
+use vaultctl_serve::{Means, Port, PortFault, serve, serve_arrivals};
 
 /// 2024-01-15T10:30:00Z.
 pub const READING: u64 = 1_705_314_600;
@@ -92,7 +92,8 @@ pub fn serve_connections<
         alloc,
         log: None::<Vec<u8>>,
     };
-    serve_arrivals(clock, alloc, &mut arrivals, keeper, count, reporter);
+    let means = Means { clock, alloc };
+    serve_arrivals(&means, &mut arrivals, keeper, &mut Nobody, count, reporter);
 }
 
 /// Serves `count` requests at a port, which may be for any host.
@@ -110,8 +111,9 @@ pub fn serve_port<R: Net<Stream = TcpStream> + Clock, K: Keeper>(
         port,
         hosts: &hosts,
         alloc,
+        count,
     };
-    serve(rt, keeper, place, count, reports, None::<Vec<u8>>)
+    serve(rt, keeper, &mut Nobody, place, reports, None::<Vec<u8>>)
 }
 
 /// A listener that fails a number of times before it takes a connection.

@@ -69,7 +69,8 @@ pub fn take_in_and_print<K: Keeper, F: Folder, W: Write>(
     folder: &mut F,
     out: &mut W,
 ) -> (Result<Outcome, JobFault>, IntakeReport)
-    ensures ok { K.is_honest keeper.new → IfOk result.0 (IntakePrintedBy K.Kept keeper.old keeper.new W.Write out.old out.new (F.files folder.old) intake.entry.at intake.entry.asked.now intake.entry.list.now) }
+    ensures ok { K.is_honest keeper.new
+        → IfOk result.0 (IntakePrintedBy K.Kept keeper.old keeper.new W.Write out.old out.new (F.files folder.old) intake.entry.at intake.entry.asked.now intake.entry.list.now) }
     // Whatever the device does, what is answered is what the printed lines say.
     ensures printed { IfOk result.0 (λ outcome. spec.PrintsIntake outcome (W.contents out.old) (W.contents out.new)) }
     // The intake was made whole before its lines were tried.
@@ -79,7 +80,8 @@ pub fn take_in_and_print<K: Keeper, F: Folder, W: Write>(
     ensures counted { K.count keeper.old ≤ K.count keeper.new }
     ensures counted_there { F.count folder.old ≤ F.count folder.new }
     // That a device failed is reported where it did.
-    ensures steady { SteadyBy K.Kept keeper.old keeper.new W.Write out.old out.new (F.files folder.old) (F.count folder.old) (F.count folder.new) intake.entry.at intake.entry.asked.now intake.entry.list.now result.0 }
+    ensures steady { SteadyBy K.Kept keeper.old keeper.new W.Write out.old out.new (F.files folder.old) (F.count folder.old) (F.count folder.new)
+        intake.entry.at intake.entry.asked.now intake.entry.list.now result.0 }
     ensures reader { result.0 ≢ Err JobFault.Read }
     ensures device { result.0 ≢ Err JobFault.Device }
 {

@@ -3,7 +3,7 @@ use Rattle.std.specs.Prelude.{map, fold}
 use Rattle.clap.specs.Words.{App, Rule, Shape, new_app, with_rule}
 use Rattle.vaultctl_job.specs.Arguments as arg
 use Rattle.vaultctl_job.specs.declared.arguments.Argument.{Argument}
-use Rattle.vaultctl_job.specs.declared.arguments.Argument.TheVariants.{Place, OptionalPlace, Rights, Port, Count, Lines, Host, Log, Asker, Moment, Before, Home, Close}
+use Rattle.vaultctl_job.specs.declared.arguments.Argument.TheVariants.{Place, OptionalPlace, Rights, Port, Count, Lines, Host, Log, Journal, Asker, Moment, Before, Home, Close}
 use Rattle.vaultctl_job.specs.declared.subcommands.Subcommand.{Subcommand}
 
 abbrev pub rule_for : Argument → Rule
@@ -15,6 +15,7 @@ rule_for Count = arg.count
 rule_for Lines = arg.lines
 rule_for Host = arg.host
 rule_for Log = arg.log
+rule_for Journal = arg.journal
 rule_for Asker = arg.asker
 rule_for Moment = arg.moment
 rule_for (Before help) = arg.before

@@ -126,6 +126,7 @@ serve_of rows = record {
   lines = first_of (codes "lines") rows;
   hosts = texts_of (codes "host") rows;
   log = is_set (codes "log") rows;
+  journal = first_of (codes "journal") rows;
 }
 
 unfoldable pub migrate_of : List Row → MigrateJob

@@ -71,9 +71,10 @@ lawful_app = on_file (codes "lawful")
 abbrev pub replay_app : App
 replay_app = with_rule (new_app (codes "replay")) (arg.optional_place (codes "FILE"))
 
--- serve FILE PORT [--count N] [--lines WHERE] [--host NAME]... [--log]
+-- serve FILE PORT [--count N] [--lines WHERE] [--host NAME]... [--log] [--journal FILE]
 abbrev pub serve_app : App
-serve_app = with_rule (with_rule (with_rule (with_rule (with_rule (on_file (codes "serve")) arg.port) arg.count) arg.lines) arg.host) arg.log
+serve_app =
+    with_rule (with_rule (with_rule (with_rule (with_rule (with_rule (on_file (codes "serve")) arg.port) arg.count) arg.lines) arg.host) arg.log) arg.journal
 
 -- migrate OLD NEW
 abbrev pub migrate_app : App
@@ -83,13 +84,17 @@ migrate_app = with_rule (with_rule (new_app (codes "migrate")) (arg.place (codes
 abbrev pub needing_subcommand : App → App
 needing_subcommand a = record a { top = record a.top { has_version = true; subcommand_required = true; disable_help_subcommand = true } }
 
+-- the subcommands on a vault's file as a whole
+abbrev pub on_files : List Shape
+on_files =
+    register_app.top ∷ verify_app.top ∷ events_app.top ∷ seal_app.top ∷ lawful_app.top
+    ∷ replay_app.top ∷ serve_app.top ∷ migrate_app.top ∷ []
+
 -- the subcommands, in the order in which help shows them
 abbrev pub subcommands : List Shape
 subcommands =
     init_app.top ∷ dept_app.top ∷ caller_app.top ∷ bucket_app.top ∷ move_app.top
-    ∷ intake_app.top ∷ run_app.top ∷ report_app.top ∷ certificate_app.top
-    ∷ register_app.top ∷ verify_app.top ∷ events_app.top ∷ seal_app.top ∷ lawful_app.top
-    ∷ replay_app.top ∷ serve_app.top ∷ migrate_app.top ∷ []
+    ∷ intake_app.top ∷ run_app.top ∷ report_app.top ∷ certificate_app.top ∷ on_files
 
 unfoldable pub vaultctl : App
 vaultctl = fold with_subcommand (needing_subcommand (new_app (codes "vaultctl"))) subcommands

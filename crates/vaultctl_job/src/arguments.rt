@@ -33,6 +33,8 @@ pub(crate) enum Argument {
     Host,
     /// What becomes of each request is logged.
     Log,
+    /// Where the lines go that make each change again.
+    Journal,
     /// The caller who asks.
     Asker,
     /// The moment at which it is asked.
@@ -105,7 +107,7 @@ fn lines<'a>(alloc: Global) -> Arg<'a>
         .long("lines")
         .value_name("WHERE")
         .help(
-            "Takes script lines too, without \"at\": at the path of a\nUnix socket, or at a port of 127.0.0.1 if WHERE is digits",
+            "Takes script lines too, without \"at\": at the path of a\nUnix socket, or a port of 127.0.0.1 if WHERE is digits",
         )
 }
 
@@ -118,7 +120,7 @@ fn host<'a>(alloc: Global) -> Arg<'a>
         .value_name("NAME")
         .action(ArgAction::Append)
         .help(
-            "Refuses requests for other hosts than this name, those of\nfurther --host, localhost, 127.0.0.1 and [::1]",
+            "Refuses requests for other hosts than this name, those\nof further --host, localhost, 127.0.0.1 and [::1]",
         )
 }
 
@@ -131,6 +133,18 @@ fn log<'a>(alloc: Global) -> Arg<'a>
         .action(ArgAction::SetTrue)
         .help(
             "Writes a line of JSON for each request and each line to\nstandard error: who asked for what, and what came of it",
+        )
+}
+
+fn journal<'a>(alloc: Global) -> Arg<'a>
+    ensures rule { rule_of result ≡ spec.journal }
+    ensures local { result.global ≡ false }
+{
+    Arg::new(alloc, "journal")
+        .long("journal")
+        .value_name("FILE")
+        .help(
+            "Appends each change as the script line that makes it\nagain to this file, which may not be there yet",
         )
 }
 
@@ -198,6 +212,7 @@ fn made<'a>(alloc: Global, argument: Argument) -> Arg<'a>
         Argument::Lines => lines(alloc),
         Argument::Host => host(alloc),
         Argument::Log => log(alloc),
+        Argument::Journal => journal(alloc),
         Argument::Asker => asker(alloc),
         Argument::Moment => moment(alloc),
         Argument::Before { help } => before(alloc, help),

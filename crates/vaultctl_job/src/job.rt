@@ -128,7 +128,7 @@ pub struct ReplayJob {
     pub file: Option<Word>,
 }
 
-/// `serve FILE PORT [--count N] [--lines WHERE] [--host NAME]... [--log]`
+/// `serve FILE PORT [--count N] [--lines WHERE] [--host NAME]... [--log] [--journal FILE]`
 #[derive(Drop)]
 pub struct ServeJob {
     pub file: Word,
@@ -141,6 +141,8 @@ pub struct ServeJob {
     pub hosts: Words,
     /// A line of each request and each line is written.
     pub log: bool,
+    /// The new file that gets a line for each change; without it none is written.
+    pub journal: Option<Word>,
 }
 
 /// `migrate OLD NEW`

@@ -303,6 +303,7 @@ fn serve(alloc: Global, matches: &ArgMatches<'_>) -> Result<ServeJob, AllocError
         lines: optional_word(alloc, matches, "lines")?,
         hosts: words(alloc, matches, "host")?,
         log: is_set(matches, "log"),
+        journal: optional_word(alloc, matches, "journal")?,
     })
 }
 

@@ -1,3 +1,4 @@
+pub mod Calls
 pub mod Done
 pub mod Named
 pub mod Replay

@@ -12,6 +12,7 @@ ghost use Rattle.vaultctl_machine.specs.Given.{with_opened};
 ghost use Rattle.vaultctl_work.specs.Done.{IsIntakeDone, IsStepDone};
 ghost use Rattle.vaultctl_work.specs.Scene.{scene};
 
+use crate::call::{Call, Task};
 use crate::messages::{print_fault, print_value};
 use crate::vaults::in_vault;
 use sqlite::Start;
@@ -20,19 +21,10 @@ use vault_values::fault::LineFault;
 use vaultctl_commands::asked::Asked;
 use vaultctl_commands::fault::JobFault;
 use vaultctl_commands::outcome::Outcome;
-use vaultctl_job::job::Job;
 use vaultctl_machine::vaults::FileMachine;
 use vaultctl_remedies::slips::first_slip;
 use vaultctl_work::intake::Intake;
 use vaultctl_work::work::Work;
-
-/// A job that asks one thing of a vault: the name of its subcommand, the vault's file, and all of its words.
-#[derive(Clone, Copy)]
-pub struct Call<'a> {
-    pub subcommand: &'a str,
-    pub file: &'a str,
-    pub job: &'a Job,
-}
 
 /// Carries out what a job's words ask of the vault in a file, where their values are such; else prints the refusal of the
 /// first that isn't, and looks for no file.
@@ -53,16 +45,10 @@ pub fn ask_read<A: Start, B: Start, T: Work, W: Write, E: Write>(
 {
     let alloc = machine.runtime().alloc();
     match asked {
-        Ok(asked) => in_vault(
-            machine,
-            call.subcommand,
-            call.file,
-            start,
-            asked,
-            &mut io::empty(),
-            out,
-            err,
-        ),
+        Ok(work) => {
+            let task = Task { call, work };
+            in_vault(machine, start, task, &mut io::empty(), out, err)
+        }
         Err(LineFault::Memory) => print_fault(err, call.subcommand, JobFault::Memory),
         Err(LineFault::Refused(refusal)) => {
             let slip = first_slip(alloc, call.job).unwrap_or(None);

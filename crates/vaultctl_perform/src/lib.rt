@@ -13,6 +13,7 @@ ghost use Rattle.vaultctl_perform.specs.Printed.{IsPrinted};
 ghost use Rattle.vaultctl_perform.specs.Values.{IsValueFault};
 
 mod asking;
+mod call;
 mod init;
 mod messages;
 mod migrate;
@@ -20,19 +21,21 @@ mod replay;
 mod vaults;
 mod verify;
 
-use crate::asking::Call;
+use crate::asking::{ask, ask_read, take_in};
+use crate::call::{Task, call_of};
 use crate::messages::{print_fault, status};
 use crate::vaults::in_vault;
 use sqlite::Start;
 use std::alloc::{AllocError, Global};
 use std::io::{Read, Write};
-use vaultctl_commands::asked as values;
+use vaultctl_commands::asked::{
+    bucket, caller, certificate, dept, events, move_bucket, report, run, seal,
+};
 use vaultctl_commands::fault::JobFault;
 use vaultctl_commands::outcome::Outcome;
 use vaultctl_commands::printing::print;
 use vaultctl_job::fault::WordsFault;
 use vaultctl_job::job::{Job, ReplayJob};
-use vaultctl_job::word::Word;
 use vaultctl_job::words::{hint, job_of, version_asked};
 use vaultctl_machine::starts::Starts;
 use vaultctl_machine::vaults::FileMachine;
@@ -42,38 +45,21 @@ use vaultctl_work::saying::say;
 fn replay_script<A: Start, B: Start, R: Read, W: Write, E: Write>(
     machine: &mut FileMachine<'_, A, B>,
     start: A,
-    job: &ReplayJob,
+    task: Task<'_, ReplayJob>,
     reader: &mut R,
     out: &mut W,
     err: &mut E,
 ) -> u8
-    ensures replayed { job.now.file ≡ None → result ≡ 0 → AnswersFromNew (R.remaining reader.old) (R.remaining reader.new) (W.contents out.old) (W.contents out.new) }
-    ensures given { result ≡ 0 → machine.new.given ≡ given_by (Job.Replay job.now) machine.old.given }
-    ensures done { result ≡ 0 → IsReplayed (image_at A.Start) job.now machine.old.closed.items machine.new.closed.items
+    ensures replayed { task.entry.work.now.file ≡ None → result ≡ 0 → AnswersFromNew (R.remaining reader.old) (R.remaining reader.new) (W.contents out.old) (W.contents out.new) }
+    ensures given { result ≡ 0 → machine.new.given ≡ given_by (Job.Replay task.entry.work.now) machine.old.given }
+    ensures done { result ≡ 0 → IsReplayed (image_at A.Start) task.entry.work.now machine.old.closed.items machine.new.closed.items
         (R.remaining reader.old) (R.remaining reader.new) (W.contents out.old) (W.contents out.new) }
     ensures status { result ≢ 2 }
 {
+    let job = task.work;
     match &job.file {
-        Some(file) => in_vault(
-            machine,
-            "replay",
-            file.as_str(),
-            start,
-            job,
-            reader,
-            out,
-            err,
-        ),
+        Some(_) => in_vault(machine, start, task, reader, out, err),
         None => replay::from_new(machine.runtime().alloc(), reader, out, err),
-    }
-}
-
-/// The job as one that asks one thing of the vault in that file.
-fn called<'a>(subcommand: &'a str, file: &'a Word, job: &'a Job) -> Call<'a> {
-    Call {
-        subcommand,
-        file: file.as_str(),
-        job,
     }
 }
 
@@ -107,168 +93,29 @@ pub fn perform<A: Start, B: Start, R: Read, W: Write, E: Write>(
 {
     let alloc = machine.runtime().alloc();
     // A job opens the files of one vault, but for `migrate`.
-    let Starts {
-        first: start,
-        second,
-    } = starts;
-    let whole = job;
+    let Starts { first, second } = starts;
+    let call = call_of(job);
     match job {
-        Job::Init(job) => init::init(machine, job.file.as_str(), start, err),
-        Job::Dept(job) => {
-            let asked = values::dept(alloc, job);
-            asking::ask(
-                machine,
-                called("dept", &job.file, whole),
-                start,
-                asked,
-                out,
-                err,
-            )
-        }
-        Job::Caller(job) => {
-            let asked = values::caller(alloc, job);
-            asking::ask(
-                machine,
-                called("caller", &job.file, whole),
-                start,
-                asked,
-                out,
-                err,
-            )
-        }
-        Job::Bucket(job) => {
-            let asked = values::bucket(alloc, job);
-            asking::ask(
-                machine,
-                called("bucket", &job.file, whole),
-                start,
-                asked,
-                out,
-                err,
-            )
-        }
-        Job::Move(job) => {
-            let asked = values::move_bucket(alloc, job);
-            asking::ask(
-                machine,
-                called("move", &job.file, whole),
-                start,
-                asked,
-                out,
-                err,
-            )
-        }
-        Job::Intake(job) => {
-            let asked = intake::asked(alloc, job);
-            asking::take_in(
-                machine,
-                called("intake", &job.file, whole),
-                start,
-                asked,
-                out,
-                err,
-            )
-        }
-        Job::Run(job) => {
-            let asked = values::run(alloc, job);
-            asking::ask(
-                machine,
-                called("run", &job.file, whole),
-                start,
-                asked,
-                out,
-                err,
-            )
-        }
-        Job::Report(job) => {
-            let asked = values::report(alloc, job);
-            asking::ask(
-                machine,
-                called("report", &job.file, whole),
-                start,
-                asked,
-                out,
-                err,
-            )
-        }
-        Job::Certificate(job) => {
-            let asked = values::certificate(alloc, job);
-            asking::ask(
-                machine,
-                called("certificate", &job.file, whole),
-                start,
-                asked,
-                out,
-                err,
-            )
-        }
-        Job::Register(job) => in_vault(
-            machine,
-            "register",
-            job.file.as_str(),
-            start,
-            job,
-            reader,
-            out,
-            err,
-        ),
-        Job::Verify(job) => verify::verify(machine, job.file.as_str(), start, out, err),
-        Job::Events(job) => {
-            let asked = values::events(job);
-            asking::ask_read(
-                machine,
-                called("events", &job.file, whole),
-                start,
-                &asked,
-                out,
-                err,
-            )
-        }
-        Job::Seal(job) => {
-            let asked = values::seal(job);
-            asking::ask_read(
-                machine,
-                called("seal", &job.file, whole),
-                start,
-                &asked,
-                out,
-                err,
-            )
-        }
-        Job::Lawful(job) => in_vault(
-            machine,
-            "lawful",
-            job.file.as_str(),
-            start,
-            job,
-            reader,
-            out,
-            err,
-        ),
-        Job::Replay(job) => replay_script(machine, start, job, reader, out, err),
-        Job::Serve(job) => in_vault(
-            machine,
-            "serve",
-            job.file.as_str(),
-            start,
-            job,
-            reader,
-            out,
-            err,
-        ),
+        Job::Init(_) => init::init(machine, call.file, first, err),
+        Job::Dept(job) => ask(machine, call, first, dept(alloc, job), out, err),
+        Job::Caller(job) => ask(machine, call, first, caller(alloc, job), out, err),
+        Job::Bucket(job) => ask(machine, call, first, bucket(alloc, job), out, err),
+        Job::Move(job) => ask(machine, call, first, move_bucket(alloc, job), out, err),
+        Job::Intake(job) => take_in(machine, call, first, intake::asked(alloc, job), out, err),
+        Job::Run(job) => ask(machine, call, first, run(alloc, job), out, err),
+        Job::Report(job) => ask(machine, call, first, report(alloc, job), out, err),
+        Job::Certificate(job) => ask(machine, call, first, certificate(alloc, job), out, err),
+        Job::Register(work) => in_vault(machine, first, Task { call, work }, reader, out, err),
+        Job::Verify(_) => verify::verify(machine, call.file, first, out, err),
+        Job::Events(job) => ask_read(machine, call, first, &events(job), out, err),
+        Job::Seal(job) => ask_read(machine, call, first, &seal(job), out, err),
+        Job::Lawful(work) => in_vault(machine, first, Task { call, work }, reader, out, err),
+        Job::Replay(work) => replay_script(machine, first, Task { call, work }, reader, out, err),
+        Job::Serve(work) => in_vault(machine, first, Task { call, work }, reader, out, err),
         Job::Migrate(job) => {
-            let starts = Starts {
-                first: start,
-                second,
-            };
-            migrate::migrate(
-                machine,
-                job.old.as_str(),
-                job.new.as_str(),
-                starts,
-                out,
-                err,
-            )
+            let starts = Starts { first, second };
+            let (old, new) = (job.old.as_str(), job.new.as_str());
+            migrate::migrate(machine, old, new, starts, out, err)
         }
     }
 }
@@ -311,7 +158,8 @@ fn answer_job<A: Start, B: Start, R: Read, W: Write, E: Write>(
     out: &mut W,
     err: &mut E,
 ) -> u8
-    ensures replayed { job_for (map string_bytes words.now) ≡ Some (Job.Replay (record { file = None })) → result ≡ 0 → AnswersFromNew (R.remaining reader.old) (R.remaining reader.new) (W.contents out.old) (W.contents out.new) }
+    ensures replayed { job_for (map string_bytes words.now) ≡ Some (Job.Replay (record { file = None })) → result ≡ 0
+        → AnswersFromNew (R.remaining reader.old) (R.remaining reader.new) (W.contents out.old) (W.contents out.new) }
     ensures refused { result ≡ 2 → fault_of vaultctl (map string_bytes words.now) ≢ [] }
     // Words that ask for nothing, and values that aren't such, are never reported as done.
     ensures words { job_for (map string_bytes words.now) ≡ None → result ≢ 0 }
@@ -342,7 +190,8 @@ pub fn answer_words<A: Start, B: Start, R: Read, W: Write, E: Write>(
     out: &mut W,
     err: &mut E,
 ) -> u8
-    ensures replayed { job_for (map string_bytes words.now) ≡ Some (Job.Replay (record { file = None })) → result ≡ 0 → AnswersFromNew (R.remaining reader.old) (R.remaining reader.new) (W.contents out.old) (W.contents out.new) }
+    ensures replayed { job_for (map string_bytes words.now) ≡ Some (Job.Replay (record { file = None })) → result ≡ 0
+        → AnswersFromNew (R.remaining reader.old) (R.remaining reader.new) (W.contents out.old) (W.contents out.new) }
     ensures refused { result ≡ 2 → fault_of vaultctl (map string_bytes words.now) ≢ [] }
     // Words that ask for nothing, and values that aren't such, are never reported as done; words that ask for the version
     // are no job.

@@ -9,6 +9,7 @@ ghost use Rattle.vaultctl_machine.specs.Files.{IsFoundIn};
 ghost use Rattle.vaultctl_machine.specs.Given.{with_opened};
 ghost use Rattle.vaultctl_work.specs.Scene.{scene};
 
+use crate::call::Task;
 use crate::messages::{print_cause, say_device, status};
 use sqlite::Start;
 use std::io::{Read, Write};
@@ -98,13 +99,11 @@ fn with_vault<A: Start, B: Start, T: Work, R: Read, W: Write, E: Write>(
     outcome
 }
 
-/// Does it with the vault in a file, and answers the exit status.
+/// Does it with the vault in the file of the call, and answers the exit status.
 pub fn in_vault<A: Start, B: Start, T: Work, R: Read, W: Write, E: Write>(
     machine: &mut FileMachine<'_, A, B>,
-    subcommand: &str,
-    file: &str,
     start: A,
-    work: &T,
+    task: Task<'_, T>,
     reader: &mut R,
     out: &mut W,
     err: &mut E,
@@ -114,14 +113,15 @@ pub fn in_vault<A: Start, B: Start, T: Work, R: Read, W: Write, E: Write>(
     // was done.
     ensures given { result ≡ 0 → machine.new.given ≡ with_opened machine.old.given }
     ensures done { result ≡ 0 → Carries (image_at A.Start) machine.old.closed.items machine.new.closed.items
-        (λ v w. T.does work.now (scene v (R.remaining reader.old) (W.contents out.old)) (scene w (R.remaining reader.new) (W.contents out.new)) (Ok Outcome.Done)) }
+        (λ v w. T.does task.entry.work.now (scene v (R.remaining reader.old) (W.contents out.old)) (scene w (R.remaining reader.new) (W.contents out.new)) (Ok Outcome.Done)) }
     ensures status { result ≢ 2 }
 {
-    match open_watched(machine, file, start) {
+    let Task { call, work } = task;
+    match open_watched(machine, call.file, start) {
         Ok(vault) => {
             let outcome = with_vault(machine, vault, work, reader, out, err);
-            let ended = status(err, subcommand, outcome);
-            say_device(err, subcommand, outcome);
+            let ended = status(err, call.subcommand, outcome);
+            say_device(err, call.subcommand, outcome);
             ended
         }
         Err(cause) => print_cause(err, "open", cause),

@@ -1,13 +1,15 @@
 //! What standard error says of the lines of a script.
-ghost use Rattle.std.specs.Prelude.{◌≡◌, ◌+◌, ◌-◌, ◌^◌, min};
+ghost use Rattle.std.specs.Prelude.{◌≡◌, ◌+◌, ◌-◌, ◌^◌, min, true};
 
 use crate::line_remedies::say_line;
 use std::alloc::Global;
 use std::io::Write;
+use vault_base::moment::Moment;
+use vault_base::name::CallerName;
 use vault_core_model::command::Command;
 use vault_core_model::reply::Reply;
-use vault_http::explain_line;
 use vault_http::read_line::Line;
+use vault_http::{Hears, explain_line};
 use vaultctl_replay::observer::Observer;
 
 /// Writes one line of words for each line that is refused, as it is read or by the vault, and for each run that stops, as
@@ -47,6 +49,27 @@ fn explain<E: Write>(alloc: Global, err: &mut E, number: u64, line: &[u8]) {
     };
 }
 
+impl<E: Write> Hears for Explainer<'_, E> {
+    ghost hears = { λ before _ _ after. after.lines ≡ before.lines };
+
+    ghost going = { λ _. true };
+
+    fn hear(
+        &mut self,
+        _alloc: Global,
+        _at: Moment,
+        _who: &CallerName,
+        command: &Command,
+        reply: &Reply,
+    ) {
+        say_line(self.lines, command, reply, self.err);
+    }
+
+    fn goes_on(&self) -> bool {
+        true
+    }
+}
+
 impl<E: Write> Observer for Explainer<'_, E> {
     fn line(&mut self, alloc: Global, line: &[u8], asked: &Line)
         ensures counted { self.new.lines ≡ min (self.old.lines + 1) (2 ^ 64 - 1) }
@@ -55,11 +78,5 @@ impl<E: Write> Observer for Explainer<'_, E> {
         if matches!(asked, Line::Refused(_)) {
             explain(alloc, self.err, self.lines, line);
         }
-    }
-
-    fn reply(&mut self, command: &Command, reply: &Reply)
-        ensures counted { self.new.lines ≡ self.old.lines }
-    {
-        say_line(self.lines, command, reply, self.err);
     }
 }

@@ -7,6 +7,7 @@ use Rattle.vault_core_model.specs.Leaves.{count_after}
 use Rattle.vault_core_model.specs.Halts.{is_device_reply}
 use Rattle.vault_core_model.specs.Step.{IsStep}
 use Rattle.vault_core_model.specs.Vault.{Vault}
+use Rattle.vault_core_model.specs.declared.command.Timed.{Timed}
 use Rattle.vault_core_model.specs.declared.kept.Kept.{Ghosts}
 use Rattle.vault_core_model.specs.declared.reply.Reply.{Reply}
 use Rattle.vault_core_model.specs.declared.reply.Reply.TheVariants as reply
@@ -89,3 +90,11 @@ module _ {K : Type 0} (g : Ghosts K) (old new : K) {W : Type 0} (w : Writing W) 
   -- the keeper carried the first lines out, and their replies were written; of one line more, or of none, a beginning of its reply
   abbrev pub BeganBy : List Line → Type 0
   BeganBy asked = Began (g.is_honest new) (g.vault old) (g.count old) (w.contents before) asked (g.vault new) (g.count new) (w.contents after)
+
+-- ---- what is heard of a line
+
+-- its command was carried out, and heard of with its reply; where it asks for none, nothing was
+abbrev pub HearsLine : {J : Type 0} → (J → Timed → Reply → J → Type 0) → J → J → Line → Vault → Vault → Type 0
+HearsLine hears before after Skip old new = (new ≡ old) × (after ≡ before)
+HearsLine hears before after (Refused r) old new = (new ≡ old) × (after ≡ before)
+HearsLine hears before after (Command c) old new = (reply : Reply) × IsStep old c.at c.who c.command reply new × hears before c reply after

@@ -5,7 +5,7 @@ ghost use Rattle.vault_http.specs.ReadLine.{line_of};
 ghost use Rattle.vault_http.specs.ReplyLine.{reply_text};
 ghost use Rattle.vault_http.specs.Line.TheVariants.{Command};
 ghost use Rattle.vaultctl_replay.specs.Lines.{unended_of};
-ghost use Rattle.vaultctl_replay.specs.Runs.{BeganBy, FinishedBy, RepliedBy, UnwrittenBy};
+ghost use Rattle.vaultctl_replay.specs.Runs.{BeganBy, FinishedBy, HearsLine, RepliedBy, UnwrittenBy};
 
 use crate::fault::ReplayFault;
 use crate::observer::Observer;
@@ -17,6 +17,7 @@ use vault_core::step::step;
 use vault_core_model::command::Timed;
 use vault_core_model::keeper::Keeper;
 use vault_core_model::reply::Reply;
+use vault_http::Hears;
 use vault_http::read_line::{Line, read_line};
 use vault_http::reply_line::reply_line;
 
@@ -29,58 +30,61 @@ fn stated(alloc: Global, reply: Reply) -> Result<String, AllocError>
     line
 }
 
-/// Carries out a command, of whose reply the observer hears. That is a line.
+/// Carries out a command, which is then heard of with its reply. That is a line.
 #[tactic(auto, using(vault_core_model::proofs::Counts::no_less))]
-fn carried_out<K: Keeper, O: Observer>(
+fn carried_out<K: Keeper, H: Hears>(
     alloc: Global,
     keeper: &mut K,
-    observer: &mut O,
+    hears: &mut H,
     timed: Timed,
 ) -> Result<String, AllocError>
     ensures ok { IfOk result (λ text. RepliedBy K.Kept keeper.old keeper.new (Command timed) (string_bytes text)) }
     ensures err { OnErr result (UnwrittenBy K.Kept keeper.old keeper.new (Command timed)) }
+    ensures heard { K.is_honest keeper.new → HearsLine H.hears hears.old hears.new (Command timed) (K.vault keeper.old) (K.vault keeper.new) }
     ensures leaves { LeavesNoLess K.Kept keeper.old keeper.new }
 {
     let reply = step(alloc, keeper, timed.at, &timed.who, &timed.command);
-    observer.reply(&timed.command, &reply);
+    hears.hear(alloc, timed.at, &timed.who, &timed.command, &reply);
     drop(timed);
     stated(alloc, reply)
 }
 
 /// Carries out what a line asks for. Its reply is a line, or nothing where the line is empty.
-fn reply_to<K: Keeper, O: Observer>(
+fn reply_to<K: Keeper, H: Hears>(
     alloc: Global,
     keeper: &mut K,
-    observer: &mut O,
+    hears: &mut H,
     asked: Line,
 ) -> Result<String, AllocError>
     ensures ok { IfOk result (λ reply. RepliedBy K.Kept keeper.old keeper.new asked (string_bytes reply)) }
     ensures err { OnErr result (UnwrittenBy K.Kept keeper.old keeper.new asked) }
+    ensures heard { K.is_honest keeper.new → HearsLine H.hears hears.old hears.new asked (K.vault keeper.old) (K.vault keeper.new) }
     ensures leaves { LeavesNoLess K.Kept keeper.old keeper.new }
 {
     match asked {
         Line::Skip => Ok(String::new(alloc)),
         Line::Refused(refusal) => stated(alloc, Reply::Refused(refusal)),
-        Line::Command(timed) => carried_out(alloc, keeper, observer, timed),
+        Line::Command(timed) => carried_out(alloc, keeper, hears, timed),
     }
 }
 
-/// Carries out what a line asks for, and then writes its reply.
+/// Carries out what a line asks for, which is then heard of, and writes its reply.
 ///
 /// `Write` comes where the reply can't be written, and `Memory` where room was refused.
-pub fn answer<K: Keeper, W: Write, O: Observer>(
+pub fn answer<K: Keeper, W: Write, H: Hears>(
     alloc: Global,
     keeper: &mut K,
     writer: &mut W,
-    observer: &mut O,
+    hears: &mut H,
     asked: Line,
 ) -> Result<(), ReplayFault>
     ensures ok { OnOk result (FinishedBy K.Kept keeper.old keeper.new W.Write writer.old writer.new (asked ∷ [])) }
     ensures err { OnErr result (BeganBy K.Kept keeper.old keeper.new W.Write writer.old writer.new (asked ∷ [])) }
     ensures kind { ¬ (result ≡ Err ReplayFault.Read) }
+    ensures heard { K.is_honest keeper.new → HearsLine H.hears hears.old hears.new asked (K.vault keeper.old) (K.vault keeper.new) }
     ensures leaves { LeavesNoLess K.Kept keeper.old keeper.new }
 {
-    let Ok(reply) = reply_to(alloc, keeper, observer, asked) else {
+    let Ok(reply) = reply_to(alloc, keeper, hears, asked) else {
         return Err(ReplayFault::Memory);
     };
     write_bytes(writer, reply.as_bytes())

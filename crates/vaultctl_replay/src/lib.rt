@@ -14,12 +14,13 @@ pub mod observer;
 mod writing;
 
 use crate::lines::{Room, feed, finish};
-use crate::observer::{Observer, Silent};
+use crate::observer::Observer;
 use crate::writing::flush;
 pub use fault::ReplayFault;
 use std::alloc::Global;
 use std::io::{Read, Write};
 use vault_core_model::keeper::Keeper;
+use vault_http::Nobody;
 use vault_http::read_line::LONGEST_LINE;
 use vault_io::retry::read_retrying;
 
@@ -27,7 +28,7 @@ use vault_io::retry::read_retrying;
 /// to be too long.
 const KEPT: usize = LONGEST_LINE + 1;
 
-/// Answers the whole input, a line at a time; the observer hears of each line.
+/// Answers the whole input, a line at a time; the observer hears of each line, and of each command once it was carried out.
 ///
 /// The writer is flushed before each read, so that whoever waits for replies before they write on has them,
 /// and at the end. A line ends with LF; the last one may lack it. However the reader cuts the input into pieces,
@@ -112,5 +113,5 @@ pub fn replay<R: Read, W: Write, K: Keeper>(
     ensures honest { K.is_honest keeper.new → K.is_honest keeper.old }
     ensures counted { K.count keeper.old ≤ K.count keeper.new }
 {
-    replay_observed(alloc, reader, writer, keeper, &mut Silent)
+    replay_observed(alloc, reader, writer, keeper, &mut Nobody)
 }

@@ -1,11 +1,14 @@
 -- Steps of connections, one after another, and the tries in which these are taken.
-use Rattle.std.proofs.Common.{◌≡◌, ◌+◌, ◌≤◌, ℕ, List, [], ◌∷◌, ◌++◌, length, Option, None, Some, refl, sym, subst, inl, inr, arith}
+use Rattle.std.proofs.Common.{◌≡◌, ◌∙◌, ◌+◌, ◌≤◌, ℕ, Bool, true, false, true≢false, List, [], ◌∷◌, ◌++◌, length, Option, None, Some, refl, sym, subst, inl, inr, arith}
 use Rattle.std.proofs.lemmas.List.{length-append}
 use Rattle.vault_core_model.specs.Step.{Reached}
 use Rattle.vault_core_model.specs.Vault.{Vault}
+use Rattle.vault_core_model.specs.declared.command.Timed.{Timed}
+use Rattle.vault_core_model.specs.declared.reply.Reply.{Reply}
 use Rattle.vault_core_laws.proofs.Runs.{IsRun-append}
+use Rattle.vault_http.specs.Hearing.{AreHeard, HearsAll, HearsOnce, HearsSome}
 use Rattle.vault_http.specs.Left.{AtMostOne}
-use Rattle.vaultctl_serve.specs.Serving.{Missed, Next, ReadsAs, Stepped, SteppedAt, SteppedOnTime, Taken, Tries, Try}
+use Rattle.vaultctl_serve.specs.Serving.{Missed, Next, ReadsAs, Stepped, SteppedAt, SteppedOnTime, SteppedWhile, Taken, Tries, Try}
 
 -- ---- steps
 
@@ -96,3 +99,38 @@ OnTime-append n m before mid after old between new first second = (
 
 pub OnTime-stepped : (n : ℕ) (before after : Option (List Try)) (old new : Vault) → SteppedOnTime n before after old new → Stepped n old new
 OnTime-stepped n before after old new timely = Stepped-more (length timely.0) n old new (omega (arith, timely.1)) (SteppedAt-stepped timely.0 old new timely.3)
+
+-- as many as there were to be were made, or there were to be no more
+pub While-all : (going : Bool) (n most : ℕ) (before after : Option (List Try)) (old new : Vault) → n ≡ most → SteppedOnTime n before after old new → SteppedWhile going most before after old new
+While-all going n most before after old new all timely = (n, omega (arith, all), λ _. all, timely)
+
+pub While-ended : (going : Bool) (n most : ℕ) (before after : Option (List Try)) (old new : Vault) → going ≡ false → n ≤ most → SteppedOnTime n before after old new → SteppedWhile going most before after old new
+While-ended going n most before after old new ended within timely = (n, within, λ on. absurd (true≢false (sym on ∙ ended)), timely)
+
+-- ---- what is heard
+
+module _ {J : Type 0} (going : J → Bool) (hears : J → Timed → Reply → J → Type 0) where
+  pub HearsAll-none : (who : J) (vault : Vault) → HearsAll going hears who who vault vault
+  HearsAll-none who vault = ([], [], refl, refl)
+
+  HearsAll-one : (before after : J) (moment : Option ℕ) (old new : Vault) → going before ≡ true → HearsOnce hears before after moment old new → HearsAll going hears before after old new
+  HearsAll-one before after moment old new may once = elim once [
+    | inl same ↦ ([], [], same.0, same.1)
+    | inr step ↦ (step.0 ∷ [], step.1 ∷ [], (new, step.3, refl), (may, after, step.4, refl))
+  ]
+
+  AreHeard-append : (before mid after : J) (cs ds : List Timed) (rs ss : List Reply) → AreHeard going hears before mid cs rs → AreHeard going hears mid after ds ss → AreHeard going hears before after (cs ++ ds) (rs ++ ss)
+  AreHeard-append before mid after [] ds [] ss first second = let P : J → Type 0 = λ who. AreHeard going hears who after ds ss in subst P first second
+  AreHeard-append before mid after [] ds (r ∷ rs) ss first second = absurd first
+  AreHeard-append before mid after (c ∷ cs) ds [] ss first second = absurd first
+  AreHeard-append before mid after (c ∷ cs) ds (r ∷ rs) ss first second = (first.0, first.1, first.2, AreHeard-append first.1 mid after cs ds rs ss first.3 second)
+
+  -- one turn more, while it might be taken
+  pub HearsAll-more : (before between after : J) (old mid new : Vault) → HearsAll going hears before between old mid → going between ≡ true → HearsSome hears between after mid new → HearsAll going hears before after old new
+  HearsAll-more before between after old mid new first may some =
+      let second = HearsAll-one between after some.0 mid new may some.1 in (
+        first.0 ++ second.0,
+        first.1 ++ second.1,
+        IsRun-append old mid new first.0 second.0 first.1 second.1 first.2 second.2,
+        AreHeard-append before between after first.0 second.0 first.1 second.1 first.3 second.3,
+      )

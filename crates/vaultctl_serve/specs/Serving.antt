@@ -1,5 +1,5 @@
 -- What connections may do with a vault, and what is reported of them.
-use Rattle.std.specs.Prelude.{ℕ, ◌≡◌, ◌≢◌, ◌≤◌, ◌⊎◌, List, [], ◌∷◌, length, Option, Some, None, Result, Ok, Err}
+use Rattle.std.specs.Prelude.{ℕ, ◌≡◌, ◌≢◌, ◌≤◌, ◌⊎◌, Bool, true, List, [], ◌∷◌, length, Option, Some, None, Result, Ok, Err}
 use Rattle.vault_core_model.specs.declared.command.Timed.{Timed}
 use Rattle.vault_core_model.specs.declared.reply.Reply.{Reply}
 use Rattle.vault_core_model.specs.Step.{IsRun}
@@ -51,6 +51,11 @@ ReadsAs (Some all) shown moment = moment ≡ shown
 abbrev pub SteppedOnTime : ℕ → Option (List Try) → Option (List Try) → Vault → Vault → Type 0
 SteppedOnTime n before after old new =
     (tries : List Try) × (length tries ≡ n) × Tries before after tries × SteppedAt tries old new
+
+-- the same of n tries, or of fewer where there were to be no more
+abbrev pub SteppedWhile : Bool → ℕ → Option (List Try) → Option (List Try) → Vault → Vault → Type 0
+SteppedWhile going n before after old new =
+    (made : ℕ) × (made ≤ n) × (going ≡ true → made ≡ n) × SteppedOnTime made before after old new
 
 -- ---- reports
 

@@ -1,11 +1,11 @@
 //! One connection, and its one request.
 ghost use Rattle.std.specs.Prelude.{ℕ, ◌≡◌, List, Option, IfErr, IfSome, OnOk, Err};
 ghost use Rattle.std.specs.Io.KnownBytes.{Appends};
-ghost use Rattle.vault_base.specs.Days.{moment_at};
 ghost use Rattle.vault_core_model.specs.Leaves.{RoseOrIsFull};
+ghost use Rattle.vault_http.specs.Calls.{SteadyBy};
 ghost use Rattle.vault_http.specs.Exchange.{Answered};
+ghost use Rattle.vault_http.specs.Hearing.{HearsOnce};
 ghost use Rattle.vault_http.specs.Left.{AtMostOne, LeavesNoLess, Unanswered};
-ghost use Rattle.vault_http.specs.Steady.{Steady};
 ghost use Rattle.vault_http.specs.declared.fault.ServeFault.TheVariants as faults;
 ghost use Rattle.vaultctl_serve.specs.InTime.{known_in_time};
 ghost use Rattle.vaultctl_serve.specs.Strangers.{RefusesStrangers};
@@ -21,39 +21,42 @@ use std::alloc::Global;
 use std::io::{BufReader, Write};
 use std::time::{Clock, Duration, Instant};
 use vault_core_model::keeper::Keeper;
-use vault_http::{Hosts, ServeFault, serve_for};
+use vault_http::{Hears, Occasion, ServeFault, serve_for};
 
 /// Serves the one request of a connection, which has to be for one of the hosts: what is answered is what comes in time,
 /// as if nothing came after it.
 ///
 /// The faults are those of `serve_for`. A request that comes too late is a failed read, `Read`, and `Memory` comes too
 /// where there is no room for what is read ahead.
-pub fn serve_in_time<I: Inbound + Drop, W: Write, K: Keeper>(
+pub fn serve_in_time<I: Inbound + Drop, W: Write, K: Keeper, H: Hears>(
     alloc: Global,
     inbound: I,
     writer: &mut W,
     keeper: &mut K,
-    reading: i64,
-    hosts: &Hosts,
+    hears: &mut H,
+    occasion: Occasion<'_>,
 ) -> Result<(), ServeFault>
-    ensures ok { K.is_honest keeper.new → OnOk result (Answered hosts.now (RoseOrIsFull (K.count keeper.old) (K.count keeper.new)) (moment_at reading)
-        (known_in_time Leading (I.coming inbound)) (K.vault keeper.old) (K.vault keeper.new) (W.contents writer.old) (W.contents writer.new)) }
-    ensures err { K.is_honest keeper.new → IfErr result (λ e. (unread : Option (List ℕ)) × Unanswered hosts.now (RoseOrIsFull (K.count keeper.old) (K.count keeper.new)) e (moment_at reading)
+    ensures ok { K.is_honest keeper.new → OnOk result (Answered occasion.entry.hosts.now (RoseOrIsFull (K.count keeper.old) (K.count keeper.new))
+        occasion.entry.moment (known_in_time Leading (I.coming inbound)) (K.vault keeper.old) (K.vault keeper.new) (W.contents writer.old) (W.contents writer.new)) }
+    ensures err { K.is_honest keeper.new → IfErr result (λ e. (unread : Option (List ℕ))
+        × Unanswered occasion.entry.hosts.now (RoseOrIsFull (K.count keeper.old) (K.count keeper.new)) e occasion.entry.moment
         (known_in_time Leading (I.coming inbound)) unread (K.vault keeper.old) (K.vault keeper.new) (W.contents writer.old) (W.contents writer.new)) }
     // A request that isn't whole in time changes nothing.
-    ensures late { K.is_honest keeper.new → IfSome (known_in_time Leading (I.coming inbound)) (λ input. WaitsForAll hosts.now (moment_at reading) input (K.vault keeper.old) (K.vault keeper.new)) }
+    ensures late { K.is_honest keeper.new → IfSome (known_in_time Leading (I.coming inbound)) (λ input. WaitsForAll occasion.entry.hosts.now occasion.entry.moment input
+        (K.vault keeper.old) (K.vault keeper.new)) }
     // Where hosts are named, a request for another one changes nothing, and is answered InvalidArgument.
-    ensures strangers { K.is_honest keeper.new → IfSome (known_in_time Leading (I.coming inbound)) (λ input. RefusesStrangers hosts.now (moment_at reading) input result
+    ensures strangers { K.is_honest keeper.new → IfSome (known_in_time Leading (I.coming inbound)) (λ input. RefusesStrangers occasion.entry.hosts.now occasion.entry.moment input result
         (K.vault keeper.old) (K.vault keeper.new) (W.contents writer.old) (W.contents writer.new)) }
-    ensures once { K.is_honest keeper.new → AtMostOne (moment_at reading) (K.vault keeper.old) (K.vault keeper.new) }
+    ensures once { K.is_honest keeper.new → AtMostOne occasion.entry.moment (K.vault keeper.old) (K.vault keeper.new) }
+    ensures heard { K.is_honest keeper.new → HearsOnce H.hears hears.old hears.new occasion.entry.moment (K.vault keeper.old) (K.vault keeper.new) }
     ensures unread { result ≡ Err faults.Read → K.vault keeper.new ≡ K.vault keeper.old }
     ensures leaves { LeavesNoLess K.Kept keeper.old keeper.new }
-    ensures steady { Steady (K.is_honest keeper.new) result (moment_at reading) (K.vault keeper.old) (K.vault keeper.new) (K.count keeper.old) (K.count keeper.new) (W.contents writer.old) (W.contents writer.new) }
+    ensures steady { SteadyBy K.Kept keeper.old keeper.new W.Write writer.old writer.new result occasion.entry.moment }
 {
     let Ok(mut reader) = BufReader::new(alloc, TimedRequest::new(inbound)) else {
         return Err(ServeFault::Memory);
     };
-    serve_for(alloc, &mut reader, writer, keeper, reading, hosts)
+    serve_for(alloc, &mut reader, writer, keeper, hears, occasion)
 }
 
 /// Serves the one request of a connection, which was just taken; the request has to be for one of the hosts. What goes by
@@ -61,15 +64,16 @@ pub fn serve_in_time<I: Inbound + Drop, W: Write, K: Keeper>(
 ///
 /// Where the request comes too late, that is a failed read, `Read`, and where its answer is taken too late, a
 /// failed write, `Write`.
-pub fn serve_connection<C: Clock, P: Peer, K: Keeper>(
+pub fn serve_connection<C: Clock, P: Peer, K: Keeper, H: Hears>(
     clock: &C,
     noted: &mut Noted,
     peer: &P,
     keeper: &mut K,
-    reading: i64,
-    hosts: &Hosts,
+    hears: &mut H,
+    occasion: Occasion<'_>,
 ) -> Result<(), ServeFault>
-    ensures once { K.is_honest keeper.new → AtMostOne (moment_at reading) (K.vault keeper.old) (K.vault keeper.new) }
+    ensures once { K.is_honest keeper.new → AtMostOne occasion.entry.moment (K.vault keeper.old) (K.vault keeper.new) }
+    ensures heard { K.is_honest keeper.new → HearsOnce H.hears hears.old hears.new occasion.entry.moment (K.vault keeper.old) (K.vault keeper.new) }
     ensures unread { result ≡ Err faults.Read → K.vault keeper.new ≡ K.vault keeper.old }
     ensures leaves { LeavesNoLess K.Kept keeper.old keeper.new }
 {
@@ -84,7 +88,7 @@ pub fn serve_connection<C: Clock, P: Peer, K: Keeper>(
         inbound: TimedPeer { clock, peer, since },
         seen: &mut noted.asked,
     };
-    let served = serve_in_time(noted.alloc, inbound, &mut answer, keeper, reading, hosts);
+    let served = serve_in_time(noted.alloc, inbound, &mut answer, keeper, hears, occasion);
     noted.took = since.elapsed(clock).unwrap_or(Duration::ZERO);
     noted.answered = answer.seen;
     if served.is_ok() {

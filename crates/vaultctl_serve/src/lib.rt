@@ -18,4 +18,4 @@ pub mod timed;
 
 pub use connection::{serve_connection, serve_in_time};
 pub use fault::PortFault;
-pub use server::{Port, serve, serve_arrivals, trouble_of};
+pub use server::{Means, Port, serve, serve_arrivals, trouble_of};

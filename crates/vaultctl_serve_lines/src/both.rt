@@ -1,6 +1,7 @@
 //! A server with two doors: requests at a port, and lines at another or at a path.
 ghost use Rattle.std.specs.Prelude.{◌≡◌, IfOk, OnErr, OnOk};
 ghost use Rattle.vault_core_model.specs.Step.{Reached};
+ghost use Rattle.vault_http.specs.Hearing.{HearsAll};
 ghost use Rattle.vault_http.specs.Left.{LeavesNoLess};
 ghost use Rattle.vaultctl_serve.specs.Serving.{ReportsOnce, Stepped};
 ghost use Rattle.vaultctl_serve_lines_answers.specs.Closing.{IsEnded};
@@ -9,7 +10,7 @@ use crate::door_reporter::DoorReporter;
 use crate::fault::DoorFault;
 use crate::line_door::LineListener;
 use crate::place::LinePlace;
-use crate::turns::serve_doors;
+use crate::turns::{Server, serve_doors};
 use crate::two_doors::TwoDoors;
 use std::alloc::Global;
 use std::fs::Files;
@@ -17,7 +18,7 @@ use std::io::{self, Stderr};
 use std::net::{Ipv4Addr, Net, TcpListener, TcpStream};
 use std::time::Clock;
 use vault_core_model::keeper::Keeper;
-use vault_http::Hosts;
+use vault_http::{Hears, Hosts};
 use vaultctl_serve::clock::now;
 use vaultctl_serve_lines_answers::line::Next;
 use vaultctl_serve_lines_answers::service::Service;
@@ -37,6 +38,8 @@ pub struct Places<'a> {
     pub version: &'static str,
     /// Where memory is taken from.
     pub alloc: Global,
+    /// How many requests and lines are served.
+    pub count: u32,
 }
 
 /// The listener of requests, at which no accept waits.
@@ -63,8 +66,18 @@ fn listen<R: Net<Stream = TcpStream, Listener = TcpListener> + Files>(
     Ok((requests, lines))
 }
 
-/// Serves `count` requests and lines, one after another, or up to the line that asks for the end: answers which of
-/// these it was.
+/// What a server says of itself that begins now.
+fn service_from<R: Clock>(rt: &R, places: Places<'_>) -> Service {
+    Service {
+        alloc: places.alloc,
+        version: places.version,
+        since: now(rt),
+    }
+}
+
+/// Serves requests and lines, one after another, as many as are counted, or up to the line that asks for the end: answers
+/// which of these it was. It ends too after the command after which who hears lets no more be carried out; that is answered
+/// as if all were served.
 ///
 /// That it listens at both doors is reported first, and that the vault's device failed is reported once, when it first
 /// does. Where there is a log, it gets a line of what became of each request and each line. `Requests` and `Lines` come
@@ -72,16 +85,19 @@ fn listen<R: Net<Stream = TcpStream, Listener = TcpListener> + Files>(
 pub fn serve_with_lines<
     R: Net<Stream = TcpStream, Listener = TcpListener> + Files + Clock,
     K: Keeper,
+    H: Hears,
     T: DoorReporter,
 >(
     rt: &R,
     keeper: &mut K,
+    hears: &mut H,
     places: Places<'_>,
-    count: u32,
     reporter: &mut T,
     log: Option<Stderr>,
 ) -> Result<Next, DoorFault>
-    ensures stepped { K.is_honest keeper.new → Stepped count (K.vault keeper.old) (K.vault keeper.new) }
+    ensures stepped { K.is_honest keeper.new → Stepped places.entry.count (K.vault keeper.old) (K.vault keeper.new) }
+    // Commands led to the vault, and each was heard of with its reply, while who hears let it be carried out.
+    ensures heard { K.is_honest keeper.new → HearsAll H.going H.hears hears.old hears.new (K.vault keeper.old) (K.vault keeper.new) }
     ensures reached { K.is_honest keeper.new → Reached (K.vault keeper.old) → Reached (K.vault keeper.new) }
     // Only a caller with the right to administer ends it.
     ensures end { IfOk result (λ next. next ≡ Next.End → K.is_honest keeper.new → IsEnded (K.vault keeper.new)) }
@@ -98,11 +114,7 @@ pub fn serve_with_lines<
         Err(fault) => return Err(fault),
     };
     reporter.listening_at_both(places.file, places.port, places.lines);
-    let service = Service {
-        alloc: places.alloc,
-        version: places.version,
-        since: now(rt),
-    };
+    let service = service_from(rt, places);
     let mut doors = TwoDoors {
         clock: rt,
         alloc: places.alloc,
@@ -113,5 +125,9 @@ pub fn serve_with_lines<
         talk: None,
         line_was_last: false,
     };
-    Ok(serve_doors(rt, &service, &mut doors, keeper, count, reporter))
+    let server = Server {
+        clock: rt,
+        service: &service,
+    };
+    Ok(serve_doors(&server, &mut doors, keeper, hears, places.count, reporter))
 }

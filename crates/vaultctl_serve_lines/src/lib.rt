@@ -16,5 +16,5 @@ mod two_doors;
 pub use both::{Places, serve_with_lines};
 pub use fault::DoorFault;
 pub use place::LinePlace;
-pub use turns::serve_doors;
+pub use turns::{Server, serve_doors};
 pub use vaultctl_serve_lines_answers::{heard, line, service};

@@ -2,6 +2,7 @@
 ghost use Rattle.std.specs.Prelude.{◌≡◌, ◌≢◌, ℕ, Ok, Option};
 ghost use Rattle.vault_base.specs.Days.{moment_at};
 ghost use Rattle.vault_core_model.specs.Step.{Reached};
+ghost use Rattle.vault_http.specs.Hearing.{HearsAll, HearsOnce, HearsSome};
 ghost use Rattle.vault_http.specs.Left.{AtMostOne, LeavesNoLess};
 ghost use Rattle.vaultctl_serve.specs.Account.{IsAccounted, IsLineAccounted};
 ghost use Rattle.vaultctl_serve.specs.Serving.{ReadsAs, ReportsOnce, Stepped};
@@ -10,7 +11,9 @@ ghost use Rattle.vaultctl_serve_lines.specs.Doors.{line_trouble, most_of, Steppe
 
 use crate::doors::{Arrived, Doors};
 use std::time::{Clock, Duration, Instant};
+use vault_base::moment::Moment;
 use vault_core_model::keeper::Keeper;
+use vault_http::{Hears, Occasion};
 use vaultctl_log::entry::Trouble;
 use vaultctl_replay::ReplayFault;
 use vaultctl_serve::inbound::TimedPeer;
@@ -35,6 +38,13 @@ pub enum Turn {
     End,
 }
 
+/// A server: the clock by which it waits, and what it says of itself.
+#[derive(Drop)]
+pub struct Server<'a, C: Clock> {
+    pub clock: &'a C,
+    pub service: &'a Service,
+}
+
 /// How a line was answered, and what went by as it was.
 #[derive(Drop)]
 struct Answering {
@@ -46,31 +56,33 @@ struct Answering {
 ///
 /// The faults are those of `serve_line`; and `Read` comes where the clock can't say how long one waits for the client.
 /// Then nothing was carried out.
-fn answer_talker<C: Clock, P: Peer, K: Keeper>(
-    clock: &C,
-    service: &Service,
+fn answer_talker<C: Clock, P: Peer, K: Keeper, H: Hears>(
+    server: &Server<'_, C>,
     talker: &P,
     heard: &Heard,
     keeper: &mut K,
+    hears: &mut H,
     reading: i64,
 ) -> Answering
     ensures once { K.is_honest keeper.new → AtMostOne (moment_at reading) (K.vault keeper.old) (K.vault keeper.new) }
+    ensures heard { K.is_honest keeper.new → HearsOnce H.hears hears.old hears.new (moment_at reading) (K.vault keeper.old) (K.vault keeper.new) }
     ensures end { result.answered ≡ Ok Next.End → K.is_honest keeper.new → MayEnd (K.vault keeper.new) (moment_at reading) heard.now.bytes.items }
     ensures leaves { LeavesNoLess K.Kept keeper.old keeper.new }
 {
-    let mut noted = Noted::new(service.alloc);
-    let Ok(since) = Instant::now(clock) else {
+    let mut noted = Noted::new(server.service.alloc);
+    let Ok(since) = Instant::now(server.clock) else {
         return Answering {
             answered: Err(ReplayFault::Read),
             noted,
         };
     };
+    let clock = server.clock;
     let peer = talker;
     let mut writer = NotedAnswer {
         writer: TimedAnswer::new(TimedPeer { clock, peer, since }),
         seen: noted.take_answered(),
     };
-    let answered = serve_line(service, heard, &mut writer, keeper, reading);
+    let answered = serve_line(server.service, heard, &mut writer, keeper, hears, reading);
     noted.took = since.elapsed(clock).unwrap_or(Duration::ZERO);
     noted.answered = writer.seen;
     Answering { answered, noted }
@@ -119,40 +131,45 @@ fn trouble_in(answered: Result<Next, ReplayFault>) -> Option<Trouble>
 }
 
 /// Serves a request, at the clock's reading as it is taken. What became of it is logged.
-fn serve_request<C: Clock, D: Doors, K: Keeper>(
-    clock: &C,
-    service: &Service,
+fn serve_request<C: Clock, D: Doors, K: Keeper, H: Hears>(
+    server: &Server<'_, C>,
     doors: &mut D,
     peer: &D::Request,
     keeper: &mut K,
+    hears: &mut H,
 )
     ensures tries { D.tries doors.new ≡ D.tries doors.old }
     ensures timely { K.is_honest keeper.new → StepsAt (D.tries doors.old) (D.shown doors.old) (K.vault keeper.old) (K.vault keeper.new) }
+    ensures heard { K.is_honest keeper.new → HearsSome H.hears hears.old hears.new (K.vault keeper.old) (K.vault keeper.new) }
     // What is logged is what happened: the moment, and that nothing was carried out of what came late.
     ensures logged { K.is_honest keeper.new → (moment : Option ℕ) × ReadsAs (D.tries doors.old) (D.shown doors.old) moment
         × IsAccounted D.logs doors.old doors.new moment (K.vault keeper.old) (K.vault keeper.new) }
     ensures leaves { LeavesNoLess K.Kept keeper.old keeper.new }
 {
     let reading = doors.reading();
-    let mut noted = Noted::new(service.alloc);
+    let mut noted = Noted::new(server.service.alloc);
+    let moment = Moment::from_secs(reading);
+    let hosts = doors.hosts();
+    let occasion = Occasion { moment, hosts };
     // A fault of the connection is its own.
-    let served = serve_connection(clock, &mut noted, peer, keeper, reading, doors.hosts());
+    let served = serve_connection(server.clock, &mut noted, peer, keeper, hears, occasion);
     doors.log(&noted.request(reading, trouble_of(served)));
 }
 
 /// Answers a line, at the clock's reading as it is taken. What became of it is logged.
 ///
 /// The faults are those of `answer_talker`.
-fn answer_heard<C: Clock, D: Doors, K: Keeper>(
-    clock: &C,
-    service: &Service,
+fn answer_heard<C: Clock, D: Doors, K: Keeper, H: Hears>(
+    server: &Server<'_, C>,
     doors: &mut D,
     talker: &D::Talker,
     heard: &Heard,
     keeper: &mut K,
+    hears: &mut H,
 ) -> Result<Next, ReplayFault>
     ensures tries { D.tries doors.new ≡ D.tries doors.old }
     ensures timely { K.is_honest keeper.new → StepsAt (D.tries doors.old) (D.shown doors.old) (K.vault keeper.old) (K.vault keeper.new) }
+    ensures heard { K.is_honest keeper.new → HearsSome H.hears hears.old hears.new (K.vault keeper.old) (K.vault keeper.new) }
     ensures end { result ≡ Ok Next.End → K.is_honest keeper.new → IsEnded (K.vault keeper.new) }
     // What is logged is what happened: the line, the moment.
     ensures logged { K.is_honest keeper.new → (moment : Option ℕ) × ReadsAs (D.tries doors.old) (D.shown doors.old) moment
@@ -160,7 +177,7 @@ fn answer_heard<C: Clock, D: Doors, K: Keeper>(
     ensures leaves { LeavesNoLess K.Kept keeper.old keeper.new }
 {
     let reading = doors.reading();
-    let answering = answer_talker(clock, service, talker, heard, keeper, reading);
+    let answering = answer_talker(server, talker, heard, keeper, hears, reading);
     let trouble = trouble_in(answering.answered);
     doors.log(
         &answering
@@ -171,24 +188,25 @@ fn answer_heard<C: Clock, D: Doors, K: Keeper>(
 }
 
 /// One turn: waits for what comes, and serves a request or a line, at the clock's reading as it is taken.
-fn serve_turn<C: Clock, D: Doors, K: Keeper>(
-    clock: &C,
-    service: &Service,
+fn serve_turn<C: Clock, D: Doors, K: Keeper, H: Hears>(
+    server: &Server<'_, C>,
     doors: &mut D,
     keeper: &mut K,
+    hears: &mut H,
 ) -> Turn
     ensures timely { K.is_honest keeper.new → SteppedWithin (most_of result) (D.tries doors.old) (D.tries doors.new) (K.vault keeper.old) (K.vault keeper.new) }
+    ensures heard { K.is_honest keeper.new → HearsSome H.hears hears.old hears.new (K.vault keeper.old) (K.vault keeper.new) }
     ensures end { result ≡ Turn.End → K.is_honest keeper.new → IsEnded (K.vault keeper.new) }
     ensures leaves { LeavesNoLess K.Kept keeper.old keeper.new }
 {
     match doors.next() {
         Arrived::Request(peer) => {
-            serve_request(clock, service, doors, &peer, keeper);
+            serve_request(server, doors, &peer, keeper, hears);
             Turn::Taken
         }
         Arrived::Line(heard, talker) => {
-            let answered = answer_heard(clock, service, doors, &talker, &heard, keeper);
-            part(clock, doors, talker, heard.is_ended, answered);
+            let answered = answer_heard(server, doors, &talker, &heard, keeper, hears);
+            part(server.clock, doors, talker, heard.is_ended, answered);
             turn_of(answered)
         }
         Arrived::Nothing => Turn::Idle,
@@ -197,15 +215,16 @@ fn serve_turn<C: Clock, D: Doors, K: Keeper>(
 
 /// One turn. Where that is when the vault's device fails for the first time since it had failed `since` times, that is
 /// reported.
-fn watch_turn<C: Clock, D: Doors, K: Keeper, T: Reporter>(
-    clock: &C,
-    service: &Service,
+fn watch_turn<C: Clock, D: Doors, K: Keeper, H: Hears, T: Reporter>(
+    server: &Server<'_, C>,
     doors: &mut D,
     keeper: &mut K,
+    hears: &mut H,
     since: u64,
     reporter: &mut T,
 ) -> Turn
     ensures timely { K.is_honest keeper.new → SteppedWithin (most_of result) (D.tries doors.old) (D.tries doors.new) (K.vault keeper.old) (K.vault keeper.new) }
+    ensures heard { K.is_honest keeper.new → HearsSome H.hears hears.old hears.new (K.vault keeper.old) (K.vault keeper.new) }
     ensures end { result ≡ Turn.End → K.is_honest keeper.new → IsEnded (K.vault keeper.new) }
     ensures reported { K.count keeper.old ≡ since → ReportsOnce T.fails since (K.count keeper.new) reporter.old reporter.new }
     // It isn't reported a second time.
@@ -213,7 +232,7 @@ fn watch_turn<C: Clock, D: Doors, K: Keeper, T: Reporter>(
     ensures leaves { LeavesNoLess K.Kept keeper.old keeper.new }
 {
     let had_failed = keeper.faults() != since;
-    let turn = serve_turn(clock, service, doors, keeper);
+    let turn = serve_turn(server, doors, keeper, hears);
     if !had_failed && keeper.faults() != since {
         reporter.failed();
     }
@@ -221,16 +240,17 @@ fn watch_turn<C: Clock, D: Doors, K: Keeper, T: Reporter>(
 }
 
 /// Takes `count` requests and lines that come in at two doors, and serves each at the clock's reading as it was taken,
-/// or goes on up to the line that asks for the end: answers which of these it was.
+/// or goes on up to the line that asks for the end: answers which of these it was. It ends too after the command after
+/// which who hears lets no more be carried out; that is answered as if all were taken.
 ///
 /// Each turn is one request or one line, so that a request waits for one line at most, and a line for one request. That
 /// the vault's device failed is reported once, when it first does. A request that isn't served to its end counts as any
 /// other, and so does a line.
-pub fn serve_doors<C: Clock, D: Doors, K: Keeper, T: Reporter>(
-    clock: &C,
-    service: &Service,
+pub fn serve_doors<C: Clock, D: Doors, K: Keeper, H: Hears, T: Reporter>(
+    server: &Server<'_, C>,
     doors: &mut D,
     keeper: &mut K,
+    hears: &mut H,
     count: u32,
     reporter: &mut T,
 ) -> Next
@@ -238,6 +258,8 @@ pub fn serve_doors<C: Clock, D: Doors, K: Keeper, T: Reporter>(
     // and no more than `count` were taken.
     ensures timely { K.is_honest keeper.new → SteppedWithin count (D.tries doors.old) (D.tries doors.new) (K.vault keeper.old) (K.vault keeper.new) }
     ensures stepped { K.is_honest keeper.new → Stepped count (K.vault keeper.old) (K.vault keeper.new) }
+    // Commands led to the vault, and each was heard of with its reply, while who hears let it be carried out.
+    ensures heard { K.is_honest keeper.new → HearsAll H.going H.hears hears.old hears.new (K.vault keeper.old) (K.vault keeper.new) }
     // A vault that runs lead to from a new one is left as such a vault.
     ensures reached { K.is_honest keeper.new → Reached (K.vault keeper.old) → Reached (K.vault keeper.new) }
     // Only a caller with the right to administer ends it.
@@ -252,7 +274,10 @@ pub fn serve_doors<C: Clock, D: Doors, K: Keeper, T: Reporter>(
         if taken == count {
             return Next::On;
         }
-        match watch_turn(clock, service, doors, keeper, since, reporter) {
+        if !hears.goes_on() {
+            return Next::On;
+        }
+        match watch_turn(server, doors, keeper, hears, since, reporter) {
             Turn::Idle => {}
             Turn::Taken => taken += 1,
             Turn::End => return Next::End,

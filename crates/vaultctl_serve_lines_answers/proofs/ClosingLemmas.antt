@@ -9,6 +9,8 @@ use Rattle.vault_core_model.specs.Leaves.{Standing}
 use Rattle.vault_core_model.specs.Vault.{Vault}
 use Rattle.vault_core_model.specs.declared.command.Timed.{Timed}
 use Rattle.vault_core_model.specs.declared.records.Caller.{Caller}
+use Rattle.vault_core_model.specs.declared.reply.Reply.{Reply}
+use Rattle.vault_http.specs.Hearing.{HearsOnce}
 use Rattle.vault_http.specs.Left.{AtMostOne}
 use Rattle.vault_http.specs.Line.{Line}
 use Rattle.vault_http.specs.Line.TheVariants as line
@@ -19,6 +21,7 @@ use Rattle.vault_http_door.specs.Inquiry.{inquiry_of}
 use Rattle.vault_http_door.specs.declared.inquiry.About.TheVariants as about
 use Rattle.vault_http_door.specs.declared.inquiry.Inquiry.{Inquiry}
 use Rattle.vaultctl_replay.proofs.RunLemmas.{kept}
+use Rattle.vaultctl_replay.specs.Runs.{HearsLine}
 use Rattle.vaultctl_serve_lines_answers.specs.Answered.{Answered, AnswersOne, Left, LeavesOne, LineAnswered, LineLeft}
 use Rattle.vaultctl_serve_lines_answers.specs.Asked.{about_or_refused, door_line_of, end_or_about, heard_of, is_malformed, unlike_command}
 use Rattle.vaultctl_serve_lines_answers.specs.Asking.{found_of, is_end, judged, stated_text, StatedAs}
@@ -33,7 +36,7 @@ use Rattle.vaultctl_serve_lines_answers.specs.declared.asking.Found.TheVariants 
 use Rattle.vaultctl_serve_lines_answers.specs.declared.heard.Heard.{Heard}
 use Rattle.vaultctl_serve_lines_answers.specs.declared.line.Next.{Next}
 use Rattle.vaultctl_serve_lines_answers.specs.declared.service.Service.{Service}
-use Rattle.vaultctl_serve_lines_answers.proofs.HeardLemmas.{began-once, finished-once, heard-at}
+use Rattle.vaultctl_serve_lines_answers.proofs.HeardLemmas.{began-once, finished-once, heard-at, line-heard}
 
 -- nothing was done
 left-none : (service : Service) (asked : DoorLine) (s : Standing) (w : Option (List ℕ)) → Left service s s w w asked
@@ -120,6 +123,10 @@ module _ (heard : Heard) (moment : Option ℕ) where
   pub asked-once : {T E : Type 0} (asked : Line) → door.Line asked ≡ door_line_of heard.is_ended moment heard.bytes.items → (old new : Standing) (w w' : Option (List ℕ)) (r : Result T E) → OnOk r (AnswersOne old new w w' asked) → OnErr r (LeavesOne old new w w' asked) → new.is_honest → AtMostOne moment old.vault new.vault
   asked-once asked is old new w w' (Ok t) ok err h = finished-once new.is_honest h moment asked (door-at asked is) old.vault new.vault old.count new.count w w' ok
   asked-once asked is old new w w' (Err e) ok err h = began-once new.is_honest h moment asked (door-at asked is) old.vault new.vault old.count new.count w w' err
+
+  -- its command was heard of
+  pub asked-heard : {J : Type 0} (hears : J → Timed → Reply → J → Type 0) (before after : J) (asked : Line) → door.Line asked ≡ door_line_of heard.is_ended moment heard.bytes.items → (old new : Vault) → HearsLine hears before after asked old new → HearsOnce hears before after moment old new
+  asked-heard hears before after asked is old new h = line-heard hears moment before after asked (door-at asked is) old new h
 
   -- who may end it is the caller of the line
   pub may-end : (asked : Asked) (v : Vault) → door.Asked asked ≡ door_line_of heard.is_ended moment heard.bytes.items → (asked.what ≡ wanted.End) × IsOk (administrator v asked.at asked.who) → MayEnd v moment heard.bytes.items

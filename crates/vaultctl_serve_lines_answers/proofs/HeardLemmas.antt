@@ -5,13 +5,14 @@ use Rattle.vault_base.specs.declared.refusal.Refusal.TheVariants.{MalformedBody}
 use Rattle.vault_core_model.specs.Vault.{Vault}
 use Rattle.vault_core_model.specs.declared.command.Timed.{Timed}
 use Rattle.vault_core_model.specs.declared.reply.Reply.{Reply}
+use Rattle.vault_http.specs.Hearing.{HearsOnce}
 use Rattle.vault_http.specs.Left.{AtMostOne}
 use Rattle.vault_http.specs.Line.{Line}
 use Rattle.vault_http.specs.Line.TheVariants as line
 use Rattle.vault_http.specs.Stamped.{stamped_line_of}
 use Rattle.vault_http.proofs.StampedAt.{stamped-at}
 use Rattle.vaultctl_replay.specs.Lines.{is_cr}
-use Rattle.vaultctl_replay.specs.Runs.{Answers, Began, Finished, Runs}
+use Rattle.vaultctl_replay.specs.Runs.{Answers, Began, Finished, HearsLine, Runs}
 use Rattle.vaultctl_serve_lines_answers.specs.Asked.{heard_of}
 
 -- ---- the command of a line is at the reading
@@ -58,3 +59,10 @@ module _ (H : Type 0) (h : H) (moment : Option ℕ) where
 
     pub began-once : (v v' : Vault) (n n' : ℕ) (w w' : Option (List ℕ)) → Began H v n w (one ∷ []) v' n' w' → AtMostOne moment v v'
     began-once v v' n n' w w' b = began-cases b.0 b.1 b.2 v b.5 v' n b.6 n' b.7 b.8 b.3 b.11 b.12 b.4
+
+-- ---- what is heard of a line
+
+pub line-heard : {J : Type 0} (hears : J → Timed → Reply → J → Type 0) (moment : Option ℕ) (before after : J) (asked : Line) → ((t : Timed) → asked ≡ line.Command t → moment ≡ Some t.at) → (old new : Vault) → HearsLine hears before after asked old new → HearsOnce hears before after moment old new
+line-heard hears moment before after line.Skip at old new h = inl h
+line-heard hears moment before after (line.Refused r) at old new h = inl h
+line-heard hears moment before after (line.Command t) at old new h = inr (t, h.0, at t refl, h.1, h.2)

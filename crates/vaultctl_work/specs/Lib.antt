@@ -1,5 +1,6 @@
 pub mod Asked
 pub mod Done
+pub mod Noted
 pub mod Outcomes
 pub mod Scene
 pub mod Printed

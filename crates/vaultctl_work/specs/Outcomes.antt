@@ -1,5 +1,5 @@
 -- What came of a job, by what its parts answer.
-use Rattle.std.specs.Prelude.{Result, Ok, Err}
+use Rattle.std.specs.Prelude.{Bool, true, false, Result, Ok, Err}
 use Rattle.vault_files.specs.ExportFault.{ExportFault}
 use Rattle.vault_files.specs.ExportFault.TheVariants as export
 use Rattle.vaultctl_commands.specs.declared.fault.JobFault.{JobFault}
@@ -40,3 +40,9 @@ served (Err port.Device) = Err fault.Device
 abbrev pub served_at_both : Result Next DoorFault → Result Outcome JobFault
 served_at_both (Ok next) = Ok Done
 served_at_both (Err door) = Err fault.Device
+
+-- where a server's journal doesn't go on, that is what ended it
+abbrev pub with_journal : Bool → Result Outcome JobFault → Result Outcome JobFault
+with_journal true ended = ended
+with_journal false (Ok outcome) = Err fault.Write
+with_journal false (Err fault) = Err fault

@@ -68,11 +68,13 @@ fn carry_out_asked<C: Clock, K: Keeper, W: Write, E: Write>(
     err: &mut E,
 ) -> Result<Outcome, JobFault>
     // It is one step, by the caller who asks and at the reading that is given, and what is printed is the reply to it.
-    ensures done { K.is_honest keeper.new → IfOk result (λ stated. spec.IsDoneAt (RoseOrIsFull (K.count keeper.old) (K.count keeper.new)) asked.now.at asked.now (K.vault keeper.old) (K.vault keeper.new) stated (W.contents out.old) (W.contents out.new)) }
+    ensures done { K.is_honest keeper.new → IfOk result (λ stated. spec.IsDoneAt (RoseOrIsFull (K.count keeper.old) (K.count keeper.new))
+        asked.now.at asked.now (K.vault keeper.old) (K.vault keeper.new) stated (W.contents out.old) (W.contents out.new)) }
     // Whatever the device does, what is answered is what the printed reply says.
     ensures printed { IfOk result (λ stated. PrintsReply stated (W.contents out.old) (W.contents out.new)) }
     // And that the device failed is reported just where it did, whatever it does.
-    ensures steady { spec.IsSteadyAt (K.is_honest keeper.new) asked.now.at asked.now (K.vault keeper.old) (K.vault keeper.new) (K.count keeper.old) (K.count keeper.new) result (W.contents out.old) (W.contents out.new) }
+    ensures steady { spec.IsSteadyAt (K.is_honest keeper.new) asked.now.at asked.now (K.vault keeper.old) (K.vault keeper.new) (K.count keeper.old) (K.count keeper.new)
+        result (W.contents out.old) (W.contents out.new) }
     ensures reached { K.is_honest keeper.new → Reached (K.vault keeper.old) → Reached (K.vault keeper.new) }
     ensures honest { K.is_honest keeper.new → K.is_honest keeper.old }
     ensures reader { result ≢ Err JobFault.Read }

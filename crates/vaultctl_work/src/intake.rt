@@ -13,7 +13,6 @@ use crate::terminal::terminal;
 use crate::work::Work;
 use std::alloc::Global;
 use std::io::{Read, Stderr, Write};
-use vault_base::moment::Moment;
 use vault_base::refusal::Refusal;
 use vault_core_model::halt::Fault;
 use vault_core_model::keeper::Keeper;
@@ -38,37 +37,35 @@ struct Delivery<'a> {
     folder: &'a str,
 }
 
-/// Takes in a list at a moment; on a terminal it says how far it has come, and at last on `err` why rows were refused.
+/// Takes in a list, whose files are in that folder; on a terminal it says how far it has come, and at last on `err` why rows were refused.
 fn take_in_at<K: Keeper, W: Write, E: Write>(
     rt: &HostRuntime,
     keeper: &mut K,
-    at: Moment,
-    asked: &AskedIntake,
-    delivery: Delivery<'_>,
+    intake: ListedIntake<'_>,
+    folder: &str,
     out: &mut W,
     err: &mut E,
 ) -> Result<Outcome, JobFault>
     ensures printed { IfOk result (λ stated. PrintsRows stated (W.contents out.old) (W.contents out.new)) }
     ensures steady { IsIntakeSteady (K.count keeper.old) (K.count keeper.new) result (W.contents out.old) (W.contents out.new) }
-    ensures done { K.is_honest keeper.new → IfOk result (λ stated. IsTakenInAt at asked.now stated (K.vault keeper.old) (K.vault keeper.new) (W.contents out.old) (W.contents out.new)) }
+    ensures done { K.is_honest keeper.new
+        → IfOk result (λ stated. IsTakenInAt intake.entry.at intake.entry.asked.now stated (K.vault keeper.old) (K.vault keeper.new) (W.contents out.old) (W.contents out.new)) }
     ensures reached { K.is_honest keeper.new → Reached (K.vault keeper.old) → Reached (K.vault keeper.new) }
     ensures honest { K.is_honest keeper.new → K.is_honest keeper.old }
     ensures reader { result ≢ Err JobFault.Read }
     ensures device { result ≢ Err JobFault.Device }
 {
     let alloc = rt.alloc();
-    let Delivery { list, folder: path } = delivery;
-    let mut folder = ProgressFolder::new(DiskFolder::new(alloc, rt, path), terminal(rt));
-    let intake = ListedIntake { at, asked, list };
-    let (stated, report) = take_in_and_print(alloc, keeper, intake, &mut folder, out);
+    let mut files = ProgressFolder::new(DiskFolder::new(alloc, rt, folder), terminal(rt));
+    let (stated, report) = take_in_and_print(alloc, keeper, intake, &mut files, out);
     let taken = TakenList {
         alloc,
         files: rt,
-        list,
-        folder: path,
-        at,
+        list: intake.list,
+        folder,
+        at: intake.at,
     };
-    explain(&taken, &report, folder.faults() != 0, err);
+    explain(&taken, &report, files.faults() != 0, err);
     drop(report);
     stated
 }
@@ -97,7 +94,12 @@ fn take_in_read<K: Keeper, W: Write, E: Write>(
         say(err, remedy(Refusal::ClockOutOfRange));
         return refused;
     };
-    take_in_at(rt, keeper, at, asked, delivery, out, err)
+    let intake = ListedIntake {
+        at,
+        asked,
+        list: delivery.list,
+    };
+    take_in_at(rt, keeper, intake, delivery.folder, out, err)
 }
 
 /// Says that a list couldn't be read: on `out` by the line of a failed device, and on `err` why.

@@ -5,6 +5,8 @@ pub mod asked;
 pub mod evidence;
 pub mod intake;
 pub mod jobs;
+mod noting;
 pub mod saying;
+mod serving;
 pub mod terminal;
 pub mod work;

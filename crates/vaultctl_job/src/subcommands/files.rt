@@ -1,5 +1,5 @@
 //! Subcommands on a vault's file as a whole.
-ghost use Rattle.std.specs.Prelude.{◌≡◌, ◌∷◌, [], map};
+ghost use Rattle.std.specs.Prelude.{◌≡◌, map};
 ghost use Rattle.vaultctl_job.specs.Forms.{shape_for};
 ghost use Rattle.vaultctl_job.specs.Words as spec;
 
@@ -12,7 +12,7 @@ static ALL: [Subcommand; 8] = [
 
 /// All of them, in the order in which help shows them.
 pub(super) fn all() -> &'static [Subcommand]
-    ensures { map shape_for result.now ≡ spec.register_app.top ∷ spec.verify_app.top ∷ spec.events_app.top ∷ spec.seal_app.top ∷ spec.lawful_app.top ∷ spec.replay_app.top ∷ spec.serve_app.top ∷ spec.migrate_app.top ∷ [] }
+    ensures { map shape_for result.now ≡ spec.on_files }
 {
     &ALL
 }
@@ -118,6 +118,7 @@ const SERVE: Subcommand = Subcommand {
         Argument::Lines,
         Argument::Host,
         Argument::Log,
+        Argument::Journal,
     ],
 };
 

@@ -2,6 +2,7 @@ use Rattle.std.proofs.Common.{Err, inr, refl}
 use Rattle.std.proofs.lemmas.Result.{on_ok_weaker, IfErr-weaker}
 use Rattle.vault_core_model.specs.Leaves.{RoseOrIsFull}
 use Rattle.vault_core_model.proofs.Counts.{rose, stays}
+use Rattle.vault_http.specs.Hearing.{timed}
 use Rattle.vault_http.specs.declared.fault.ServeFault.TheVariants as faults
 use Rattle.vault_http.proofs.Counted.{reply_sent, step_steady}
 use Rattle.vault_http.proofs.Serves.{answer_left, answer_served}
@@ -36,3 +37,11 @@ returns-clause-steady g c =
     let b = g.W.Write.contents c.send.new.writer in
     step_steady _ c.send.result c.args.context.now.at c.args.context.now.shown c.args.context.now.caller _ _ _ _ c.args.command.now step.result a b step.ensures.step (stays _ _ _ step.ensures.leaves.counted)
     (reply_sent c.send.result c.args.context.now.at c.args.command.now c.args.context.now.shown step.result a b c.drops.result c.in-Ok.bytes.items c.as_slice.result.now c.drops.ensures c.in-Ok.ensures c.as_slice.ensures.value c.send.ensures.ok c.send.ensures.err)
+
+pub returns-in_default-clause-heard : goal.returns-in_default-clause-heard
+returns-in_default-clause-heard g c = λ h.
+    inr (timed c.args.context.now.at c.args.context.now.caller c.args.command.now, c.step-reply.result, refl, c.step-reply.ensures.step h, c.hear.ensures)
+
+pub returns-clause-heard : goal.returns-clause-heard
+returns-clause-heard g c = λ h.
+    inr (timed c.args.context.now.at c.args.context.now.caller c.args.command.now, c.step-reply.result, refl, c.step-reply.ensures.step h, c.hear.ensures)

@@ -10,26 +10,26 @@ use Rattle.vault_http.proofs.serve.serve_one.Goals as goal
 pub returns-clause-ok : goal.returns-clause-ok
 returns-clause-ok g c = λ h.
     let same : c.from_secs-moment.result ≡ moment_at c.args.reading = search rules in
-    let Failed = RoseOrIsFull (g.K.Kept.count c.args.keeper.now) (g.K.Kept.count c.serve_at.new.keeper) in
-    let P : List (List ℕ) → Option ℕ → Type 0 = λ hosts m. OnOk c.serve_at.result (Answered hosts Failed m (g.R.Read.remaining c.args.reader.now) (g.K.Kept.vault c.args.keeper.now) (g.K.Kept.vault c.serve_at.new.keeper) (g.W.Write.contents c.args.writer.now) (g.W.Write.contents c.serve_at.new.writer)) in
-    subst (λ (m : Option ℕ). P [] m) same (subst (λ (hosts : List (List ℕ)). P hosts c.from_secs-moment.result) c.any-hosts.ensures (c.serve_at.ensures.ok h))
+    let Failed = RoseOrIsFull (g.K.Kept.count c.args.keeper.now) (g.K.Kept.count c.serve_for.new.keeper) in
+    let P : List (List ℕ) → Option ℕ → Type 0 = λ hosts m. OnOk c.serve_for.result (Answered hosts Failed m (g.R.Read.remaining c.args.reader.now) (g.K.Kept.vault c.args.keeper.now) (g.K.Kept.vault c.serve_for.new.keeper) (g.W.Write.contents c.args.writer.now) (g.W.Write.contents c.serve_for.new.writer)) in
+    subst (λ (m : Option ℕ). P [] m) same (subst (λ (hosts : List (List ℕ)). P hosts c.from_secs-moment.result) c.any-hosts.ensures (c.serve_for.ensures.ok h))
 
 pub returns-clause-err : goal.returns-clause-err
 returns-clause-err g c = λ h.
     let same : c.from_secs-moment.result ≡ moment_at c.args.reading = search rules in
-    let Failed = RoseOrIsFull (g.K.Kept.count c.args.keeper.now) (g.K.Kept.count c.serve_at.new.keeper) in
-    let P : List (List ℕ) → Option ℕ → Type 0 = λ hosts m. IfErr c.serve_at.result (λ e. Unanswered hosts Failed e m (g.R.Read.remaining c.args.reader.now) (g.R.Read.remaining c.serve_at.new.reader) (g.K.Kept.vault c.args.keeper.now) (g.K.Kept.vault c.serve_at.new.keeper) (g.W.Write.contents c.args.writer.now) (g.W.Write.contents c.serve_at.new.writer)) in
-    subst (λ (m : Option ℕ). P [] m) same (subst (λ (hosts : List (List ℕ)). P hosts c.from_secs-moment.result) c.any-hosts.ensures (c.serve_at.ensures.err h))
+    let Failed = RoseOrIsFull (g.K.Kept.count c.args.keeper.now) (g.K.Kept.count c.serve_for.new.keeper) in
+    let P : List (List ℕ) → Option ℕ → Type 0 = λ hosts m. IfErr c.serve_for.result (λ e. Unanswered hosts Failed e m (g.R.Read.remaining c.args.reader.now) (g.R.Read.remaining c.serve_for.new.reader) (g.K.Kept.vault c.args.keeper.now) (g.K.Kept.vault c.serve_for.new.keeper) (g.W.Write.contents c.args.writer.now) (g.W.Write.contents c.serve_for.new.writer)) in
+    subst (λ (m : Option ℕ). P [] m) same (subst (λ (hosts : List (List ℕ)). P hosts c.from_secs-moment.result) c.any-hosts.ensures (c.serve_for.ensures.err h))
 
 pub returns-clause-taken : goal.returns-clause-taken
 returns-clause-taken g c =
     let same : c.from_secs-moment.result ≡ moment_at c.args.reading = search rules in
-    let P : List (List ℕ) → Option ℕ → Type 0 = λ hosts m. OnOk c.serve_at.result (Taken hosts m (g.R.Read.remaining c.args.reader.now) (g.R.Read.remaining c.serve_at.new.reader)) in
-    subst (λ (m : Option ℕ). P [] m) same (subst (λ (hosts : List (List ℕ)). P hosts c.from_secs-moment.result) c.any-hosts.ensures c.serve_at.ensures.taken)
+    let P : List (List ℕ) → Option ℕ → Type 0 = λ hosts m. OnOk c.serve_for.result (Taken hosts m (g.R.Read.remaining c.args.reader.now) (g.R.Read.remaining c.serve_for.new.reader)) in
+    subst (λ (m : Option ℕ). P [] m) same (subst (λ (hosts : List (List ℕ)). P hosts c.from_secs-moment.result) c.any-hosts.ensures c.serve_for.ensures.taken)
 
 pub returns-clause-steady : goal.returns-clause-steady
 returns-clause-steady g c =
     let same : c.from_secs-moment.result ≡ moment_at c.args.reading = search rules in
     let before = c.args.keeper.now in
-    let after = c.serve_at.new.keeper in
-    subst (λ (m : Option ℕ). Steady (g.K.Kept.is_honest after) c.serve_at.result m (g.K.Kept.vault before) (g.K.Kept.vault after) (g.K.Kept.count before) (g.K.Kept.count after) (g.W.Write.contents c.args.writer.now) (g.W.Write.contents c.serve_at.new.writer)) same c.serve_at.ensures.steady
+    let after = c.serve_for.new.keeper in
+    subst (λ (m : Option ℕ). Steady (g.K.Kept.is_honest after) c.serve_for.result m (g.K.Kept.vault before) (g.K.Kept.vault after) (g.K.Kept.count before) (g.K.Kept.count after) (g.W.Write.contents c.args.writer.now) (g.W.Write.contents c.serve_for.new.writer)) same c.serve_for.ensures.steady

@@ -6,13 +6,13 @@ use Rattle.vault_http.proofs.serve.serve_plan.Goals as goal
 
 pub returns-clause-ok : goal.returns-clause-ok
 returns-clause-ok g c = λ h.
-    on_ok_weaker c.conclude.result (λ d. plan_served (RoseOrIsFull (g.K.Kept.count c.args.keeper.now) (g.K.Kept.count c.conclude.new.keeper)) c.args.shown c.args.plan _ _ _ _ _ _ c.in_ok-judged.judged c.in_ok-judged.ensures.command (rw c.in_ok-judged.ensures.reported at c.send_interim-stated.ensures.ok) d) (c.conclude.ensures.ok h)
+    on_ok_weaker c.conclude.result (λ d. plan_served (RoseOrIsFull (g.K.Kept.count c.args.keeper.now) (g.K.Kept.count c.conclude.new.keeper)) c.args.planned.shown c.args.planned.plan _ _ _ _ _ _ c.in_ok-judged.judged c.in_ok-judged.ensures.command (rw c.in_ok-judged.ensures.reported at c.send_interim-stated.ensures.ok) d) (c.conclude.ensures.ok h)
 
 pub returns-clause-err : goal.returns-clause-err
 returns-clause-err g c = λ h.
-    IfErr-weaker c.conclude.result _ _ (λ e d. plan_left (RoseOrIsFull (g.K.Kept.count c.args.keeper.now) (g.K.Kept.count c.conclude.new.keeper)) c.args.shown c.args.plan _ _ _ _ _ _ _ e c.in_ok-judged.judged c.in_ok-judged.ensures.command (rw c.in_ok-judged.ensures.reported at c.send_interim-stated.ensures.ok) d) (c.conclude.ensures.err h)
+    IfErr-weaker c.conclude.result _ _ (λ e d. plan_left (RoseOrIsFull (g.K.Kept.count c.args.keeper.now) (g.K.Kept.count c.conclude.new.keeper)) c.args.planned.shown c.args.planned.plan _ _ _ _ _ _ _ e c.in_ok-judged.judged c.in_ok-judged.ensures.command (rw c.in_ok-judged.ensures.reported at c.send_interim-stated.ensures.ok) d) (c.conclude.ensures.err h)
 
 pub returns-clause-steady : goal.returns-clause-steady
 returns-clause-steady g c =
-    plan_steady _ c.conclude.result c.args.plan.at c.args.shown c.args.plan.headers.caller _ _ _ _ c.in_ok-judged.judged c.args.plan.headers.waits (g.W.Write.contents c.args.writer.now) (g.W.Write.contents c.send_interim-stated.new.writer) (g.W.Write.contents c.conclude.new.writer)
+    plan_steady _ c.conclude.result c.args.planned.plan.at c.args.planned.shown c.args.planned.plan.headers.caller _ _ _ _ c.in_ok-judged.judged c.args.planned.plan.headers.waits (g.W.Write.contents c.args.writer.now) (g.W.Write.contents c.send_interim-stated.new.writer) (g.W.Write.contents c.conclude.new.writer)
     (rw c.in_ok-judged.ensures.reported at c.send_interim-stated.ensures.ok) c.conclude.ensures.steady

@@ -16,7 +16,7 @@ pub returns-in-Ok-clause-done : goal.returns-in-Ok-clause-done
 returns-in-Ok-clause-done g c = λ z.
     holds_at_zero
     (λ outcome. Carries (image_at g.A.Start) c.args.machine.now.closed.items c.with_vault-outcome.new.machine.closed.items
-    (λ v w. g.T.Work.does c.args.work.now (scene v (g.R.Read.remaining c.args.reader.now) (g.W.Write.contents c.args.out.now))
+    (λ v w. g.T.Work.does c.args.task.work.now (scene v (g.R.Read.remaining c.args.reader.now) (g.W.Write.contents c.args.out.now))
     (scene w (g.R.Read.remaining c.with_vault-outcome.new.reader) (g.W.Write.contents c.with_vault-outcome.new.out)) outcome))
     c.with_vault-outcome.result
     (carries_from _ _ _ _ _ c.with_vault-outcome.ensures.done (along c.in-Ok.ensures.closed (λ l. l.items)))

@@ -15,3 +15,6 @@ returns-clause-ok g c =
     let step = c.step-reply in
     command_replied _ (g.K.Kept.vault before) (g.K.Kept.vault step.new.keeper) (g.K.Kept.count before) (g.K.Kept.count step.new.keeper) c.args.timed step.result
     step.ensures.step step.ensures.leaves.counted c.stated.result c.stated.ensures
+
+pub returns-clause-heard : goal.returns-clause-heard
+returns-clause-heard g c = λ h. (c.step-reply.result, c.step-reply.ensures.step h, c.hear.ensures)

@@ -1,10 +1,8 @@
-use Rattle.std.proofs.Common.{◌≡◌, ℕ, ℤ, List, Option, IfErr, OnOk, ap, subst, to_z-of_z}
+use Rattle.std.proofs.Common.{◌≡◌, ℕ, List, Option, IfErr, OnOk, ap, subst}
 use Rattle.std.proofs.lemmas.Result.{IfErr-weaker}
-use Rattle.vault_base.specs.Days.{moment_at}
 use Rattle.vault_core_model.specs.Leaves.{RoseOrIsFull}
 use Rattle.vault_http.specs.Exchange.{Answered}
 use Rattle.vault_http.specs.Left.{Unanswered}
-use Rattle.vault_http.specs.Steady.{Steady}
 use Rattle.vaultctl_serve.specs.InTime.{known_in_time}
 use Rattle.vaultctl_serve.specs.declared.scan.Scan.TheVariants.{Leading}
 use Rattle.vaultctl_serve.proofs.InTimeLemmas.{left_of, request-remaining}
@@ -20,10 +18,8 @@ returns-clause-ok g c =
     let same : unread ≡ known = request-remaining c.in-Ok.reader c.new.result (λ r. r.scan) (λ r. g.I.Inbound.coming r.inbound) Leading (g.I.Inbound.coming c.args.inbound)
     c.in-Ok.ensures.inner c.in-Ok.ensures.empty c.in-Ok.ensures.capacity c.new.ensures.scan (ap (λ i. g.I.Inbound.coming i) c.new.ensures.inbound) in
     let Failed = RoseOrIsFull (g.K.Kept.count c.args.keeper.now) (g.K.Kept.count c.serve_for.new.keeper) in
-    let Ok : ℤ → Option (List ℕ) → Type 0 = λ z bytes. OnOk c.serve_for.result (Answered c.args.hosts.now Failed (moment_at z) bytes (g.K.Kept.vault c.args.keeper.now) (g.K.Kept.vault c.serve_for.new.keeper) (g.W.Write.contents c.args.writer.now) (g.W.Write.contents c.serve_for.new.writer)) in
-    let P : ℤ → Type 0 = λ z. Ok z unread in
-    let Q : Option (List ℕ) → Type 0 = λ bytes. Ok c.args.reading bytes in
-    λ h. subst Q same (subst P (to_z-of_z c.ranges.reading) (c.serve_for.ensures.ok h))
+    let P : Option (List ℕ) → Type 0 = λ bytes. OnOk c.serve_for.result (Answered c.args.occasion.hosts.now Failed c.args.occasion.moment bytes (g.K.Kept.vault c.args.keeper.now) (g.K.Kept.vault c.serve_for.new.keeper) (g.W.Write.contents c.args.writer.now) (g.W.Write.contents c.serve_for.new.writer)) in
+    λ h. subst P same (c.serve_for.ensures.ok h)
 
 pub returns-clause-err : goal.returns-clause-err
 returns-clause-err g c =
@@ -33,22 +29,15 @@ returns-clause-err g c =
     c.in-Ok.ensures.inner c.in-Ok.ensures.empty c.in-Ok.ensures.capacity c.new.ensures.scan (ap (λ i. g.I.Inbound.coming i) c.new.ensures.inbound) in
     let Failed = RoseOrIsFull (g.K.Kept.count c.args.keeper.now) (g.K.Kept.count c.serve_for.new.keeper) in
     let rest = left_of c.serve_for.new.reader (λ r. r.scan) (λ r. g.I.Inbound.coming r.inbound) in
-    let Er : ℤ → Option (List ℕ) → Type 0 = λ z bytes. IfErr c.serve_for.result (λ e. Unanswered c.args.hosts.now Failed e (moment_at z) bytes rest (g.K.Kept.vault c.args.keeper.now) (g.K.Kept.vault c.serve_for.new.keeper) (g.W.Write.contents c.args.writer.now) (g.W.Write.contents c.serve_for.new.writer)) in
-    let P : ℤ → Type 0 = λ z. Er z unread in
-    let Q : Option (List ℕ) → Type 0 = λ bytes. Er c.args.reading bytes in
-    λ h. IfErr-weaker c.serve_for.result _ _ (λ e d. (rest, d)) (subst Q same (subst P (to_z-of_z c.ranges.reading) (c.serve_for.ensures.err h)))
+    let P : Option (List ℕ) → Type 0 = λ bytes. IfErr c.serve_for.result (λ e. Unanswered c.args.occasion.hosts.now Failed e c.args.occasion.moment bytes rest (g.K.Kept.vault c.args.keeper.now) (g.K.Kept.vault c.serve_for.new.keeper) (g.W.Write.contents c.args.writer.now) (g.W.Write.contents c.serve_for.new.writer)) in
+    λ h. IfErr-weaker c.serve_for.result _ _ (λ e d. (rest, d)) (subst P same (c.serve_for.ensures.err h))
 
 pub returns-clause-late : goal.returns-clause-late
 returns-clause-late g c = λ h.
-    waits-for-all c.args.hosts.now (RoseOrIsFull (g.K.Kept.count c.args.keeper.now) (g.K.Kept.count c.serve_for.new.keeper)) (moment_at c.args.reading) (known_in_time Leading (g.I.Inbound.coming c.args.inbound))
+    waits-for-all c.args.occasion.hosts.now (RoseOrIsFull (g.K.Kept.count c.args.keeper.now) (g.K.Kept.count c.serve_for.new.keeper)) c.args.occasion.moment (known_in_time Leading (g.I.Inbound.coming c.args.inbound))
     (g.K.Kept.vault c.args.keeper.now) (g.K.Kept.vault c.serve_for.new.keeper) (g.W.Write.contents c.args.writer.now) (g.W.Write.contents c.serve_for.new.writer) c.serve_for.result (returns-clause-ok g c h) (returns-clause-err g c h)
 
 pub returns-clause-strangers : goal.returns-clause-strangers
 returns-clause-strangers g c = λ h.
-    refuses-strangers c.args.hosts.now (RoseOrIsFull (g.K.Kept.count c.args.keeper.now) (g.K.Kept.count c.serve_for.new.keeper)) (moment_at c.args.reading) (known_in_time Leading (g.I.Inbound.coming c.args.inbound))
+    refuses-strangers c.args.occasion.hosts.now (RoseOrIsFull (g.K.Kept.count c.args.keeper.now) (g.K.Kept.count c.serve_for.new.keeper)) c.args.occasion.moment (known_in_time Leading (g.I.Inbound.coming c.args.inbound))
     (g.K.Kept.vault c.args.keeper.now) (g.K.Kept.vault c.serve_for.new.keeper) (g.W.Write.contents c.args.writer.now) (g.W.Write.contents c.serve_for.new.writer) c.serve_for.result (returns-clause-ok g c h) (returns-clause-err g c h)
-
-pub returns-clause-steady : goal.returns-clause-steady
-returns-clause-steady g c =
-    let P : ℤ → Type 0 = λ z. Steady (g.K.Kept.is_honest c.serve_for.new.keeper) c.serve_for.result (moment_at z) (g.K.Kept.vault c.args.keeper.now) (g.K.Kept.vault c.serve_for.new.keeper) (g.K.Kept.count c.args.keeper.now) (g.K.Kept.count c.serve_for.new.keeper) (g.W.Write.contents c.args.writer.now) (g.W.Write.contents c.serve_for.new.writer) in
-    subst P (to_z-of_z c.ranges.reading) c.serve_for.ensures.steady

@@ -1,6 +1,6 @@
 use Rattle.std.proofs.Common.{refl, inl, arith}
 use Rattle.vaultctl_serve.proofs.ReportLemmas.{reports-then}
-use Rattle.vaultctl_serve.proofs.ServingLemmas.{OnTime-append, OnTime-none, OnTime-stepped, Stepped-more, Stepped-reached}
+use Rattle.vaultctl_serve.proofs.ServingLemmas.{HearsAll-more, HearsAll-none, OnTime-append, OnTime-none, OnTime-stepped, Stepped-more, Stepped-reached, While-all, While-ended}
 use Rattle.vaultctl_serve.proofs.server.serve_arrivals.Goals as goal
 
 pub loop-init : goal.loop-init
@@ -10,6 +10,7 @@ loop-init g c =
       counted = omega arith;
       reported = inl (refl, refl);
       timely = λ h. OnTime-none (g.A.Arrivals.tries c.args.arrivals.now) (g.K.Kept.vault c.args.keeper.now);
+      heard = λ h. HearsAll-none g.H.Hears.going g.H.Hears.hears c.args.hears.now (g.K.Kept.vault c.args.keeper.now);
     }
 
 -- the steps so far, and then that of this connection
@@ -19,6 +20,7 @@ loop-preserved g c = record {
   counted = omega (arith, c.loop.invariant.counted, c.serve_watched.ensures.leaves.1);
   reported = reports-then g.T.Reporter.fails _ _ _ _ _ _ _ c.faults-since.ensures c.loop.invariant.counted c.serve_watched.ensures.leaves.1 c.loop.invariant.reported c.serve_watched.ensures.reported c.serve_watched.ensures.once;
   timely = λ h. OnTime-append c.loop.counter 1 _ _ _ _ _ _ (c.loop.invariant.timely (c.serve_watched.ensures.leaves.0 h)) (c.serve_watched.ensures.timely h);
+  heard = λ h. HearsAll-more g.H.Hears.going g.H.Hears.hears _ _ _ _ _ _ (c.loop.invariant.heard (c.serve_watched.ensures.leaves.0 h)) ? (c.serve_watched.ensures.heard h);
 }
 
 pub returns-clause-stepped : goal.returns-clause-stepped
@@ -26,3 +28,6 @@ returns-clause-stepped g c = λ h. Stepped-more c.loop.counter c.args.count _ _ 
 
 pub returns-clause-reached : goal.returns-clause-reached
 returns-clause-reached g c = λ h before. Stepped-reached _ _ _ (OnTime-stepped _ _ _ _ _ (c.loop.invariant.timely h)) before
+
+pub returns-clause-timely : goal.returns-clause-timely
+returns-clause-timely g c = λ h. While-all _ c.loop.counter c.args.count _ _ _ _ (omega arith) (c.loop.invariant.timely h)

@@ -1,4 +1,4 @@
-use Rattle.std.proofs.Common.{◌≡◌, ℤ, Option, List, FitsSigned, rules, subst, sym, to_z, to_z-of_z, of_z, w64}
+use Rattle.std.proofs.Common.{◌≡◌, ℤ, Option, None, List, inl, refl, FitsSigned, rules, subst, sym, to_z, to_z-of_z, of_z, w64}
 use Rattle.vault_base.specs.Days.{moment_at}
 use Rattle.vault_http.specs.Left.{AtMostOne}
 use Rattle.vaultctl_serve.specs.Serving.{SteppedOnTime, Try}
@@ -17,3 +17,9 @@ returns-in-Ok-clause-timely g c =
     let P : ℤ → Type 0 = λ z. AtMostOne (moment_at z) old new in
     let Q : Option (List Try) → Type 0 = λ after. SteppedOnTime 1 before after old new in
     λ h. subst Q (sym c.serve_taken.ensures.tries) (OnTime-taken before (g.A.Arrivals.tries c.take.new.self) (g.A.Arrivals.shown c.take.new.self) (moment_at reading) old new c.in-Ok.ensures c.reading-reading.ensures (subst P same (c.serve_taken.ensures.once h)))
+
+pub returns-in-Ok-clause-heard : goal.returns-in-Ok-clause-heard
+returns-in-Ok-clause-heard g c = λ h. (_, c.serve_taken.ensures.heard h)
+
+pub returns-clause-heard : goal.returns-clause-heard
+returns-clause-heard g c = λ h. (None, inl (refl, refl))

@@ -1,4 +1,4 @@
-use Rattle.std.proofs.Common.{◌≡◌, ◌∙◌, ℤ, FitsSigned, rules, subst, sym, to_z, to_z-of_z, of_z, w64}
+use Rattle.std.proofs.Common.{◌≡◌, ◌∙◌, ℕ, Option, FitsSigned, rules, subst, sym, to_z, to_z-of_z, of_z, w64}
 use Rattle.vault_base.specs.Days.{moment_at}
 use Rattle.vault_http.specs.Left.{AtMostOne}
 use Rattle.vaultctl_serve.proofs.AccountLemmas.{late-unread}
@@ -12,13 +12,14 @@ returns-clause-logged g c =
     let new = g.K.Kept.vault c.serve_connection-served.new.keeper in
     let fits : FitsSigned w64 reading = search rules in
     let same : to_z w64 (of_z w64 reading) ≡ reading = to_z-of_z fits in
-    let P : ℤ → Type 0 = λ z. AtMostOne (moment_at z) old new in
+    let shown : c.from_secs-moment.result ≡ moment_at reading = rw same at c.from_secs-moment.ensures in
+    let P : Option ℕ → Type 0 = λ m. AtMostOne m old new in
     let entry = c.request.result in
     λ h. (
       entry.facts,
       entry.asked.now,
       entry.answered.now,
       c.log.ensures.logs,
-      (rw same at c.request.ensures.moment, subst P same (c.serve_connection-served.ensures.once h)),
+      (rw same at c.request.ensures.moment, subst P shown (c.serve_connection-served.ensures.once h)),
       λ late. c.serve_connection-served.ensures.unread (late-unread c.serve_connection-served.result (sym c.trouble_of.ensures ∙ sym c.request.ensures.trouble ∙ late)),
     )

@@ -35,3 +35,6 @@ returns-clause-logged g c =
         (rw same at c.line.ensures.moment, subst P same (c.answer_talker-answering.ensures.once h)),
       ),
     )
+
+pub returns-clause-heard : goal.returns-clause-heard
+returns-clause-heard g c = λ h. (_, c.answer_talker-answering.ensures.heard h)

@@ -1,6 +1,6 @@
 use Rattle.std.proofs.Common.{◌≡◌, ◌+◌, ◌≤◌, ℕ, arith, subst, sym}
 use Rattle.vaultctl_serve.proofs.ReportLemmas.{reports-then}
-use Rattle.vaultctl_serve.proofs.ServingLemmas.{Stepped-more, Stepped-reached}
+use Rattle.vaultctl_serve.proofs.ServingLemmas.{HearsAll-more, Stepped-more, Stepped-reached}
 use Rattle.vaultctl_serve_lines.specs.Doors.{most_of, SteppedWithin}
 use Rattle.vaultctl_serve_lines.specs.declared.turns.Turn.{Turn}
 use Rattle.vaultctl_serve_lines.proofs.TurnLemmas.{Within-append, Within-more, Within-stepped}
@@ -35,6 +35,9 @@ returns-in-End-clause-stepped g c = λ h. Within-stepped c.args.count _ _ _ _ (r
 pub returns-in-End-clause-reached : goal.returns-in-End-clause-reached
 returns-in-End-clause-reached g c = λ h before. Stepped-reached c.args.count _ _ (returns-in-End-clause-stepped g c h) before
 
+pub returns-in-End-clause-heard : goal.returns-in-End-clause-heard
+returns-in-End-clause-heard g c = λ h. HearsAll-more g.H.Hears.going g.H.Hears.hears _ _ _ _ _ _ (c.loop-turn.invariant.heard (c.watch_turn.ensures.leaves.0 h)) ? (c.watch_turn.ensures.heard h)
+
 -- the turns so far, and then this one, which took nothing or one
 pub loop-turn-preserved : goal.loop-turn-preserved
 loop-turn-preserved g c =
@@ -60,6 +63,7 @@ loop-turn-preserved g c =
       counted = omega (arith, c.loop-turn.invariant.counted, c.watch_turn.ensures.leaves.1);
       reported = reports-then g.T.Reporter.fails _ _ _ _ _ _ _ c.faults-since.ensures c.loop-turn.invariant.counted c.watch_turn.ensures.leaves.1 c.loop-turn.invariant.reported c.watch_turn.ensures.reported c.watch_turn.ensures.once;
       timely = λ h. subst P (sym summed) (Within-append taken (most_of c.watch_turn.result) before mid after old between new (c.loop-turn.invariant.timely (c.watch_turn.ensures.leaves.0 h)) (c.watch_turn.ensures.timely h));
+      heard = λ h. HearsAll-more g.H.Hears.going g.H.Hears.hears _ _ _ _ _ _ (c.loop-turn.invariant.heard (c.watch_turn.ensures.leaves.0 h)) ? (c.watch_turn.ensures.heard h);
     }
 
 -- nothing came any more

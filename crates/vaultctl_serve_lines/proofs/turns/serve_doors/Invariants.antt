@@ -1,9 +1,10 @@
 use Rattle.std.proofs.Common.{◌≤◌}
+use Rattle.vault_http.specs.Hearing.{HearsAll}
 use Rattle.vaultctl_serve.specs.Serving.{ReportsOnce}
 use Rattle.vaultctl_serve_lines.specs.Doors.{SteppedWithin}
 use Rattle.vaultctl_serve_lines.proofs.turns.serve_doors.Given as goal
 
--- as many as were counted were taken at most, each made at most one step at its reading, and a failure was reported once
+-- as many as were counted were taken at most, each made at most one step at its reading, which was heard of, and a failure was reported once
 abbrev pub invariant-loop-turn : goal.invariant-loop-turn
 invariant-loop-turn g l = record {
   within : l.taken ≤ l.fn.count;
@@ -11,4 +12,5 @@ invariant-loop-turn g l = record {
   counted : g.K.Kept.count l.fn.keeper ≤ g.K.Kept.count l.keeper;
   reported : ReportsOnce g.T.Reporter.fails (g.K.Kept.count l.fn.keeper) (g.K.Kept.count l.keeper) l.fn.reporter l.reporter;
   timely : g.K.Kept.is_honest l.keeper → SteppedWithin l.taken (g.D.Doors.tries l.fn.doors) (g.D.Doors.tries l.doors) (g.K.Kept.vault l.fn.keeper) (g.K.Kept.vault l.keeper);
+  heard : g.K.Kept.is_honest l.keeper → HearsAll g.H.Hears.going g.H.Hears.hears l.fn.hears l.hears (g.K.Kept.vault l.fn.keeper) (g.K.Kept.vault l.keeper);
 }

@@ -1,4 +1,4 @@
-use Rattle.std.proofs.Common.{◌≡◌, List, Option, subst, sym, ◌∙◌}
+use Rattle.std.proofs.Common.{◌≡◌, List, Option, None, inl, refl, subst, sym, ◌∙◌}
 use Rattle.vaultctl_serve.specs.Serving.{Try}
 use Rattle.vaultctl_serve_lines.specs.Doors.{most_of, SteppedWithin}
 use Rattle.vaultctl_serve_lines.proofs.TurnLemmas.{takes-one, Within-more, Within-taken}
@@ -24,3 +24,7 @@ returns-in-Line-clause-timely g c =
     λ h. let steps = c.answer_heard-answered.ensures.timely h in
     Within-more 1 (most_of c.turn_of.result) before (g.D.Doors.tries c.part.new.doors) old new (takes-one c.answer_heard-answered.result c.turn_of.result c.turn_of.ensures)
     (subst Q (sym (c.part.ensures ∙ c.answer_heard-answered.ensures.tries)) (Within-taken before (g.D.Doors.tries c.next.new.self) (g.D.Doors.shown c.next.new.self) steps.0 old new c.in-Line.ensures steps.1 steps.2))
+
+-- nothing came
+pub returns-in-Nothing-clause-heard : goal.returns-in-Nothing-clause-heard
+returns-in-Nothing-clause-heard g c = λ h. (None, inl (refl, refl))

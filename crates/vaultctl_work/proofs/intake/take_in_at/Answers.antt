@@ -10,4 +10,4 @@ pub returns-clause-printed : goal.returns-clause-printed
 returns-clause-printed g c = IfOk-weaker c.take_in_and_print-stated.result.0 _ _ (λ stated it. inl it) c.take_in_and_print-stated.ensures.printed
 
 pub returns-clause-done : goal.returns-clause-done
-returns-clause-done g c = λ h. IfOk-weaker c.take_in_and_print-stated.result.0 _ _ (λ stated it. (None, c.args.delivery.list.now, it)) (c.take_in_and_print-stated.ensures.ok h)
+returns-clause-done g c = λ h. IfOk-weaker c.take_in_and_print-stated.result.0 _ _ (λ stated it. (None, c.args.intake.list.now, it)) (c.take_in_and_print-stated.ensures.ok h)

@@ -1,0 +1,6 @@
+pub mod RulePuts
+pub mod RightsNames
+pub mod RuleMembers
+pub mod Texts
+pub mod Asking
+pub mod Reading

@@ -1,0 +1,4 @@
+pub mod Members
+pub mod Spelled
+pub mod Lines
+pub mod Object

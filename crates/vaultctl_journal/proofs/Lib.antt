@@ -1,0 +1,6 @@
+pub mod Unchanged
+pub mod Runs
+pub mod Parts
+pub mod Notes
+pub mod Leads
+pub mod LastLine
