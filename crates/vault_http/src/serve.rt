@@ -30,7 +30,7 @@ struct Planned {
 }
 
 /// When a request is served, and for whom.
-#[derive(Clone, Copy)]
+#[derive(Drop)]
 pub struct Occasion<'a> {
     /// The moment that the clock shows; none where its reading is no moment.
     pub moment: Option<Moment>,
@@ -114,7 +114,7 @@ pub fn serve_one<R: Read, W: Write, K: Keeper>(
         moment,
         hosts: &hosts,
     };
-    serve_for(alloc, reader, writer, keeper, &mut Nobody, occasion)
+    serve_for(alloc, reader, writer, keeper, &mut Nobody, &occasion)
 }
 
 /// As `serve_one`, where requests for these hosts are answered, and for this machine; where there are none, for any host.
@@ -128,19 +128,18 @@ pub fn serve_for<R: Read, W: Write, K: Keeper, H: Hears>(
     writer: &mut W,
     keeper: &mut K,
     hears: &mut H,
-    occasion: Occasion<'_>,
+    occasion: &Occasion<'_>,
 ) -> Result<(), ServeFault>
-    ensures ok { AnsweredBy K.Kept keeper.old keeper.new R.Read reader.old reader.new W.Write writer.old writer.new result occasion.entry.hosts.now occasion.entry.moment }
-    ensures err { UnansweredBy K.Kept keeper.old keeper.new R.Read reader.old reader.new W.Write writer.old writer.new result occasion.entry.hosts.now occasion.entry.moment }
-    ensures once { K.is_honest keeper.new → left.AtMostOne occasion.entry.moment (K.vault keeper.old) (K.vault keeper.new) }
-    ensures heard { K.is_honest keeper.new → HearsOnce H.hears hears.old hears.new occasion.entry.moment (K.vault keeper.old) (K.vault keeper.new) }
+    ensures ok { AnsweredBy K.Kept keeper.old keeper.new R.Read reader.old reader.new W.Write writer.old writer.new result occasion.now.hosts.now occasion.now.moment }
+    ensures err { UnansweredBy K.Kept keeper.old keeper.new R.Read reader.old reader.new W.Write writer.old writer.new result occasion.now.hosts.now occasion.now.moment }
+    ensures once { K.is_honest keeper.new → left.AtMostOne occasion.now.moment (K.vault keeper.old) (K.vault keeper.new) }
+    ensures heard { K.is_honest keeper.new → HearsOnce H.hears hears.old hears.new occasion.now.moment (K.vault keeper.old) (K.vault keeper.new) }
     ensures unread { result ≡ Err faults.Read → K.vault keeper.new ≡ K.vault keeper.old }
-    ensures taken { OnOk result (left.Taken occasion.entry.hosts.now occasion.entry.moment (R.remaining reader.old) (R.remaining reader.new)) }
+    ensures taken { OnOk result (left.Taken occasion.now.hosts.now occasion.now.moment (R.remaining reader.old) (R.remaining reader.new)) }
     ensures leaves { left.LeavesNoLess K.Kept keeper.old keeper.new }
-    ensures steady { SteadyBy K.Kept keeper.old keeper.new W.Write writer.old writer.new result occasion.entry.moment }
+    ensures steady { SteadyBy K.Kept keeper.old keeper.new W.Write writer.old writer.new result occasion.now.moment }
 {
-    let Occasion { moment, hosts } = occasion;
-    match judge_request(alloc, reader, hosts, &moment)? {
+    match judge_request(alloc, reader, occasion.hosts, &occasion.moment)? {
         Judgement::Nothing => Ok(()),
         Judgement::Denied(refusal, allow, shown) => {
             let denial = Denial {
@@ -148,7 +147,7 @@ pub fn serve_for<R: Read, W: Write, K: Keeper, H: Hears>(
                 allow,
                 shown,
             };
-            deny(alloc, writer, moment, &denial)
+            deny(alloc, writer, occasion.moment, &denial)
         }
         Judgement::Planned(plan, shown) => {
             let planned = Planned { plan, shown };

@@ -12,7 +12,7 @@ use Rattle.vault_http_values.specs.Document.{json_of}
 use Rattle.vault_http_lines.specs.ReadLine.{line_of, without_cr}
 use Rattle.vault_http_lines.specs.declared.read_line.Line.TheVariants as line
 use Rattle.vault_http_lines.proofs.LineLemmas.{spelled-is-command}
-use Rattle.vault_http_commands.specs.Lines.{HasNoLf}
+use Rattle.vault_http_commands.specs.Lines.{HasNoLf, SpellsTimed}
 use Rattle.vault_http_commands.specs.Members.{line_value}
 use Rattle.vault_http_commands.specs.Spelled.{IsTimedSpelled}
 use Rattle.vault_http_commands.proofs.Asking.{asks}
@@ -53,7 +53,8 @@ module _ (text : List ℕ) (d : Data) (t : Timed) (is : d ≡ line_value t) (spe
       let deep : depth d ≤ max_depth = subst (λ x. depth x ≤ max_depth) (sym is) (asks t spelled).flat in
       ap json_of kept ∙ ap (λ b. if b then read text else None) (is_utf8-from_IsUtf8 text utf8) ∙ reads deep ∙ ap (λ x. Some x) is
 
+  pub text-spells : IsUtf8 text → (depth d ≤ max_depth → read text ≡ Some d) → SpellsTimed text t
+  text-spells utf8 reads = let a = asks t spelled in (line_value t, is-value utf8 reads, a.shape, a.spelled)
+
   pub text-asks : IsUtf8 text → (depth d ≤ max_depth → read text ≡ Some d) → length text ≤ 4194304 → line_of text ≡ line.Command t
-  text-asks utf8 reads short =
-      let a = asks t spelled in
-      spelled-is-command text t (short, (line_value t, is-value utf8 reads, a.shape, a.spelled))
+  text-asks utf8 reads short = spelled-is-command text t (short, text-spells utf8 reads)

@@ -3,7 +3,7 @@ ghost use Rattle.std.specs.Prelude.{◌≡◌, ◌≤◌, IfOk, OnOk, length, st
 ghost use Rattle.serde_json.specs.View.{view, members_view};
 ghost use Rattle.vault_http_lines.specs.ReadLine.{line_of};
 ghost use Rattle.vault_http_lines.specs.declared.read_line.Line.TheVariants as line;
-ghost use Rattle.vault_http_commands.specs.Lines.{HasNoLf};
+ghost use Rattle.vault_http_commands.specs.Lines.{HasNoLf, SpellsTimed};
 ghost use Rattle.vault_http_commands.specs.Members as spec;
 ghost use Rattle.vault_http_commands.specs.Spelled.{IsSpelled, IsTimedSpelled};
 
@@ -92,6 +92,7 @@ pub fn command_line(
     command: &Command,
 ) -> Result<String, AllocError>
     ensures text { IfOk result (λ text. string_bytes text ≡ spec.line_text (spec.timed at who.now command.now)) }
+    ensures spelled { IfOk result (λ text. SpellsTimed (string_bytes text) (spec.timed at who.now command.now)) }
     ensures reads { IfOk result (λ text. length (string_bytes text) ≤ 4194304 → line_of (string_bytes text) ≡ line.Command (spec.timed at who.now command.now)) }
     ensures one_line { IfOk result (λ text. HasNoLf (string_bytes text)) }
 {

@@ -52,7 +52,7 @@ fn put_at<K: Keeper, H: Hears>(
         moment: Moment::from_secs(READING),
         hosts,
     };
-    let _ = serve_in_time(alloc, request, &mut answer, keeper, hears, occasion);
+    let _ = serve_in_time(alloc, request, &mut answer, keeper, hears, &occasion);
     Ok(String::from_utf8(answer)?)
 }
 

@@ -4,7 +4,7 @@ use Rattle.std.specs.Io.KnownBytes.{Appends, Keeps}
 use Rattle.vault_core_model.specs.declared.command.Timed.{Timed}
 use Rattle.vault_http.specs.Line.TheVariants as line
 use Rattle.vault_http.specs.ReadLine.{line_of}
-use Rattle.vault_http_commands.specs.Members.{line_text}
+use Rattle.vault_http_commands.specs.Lines.{SpellsTimed}
 use Rattle.vault_io.specs.Begins.{Begins}
 use Rattle.vaultctl_journal.specs.declared.state.JournalState.{JournalState}
 use Rattle.vaultctl_journal.specs.declared.state.JournalState.TheVariants.{Open, Ended, Lost}
@@ -20,9 +20,9 @@ end_line = codes "# The journal ends here: no line makes the next change again."
 abbrev pub IsRecord : Timed → List ℕ → Type 0
 IsRecord t bytes = (text : List ℕ) × HasNoLf text × (line_of text ≡ line.Command t) × (bytes ≡ ended text)
 
--- the line that is printed of the command is longer than a script's line may be
+-- a line that spells the command is longer than a script's line may be
 abbrev pub IsTooLong : Timed → Type 0
-IsTooLong t = 4194304 < length (line_text t)
+IsTooLong t = (text : List ℕ) × (4194304 < length text) × SpellsTimed text t
 
 -- What is written of a change: its line; or the last line, where a fault cut the change or its line is too long.
 abbrev pub IsEntry : Bool → Bool → Timed → List ℕ → Type 0

@@ -9,6 +9,8 @@ use vault_base::name::CallerName;
 use vault_core_model::command::Command;
 use vault_core_model::reply::Reply;
 use vault_http::Hears;
+use vault_http::read_line::Line;
+use vaultctl_replay::observer::Observer;
 
 /// A journal of the commands that changed a vault, which goes to a writer.
 ///
@@ -59,4 +61,8 @@ impl<W: Write> Hears for Journal<W> {
     fn goes_on(&self) -> bool {
         self.state.is_open()
     }
+}
+
+impl<W: Write> Observer for Journal<W> {
+    fn line(&mut self, _alloc: Global, _line: &[u8], _asked: &Line) {}
 }

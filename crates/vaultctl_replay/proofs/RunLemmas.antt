@@ -1,5 +1,5 @@
 -- Lemmas on lines that are carried out one after another.
-use Rattle.std.proofs.Common.{◌≡◌, ◌≤◌, ℕ, List, [], ◌∷◌, ◌++◌, refl, ap, sym, ◌∙◌, append_assoc, append-nil, subst, take, Bool, true, false, IsTrue, Option, Some, None, Result, Ok, Err, OnOk, OnErr, inl, inr, arith}
+use Rattle.std.proofs.Common.{◌≡◌, ℕ, List, [], ◌∷◌, ◌++◌, refl, ap, sym, ◌∙◌, append_assoc, append-nil, subst, take, Bool, true, false, Option, Some, None, Result, Ok, Err, OnOk, OnErr, inl, inr, arith}
 use Rattle.std.specs.Prelude.{◌||◌, IfOk, String, string_bytes}
 use Rattle.std.specs.List.{list_any}
 use Rattle.std.specs.declared.alloc.AllocError.{AllocError}

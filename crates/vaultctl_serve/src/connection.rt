@@ -34,24 +34,24 @@ pub fn serve_in_time<I: Inbound + Drop, W: Write, K: Keeper, H: Hears>(
     writer: &mut W,
     keeper: &mut K,
     hears: &mut H,
-    occasion: Occasion<'_>,
+    occasion: &Occasion<'_>,
 ) -> Result<(), ServeFault>
-    ensures ok { K.is_honest keeper.new → OnOk result (Answered occasion.entry.hosts.now (RoseOrIsFull (K.count keeper.old) (K.count keeper.new))
-        occasion.entry.moment (known_in_time Leading (I.coming inbound)) (K.vault keeper.old) (K.vault keeper.new) (W.contents writer.old) (W.contents writer.new)) }
+    ensures ok { K.is_honest keeper.new → OnOk result (Answered occasion.now.hosts.now (RoseOrIsFull (K.count keeper.old) (K.count keeper.new))
+        occasion.now.moment (known_in_time Leading (I.coming inbound)) (K.vault keeper.old) (K.vault keeper.new) (W.contents writer.old) (W.contents writer.new)) }
     ensures err { K.is_honest keeper.new → IfErr result (λ e. (unread : Option (List ℕ))
-        × Unanswered occasion.entry.hosts.now (RoseOrIsFull (K.count keeper.old) (K.count keeper.new)) e occasion.entry.moment
+        × Unanswered occasion.now.hosts.now (RoseOrIsFull (K.count keeper.old) (K.count keeper.new)) e occasion.now.moment
         (known_in_time Leading (I.coming inbound)) unread (K.vault keeper.old) (K.vault keeper.new) (W.contents writer.old) (W.contents writer.new)) }
     // A request that isn't whole in time changes nothing.
-    ensures late { K.is_honest keeper.new → IfSome (known_in_time Leading (I.coming inbound)) (λ input. WaitsForAll occasion.entry.hosts.now occasion.entry.moment input
+    ensures late { K.is_honest keeper.new → IfSome (known_in_time Leading (I.coming inbound)) (λ input. WaitsForAll occasion.now.hosts.now occasion.now.moment input
         (K.vault keeper.old) (K.vault keeper.new)) }
     // Where hosts are named, a request for another one changes nothing, and is answered InvalidArgument.
-    ensures strangers { K.is_honest keeper.new → IfSome (known_in_time Leading (I.coming inbound)) (λ input. RefusesStrangers occasion.entry.hosts.now occasion.entry.moment input result
+    ensures strangers { K.is_honest keeper.new → IfSome (known_in_time Leading (I.coming inbound)) (λ input. RefusesStrangers occasion.now.hosts.now occasion.now.moment input result
         (K.vault keeper.old) (K.vault keeper.new) (W.contents writer.old) (W.contents writer.new)) }
-    ensures once { K.is_honest keeper.new → AtMostOne occasion.entry.moment (K.vault keeper.old) (K.vault keeper.new) }
-    ensures heard { K.is_honest keeper.new → HearsOnce H.hears hears.old hears.new occasion.entry.moment (K.vault keeper.old) (K.vault keeper.new) }
+    ensures once { K.is_honest keeper.new → AtMostOne occasion.now.moment (K.vault keeper.old) (K.vault keeper.new) }
+    ensures heard { K.is_honest keeper.new → HearsOnce H.hears hears.old hears.new occasion.now.moment (K.vault keeper.old) (K.vault keeper.new) }
     ensures unread { result ≡ Err faults.Read → K.vault keeper.new ≡ K.vault keeper.old }
     ensures leaves { LeavesNoLess K.Kept keeper.old keeper.new }
-    ensures steady { SteadyBy K.Kept keeper.old keeper.new W.Write writer.old writer.new result occasion.entry.moment }
+    ensures steady { SteadyBy K.Kept keeper.old keeper.new W.Write writer.old writer.new result occasion.now.moment }
 {
     let Ok(mut reader) = BufReader::new(alloc, TimedRequest::new(inbound)) else {
         return Err(ServeFault::Memory);
@@ -70,10 +70,10 @@ pub fn serve_connection<C: Clock, P: Peer, K: Keeper, H: Hears>(
     peer: &P,
     keeper: &mut K,
     hears: &mut H,
-    occasion: Occasion<'_>,
+    occasion: &Occasion<'_>,
 ) -> Result<(), ServeFault>
-    ensures once { K.is_honest keeper.new → AtMostOne occasion.entry.moment (K.vault keeper.old) (K.vault keeper.new) }
-    ensures heard { K.is_honest keeper.new → HearsOnce H.hears hears.old hears.new occasion.entry.moment (K.vault keeper.old) (K.vault keeper.new) }
+    ensures once { K.is_honest keeper.new → AtMostOne occasion.now.moment (K.vault keeper.old) (K.vault keeper.new) }
+    ensures heard { K.is_honest keeper.new → HearsOnce H.hears hears.old hears.new occasion.now.moment (K.vault keeper.old) (K.vault keeper.new) }
     ensures unread { result ≡ Err faults.Read → K.vault keeper.new ≡ K.vault keeper.old }
     ensures leaves { LeavesNoLess K.Kept keeper.old keeper.new }
 {

@@ -63,7 +63,7 @@ fn serve_taken<C: Clock, A: Arrivals, K: Keeper, H: Hears>(
     let hosts = arrivals.hosts();
     let occasion = Occasion { moment, hosts };
     // A fault of the connection is its own.
-    let served = serve_connection(means.clock, &mut noted, peer, keeper, hears, occasion);
+    let served = serve_connection(means.clock, &mut noted, peer, keeper, hears, &occasion);
     arrivals.log(&noted.request(reading, trouble_of(served)));
 }
 

@@ -152,7 +152,7 @@ fn serve_request<C: Clock, D: Doors, K: Keeper, H: Hears>(
     let hosts = doors.hosts();
     let occasion = Occasion { moment, hosts };
     // A fault of the connection is its own.
-    let served = serve_connection(server.clock, &mut noted, peer, keeper, hears, occasion);
+    let served = serve_connection(server.clock, &mut noted, peer, keeper, hears, &occasion);
     doors.log(&noted.request(reading, trouble_of(served)));
 }
 

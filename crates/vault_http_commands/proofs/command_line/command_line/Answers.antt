@@ -1,10 +1,14 @@
 use Rattle.std.proofs.Common.{subst}
 use Rattle.std.specs.Str.{IsUtf8}
-use Rattle.vault_http_commands.proofs.Reading.{is-text, text-asks, text-has-no-lf}
+use Rattle.vault_http_commands.proofs.Reading.{is-text, text-asks, text-has-no-lf, text-spells}
 use Rattle.vault_http_commands.proofs.command_line.command_line.Goals as goal
 
 pub returns-clause-text : goal.returns-clause-text
 returns-clause-text c = is-text _ _ _ c.in_ok-value.ensures.value c.in_ok-value.ensures.spelled c.in_ok-text.ensures.text
+
+pub returns-clause-spelled : goal.returns-clause-spelled
+returns-clause-spelled c =
+    text-spells _ _ _ c.in_ok-value.ensures.value c.in_ok-value.ensures.spelled c.in_ok-text.ensures.text (subst IsUtf8 c.as_str-text.ensures.value c.as_str-text.utf8) c.in_ok-text.ensures.reads_back
 
 pub returns-clause-reads : goal.returns-clause-reads
 returns-clause-reads c =

@@ -18,7 +18,7 @@ returns-clause-ok g c =
     let same : unread ≡ known = request-remaining c.in-Ok.reader c.new.result (λ r. r.scan) (λ r. g.I.Inbound.coming r.inbound) Leading (g.I.Inbound.coming c.args.inbound)
     c.in-Ok.ensures.inner c.in-Ok.ensures.empty c.in-Ok.ensures.capacity c.new.ensures.scan (ap (λ i. g.I.Inbound.coming i) c.new.ensures.inbound) in
     let Failed = RoseOrIsFull (g.K.Kept.count c.args.keeper.now) (g.K.Kept.count c.serve_for.new.keeper) in
-    let P : Option (List ℕ) → Type 0 = λ bytes. OnOk c.serve_for.result (Answered c.args.occasion.hosts.now Failed c.args.occasion.moment bytes (g.K.Kept.vault c.args.keeper.now) (g.K.Kept.vault c.serve_for.new.keeper) (g.W.Write.contents c.args.writer.now) (g.W.Write.contents c.serve_for.new.writer)) in
+    let P : Option (List ℕ) → Type 0 = λ bytes. OnOk c.serve_for.result (Answered c.args.occasion.now.hosts.now Failed c.args.occasion.now.moment bytes (g.K.Kept.vault c.args.keeper.now) (g.K.Kept.vault c.serve_for.new.keeper) (g.W.Write.contents c.args.writer.now) (g.W.Write.contents c.serve_for.new.writer)) in
     λ h. subst P same (c.serve_for.ensures.ok h)
 
 pub returns-clause-err : goal.returns-clause-err
@@ -29,15 +29,15 @@ returns-clause-err g c =
     c.in-Ok.ensures.inner c.in-Ok.ensures.empty c.in-Ok.ensures.capacity c.new.ensures.scan (ap (λ i. g.I.Inbound.coming i) c.new.ensures.inbound) in
     let Failed = RoseOrIsFull (g.K.Kept.count c.args.keeper.now) (g.K.Kept.count c.serve_for.new.keeper) in
     let rest = left_of c.serve_for.new.reader (λ r. r.scan) (λ r. g.I.Inbound.coming r.inbound) in
-    let P : Option (List ℕ) → Type 0 = λ bytes. IfErr c.serve_for.result (λ e. Unanswered c.args.occasion.hosts.now Failed e c.args.occasion.moment bytes rest (g.K.Kept.vault c.args.keeper.now) (g.K.Kept.vault c.serve_for.new.keeper) (g.W.Write.contents c.args.writer.now) (g.W.Write.contents c.serve_for.new.writer)) in
+    let P : Option (List ℕ) → Type 0 = λ bytes. IfErr c.serve_for.result (λ e. Unanswered c.args.occasion.now.hosts.now Failed e c.args.occasion.now.moment bytes rest (g.K.Kept.vault c.args.keeper.now) (g.K.Kept.vault c.serve_for.new.keeper) (g.W.Write.contents c.args.writer.now) (g.W.Write.contents c.serve_for.new.writer)) in
     λ h. IfErr-weaker c.serve_for.result _ _ (λ e d. (rest, d)) (subst P same (c.serve_for.ensures.err h))
 
 pub returns-clause-late : goal.returns-clause-late
 returns-clause-late g c = λ h.
-    waits-for-all c.args.occasion.hosts.now (RoseOrIsFull (g.K.Kept.count c.args.keeper.now) (g.K.Kept.count c.serve_for.new.keeper)) c.args.occasion.moment (known_in_time Leading (g.I.Inbound.coming c.args.inbound))
+    waits-for-all c.args.occasion.now.hosts.now (RoseOrIsFull (g.K.Kept.count c.args.keeper.now) (g.K.Kept.count c.serve_for.new.keeper)) c.args.occasion.now.moment (known_in_time Leading (g.I.Inbound.coming c.args.inbound))
     (g.K.Kept.vault c.args.keeper.now) (g.K.Kept.vault c.serve_for.new.keeper) (g.W.Write.contents c.args.writer.now) (g.W.Write.contents c.serve_for.new.writer) c.serve_for.result (returns-clause-ok g c h) (returns-clause-err g c h)
 
 pub returns-clause-strangers : goal.returns-clause-strangers
 returns-clause-strangers g c = λ h.
-    refuses-strangers c.args.occasion.hosts.now (RoseOrIsFull (g.K.Kept.count c.args.keeper.now) (g.K.Kept.count c.serve_for.new.keeper)) c.args.occasion.moment (known_in_time Leading (g.I.Inbound.coming c.args.inbound))
+    refuses-strangers c.args.occasion.now.hosts.now (RoseOrIsFull (g.K.Kept.count c.args.keeper.now) (g.K.Kept.count c.serve_for.new.keeper)) c.args.occasion.now.moment (known_in_time Leading (g.I.Inbound.coming c.args.inbound))
     (g.K.Kept.vault c.args.keeper.now) (g.K.Kept.vault c.serve_for.new.keeper) (g.W.Write.contents c.args.writer.now) (g.W.Write.contents c.serve_for.new.writer) c.serve_for.result (returns-clause-ok g c h) (returns-clause-err g c h)
