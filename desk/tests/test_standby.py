@@ -16,7 +16,7 @@ from tests.machine import MachineTest
 from tests.office import PROGRAM, Done
 
 DESK = Path(__file__).resolve().parent.parent
-# Goes to no machine, but does there what ssh would: a shell gets the words, and the other machine's vaults are elsewhere.
+# Goes to no machine, but does what ssh would: a shell gets the words, and the other machine's vaults are elsewhere.
 SSH = '#!/bin/sh\nshift\nVAULT_FOLDER="$OTHER" exec sh -c "$*"\n'
 LIMIT = 120  # seconds that one waits for the other machine
 
@@ -79,10 +79,17 @@ class StandbyTest(MachineTest):
     def copy(self) -> Path:
         return self.other / "records.standby" / "now" / "records.vault"
 
-    def seal(self, file: Path) -> str:
-        """What the engine prints of all that was, the last change with it."""
-        words = [PROGRAM, "events", str(file)]
-        return subprocess.run(words, stdout=subprocess.PIPE, encoding="utf-8", check=True).stdout
+    def events(self, file: Path) -> str:
+        """What the engine prints of all that ever was there, once nobody has the file any more."""
+        told: list[str] = []
+
+        def is_printed() -> bool:
+            done = subprocess.run([PROGRAM, "events", str(file)], capture_output=True, encoding="utf-8", check=False)
+            told[:] = [done.stdout]
+            return done.returncode == 0
+
+        self.assertTrue(wait_until(is_printed))
+        return told[0]
 
 
 PUT = {"do": "put", "bucket": "docs", "text": "hello"}
@@ -99,7 +106,7 @@ class Follow(StandbyTest):
         self.assertEqual((self.lag("--most", "0").status, following.poll()), (0, None))
         following.kill()
         following.wait()
-        self.assertEqual(self.seal(self.copy()), self.seal(self.file))
+        self.assertEqual(self.events(self.copy()), self.events(self.file))
         for it in (self.copy().parent, self.copy()):
             self.assertEqual(it.stat().st_mode & 0o077, 0)
 
@@ -114,9 +121,10 @@ class Follow(StandbyTest):
         self.assertTrue(wait_until(lambda: os.readlink(self.copy().parent) == second.parent.name))
         following.kill()
         following.wait()
-        self.assertEqual(self.seal(self.copy()), self.seal(self.file))
+        self.assertEqual(self.events(self.copy()), self.events(self.file))
         # Of copies that came before nothing is left there; here the one before stays.
-        self.assertEqual([it.name for it in self.copy().parent.parent.iterdir() if it.name != "now"], [second.parent.name])
+        there = [it.name for it in self.copy().parent.parent.iterdir() if it.name != "now"]
+        self.assertEqual(there, [second.parent.name])
         third = self.begin()
         left = {it.name for it in third.parent.parent.iterdir()}
         self.assertEqual(left, {"now", second.parent.name, third.parent.name})
@@ -133,7 +141,7 @@ class Follow(StandbyTest):
         assert following.stderr
         self.assertIn(b"line 2 of", following.stderr.read())
         # Nothing that came behind that line is in the copy.
-        self.assertEqual(self.seal(self.copy()), self.seal(self.file))
+        self.assertEqual(self.events(self.copy()), self.events(self.file))
 
     def test_a_connection_that_ends_leaves_what_was_there(self) -> None:
         journal = self.begin()

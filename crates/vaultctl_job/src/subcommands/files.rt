@@ -108,7 +108,7 @@ const SERVE: Subcommand = Subcommand {
     below: below!(
         "serve",
         "Example:\n  vaultctl serve records.vault 8080 --count 1000",
-        "0 all requests were answered, one that was refused by a status as 404\nand a body as {\"code\":\"NoSuchBucket\",\"n\":4}; 1 a fault, named on standard\nerror, as 'open: Device', or 'serve: Device' where the port can't be had; 2 the\nwords aren't understood, or ask for help."
+        "0 all requests were answered, one that was refused by a status as 404\nand a body as {\"code\":\"NoSuchBucket\",\"n\":4}; 1 a fault, named on standard\nerror, as 'open: Device', 'serve: Device' where the port or the journal can't be\nhad, or 'serve: Write' where the journal doesn't go on; 2 the words aren't\nunderstood, or ask for help."
     ),
     usage: None,
     arguments: &[
