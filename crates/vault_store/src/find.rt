@@ -12,7 +12,6 @@ ghost use Rattle.vault_store_reads.specs.Wants.{WantsMemoryIfErr};
 ghost use Rattle.vault_store.specs.Knows.{StaysKnown};
 
 use sqlite::{Alter, Connection, Error, ErrorCode};
-use std::alloc::Global;
 use vault_audit_model::rows::MetaRow;
 use vault_base::name::{BucketName, DeptName};
 use vault_core_model::records::BucketConfig;
@@ -149,7 +148,6 @@ pub(crate) fn find_sums<S: Alter>(
 fn ask_held<S: Alter>(
     conn: &mut Connection<S>,
     known: &mut Known,
-    alloc: Global,
     name: &BucketName,
 ) -> Result<(u64, u64), Error>
     ensures value { HasCleanDisk (state S.Store conn.new) → IfOk result (λ held. (v : Vault) → Keeps (state S.Store conn.old) v
@@ -159,7 +157,7 @@ fn ask_held<S: Alter>(
     ensures open { IsOpenIfOk S.Store conn.new result }
     ensures memory { WantsMemoryIfErr S.Store conn.old conn.new result }
 {
-    let held = read_bucket_held(conn, alloc, name)?;
+    let held = read_bucket_held(conn, name)?;
     known.note_load(name, held.0, held.1);
     Ok(held)
 }
@@ -168,7 +166,6 @@ fn ask_held<S: Alter>(
 pub(crate) fn find_held<S: Alter>(
     conn: &mut Connection<S>,
     known: &mut Known,
-    alloc: Global,
     name: &BucketName,
 ) -> Result<(u64, u64), Error>
     requires { IsOpen S.Store conn.old }
@@ -181,6 +178,6 @@ pub(crate) fn find_held<S: Alter>(
 {
     match known.load(name) {
         Some(held) => Ok(held),
-        None => ask_held(conn, known, alloc, name),
+        None => ask_held(conn, known, name),
     }
 }

@@ -228,7 +228,7 @@ impl<S: Alter> SqlKeeper<S> {
                 return Err(fault);
             }
         }
-        match apply_change(&mut self.conn, &self.known, self.alloc, at, change) {
+        match apply_change(&mut self.conn, &self.known, at, change) {
             Ok(()) => {
                 self.known.follow(at, change);
                 self.made = self.made.and(&at, change);
@@ -527,7 +527,7 @@ impl<S: Alter> Keeper for SqlKeeper<S> {
         ensures read { ReadsAs S.Store self.old self.new result }
     {
         self.check_open()?;
-        match find_held(&mut self.conn, &mut self.known, self.alloc, bucket) {
+        match find_held(&mut self.conn, &mut self.known, bucket) {
             Ok(found) => Ok(found),
             Err(error) => Err(self.blamed.blame(error)),
         }

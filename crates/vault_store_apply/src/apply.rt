@@ -21,7 +21,6 @@ use crate::records::{
     add_bucket, add_caller, add_department, close_caller, set_default, set_rules,
 };
 use sqlite::{Alter, Connection, Error};
-use std::alloc::Global;
 use vault_base::moment::Moment;
 use vault_core_model::change::Change;
 
@@ -29,7 +28,6 @@ use vault_core_model::change::Change;
 fn make<S: Alter>(
     conn: &mut Connection<S>,
     known: &Known,
-    alloc: Global,
     at: Moment,
     change: &Change,
 ) -> Result<(), Error>
@@ -47,7 +45,7 @@ fn make<S: Alter>(
         Change::AddCaller(caller) => add_caller(conn, at, caller),
         Change::CloseCaller(name) => close_caller(conn, at, name),
         Change::AddBucket(name, dept) => add_bucket(conn, at, name, dept),
-        Change::MoveBucket(name, dept) => move_bucket(conn, known, alloc, at, name, dept),
+        Change::MoveBucket(name, dept) => move_bucket(conn, known, at, name, dept),
         Change::SetDefault(name, default) => set_default(conn, at, name, *default),
         Change::SetRules(name, rules) => set_rules(conn, at, name, rules),
         Change::Admit(admission) => admit(conn, known, at, admission),
@@ -63,7 +61,6 @@ fn make<S: Alter>(
 pub fn apply_change<S: Alter>(
     conn: &mut Connection<S>,
     known: &Known,
-    alloc: Global,
     at: Moment,
     change: &Change,
 ) -> Result<(), Error>
@@ -78,5 +75,5 @@ pub fn apply_change<S: Alter>(
     // What a crash may leave, at any moment of the call: what it could leave before, or the changed vault.
     ensures crash { (v : Vault) → Keeps (state S.Store conn.old) v → v.last ≤ at → Allows v at change.now → Survives (state S.Store conn.old) (state S.Store conn.new) (IsFoundIn (changed v at change.now)) }
 {
-    make(conn, known, alloc, at, change)
+    make(conn, known, at, change)
 }

@@ -9,6 +9,9 @@ pub mod HeadLemmas
 pub mod CountLemmas
 pub mod OrderedEntryLemmas
 pub mod HoldingLemmas
+pub mod LastLemmas
+pub mod HoldingSums
+pub mod StreamLemmas
 pub mod KeyLemmas
 pub mod KeySetLemmas
 pub mod OrderedListLemmas

@@ -1,5 +1,5 @@
 -- What the statements mean.
-use Rattle.std.proofs.Common.{◌≡◌, ℕ, pos, negsuc, List, [], ◌∷◌, codes, true, refl}
+use Rattle.std.proofs.Common.{◌≡◌, ℕ, pos, negsuc, List, [], ◌∷◌, codes, true, false, None, refl}
 use Rattle.sqlite_tied.specs.Compute.{everything}
 use Rattle.sqlite_value.specs.declared.value.Value.TheVariants.{Null, Int}
 use Rattle.sqlite_value.specs.declared.keys.Collation.TheVariants.{Binary}
@@ -9,6 +9,7 @@ use Rattle.sqlite_sql.specs.declared.ops.BinaryOp.TheVariants.{Compare, Is}
 use Rattle.sqlite_sql.specs.declared.ops.UnaryOp.TheVariants.{Not}
 use Rattle.sqlite_sql.specs.declared.ops.CompareOp.TheVariants.{Eq, Ne, Gt, Lt}
 use Rattle.sqlite_sql.specs.Term.{Term, lit, col, op1, op2}
+use Rattle.sqlite_sql.specs.Query.{Query, inner, counted, end}
 use Rattle.sqlite_schema.specs.declared.command.Command.TheVariants.{Select}
 use Rattle.sqlite.specs.Listing.{understood}
 use Rattle.sqlite.proofs.Callers.{IsPlain, command_of}
@@ -125,20 +126,36 @@ pub entries_is : Selects entries_text (select_of entries_tree entries_tests entr
 unfolding understood everything
 entries_is = record { names = codes "id" ∷ codes "marker" ∷ codes "size" ∷ codes "admitted" ∷ []; is = refl; plain = (refl, refl); unlisted = refl }
 
--- ---- the held versions of a bucket
+-- ---- the held versions of a bucket, each with its last tenure
 
 abbrev pub sized_text : List ℕ
-sized_text = codes "SELECT id, size FROM entries WHERE bucket = ?1 AND marker = 0 AND removed IS NULL ORDER BY id"
+sized_text = codes "SELECT e.size, t.moment FROM entries AS e JOIN tenures AS t ON t.id = e.id WHERE e.bucket = ?1 AND e.marker = 0 AND e.removed IS NULL AND NOT EXISTS (SELECT 1 FROM tenures AS u WHERE u.id = t.id AND t.n < u.n)"
+
+-- a tenure of the same version that comes after it
+abbrev pub later_tests : List Term
+later_tests = op2 (Compare Eq Binary) (col 3 1) (col 2 1) ∷ op2 (Compare Lt Binary) (col 2 2) (col 3 2) ∷ []
 
 abbrev pub sized_tests : List Term
-sized_tests = op2 (Compare Eq Binary) (col 1 2) (col 0 0) ∷ op2 (Compare Eq Binary) (col 1 4) (lit (Int (pos 0))) ∷ op2 (Is Binary) (col 1 10) (lit Null) ∷ []
+sized_tests =
+    op2 (Compare Eq Binary) (col 2 1) (col 1 0) ∷ op2 (Compare Eq Binary) (col 1 2) (col 0 0) ∷ op2 (Compare Eq Binary) (col 1 4) (lit (Int (pos 0))) ∷ op2 (Is Binary) (col 1 10) (lit Null)
+    ∷ op1 Not (col 3 0) ∷ []
 
-abbrev pub sized_shown : List Term
-sized_shown = col 1 0 ∷ col 1 5 ∷ []
+abbrev pub sized_query : Query
+sized_query = record {
+  from = inner entries_tree (inner tenures_tree (counted 1 (inner tenures_tree end) later_tests end));
+  filter = sized_tests;
+  group = None;
+  project = col 1 5 ∷ col 2 4 ∷ [];
+  distinct = false;
+  collations = [];
+  order = [];
+  limit = no_limit;
+  offset = lit (Int (pos 0));
+}
 
-pub sized_is : Selects sized_text (select_of entries_tree sized_tests sized_shown entries_order no_limit)
+pub sized_is : Selects sized_text sized_query
 unfolding understood everything
-sized_is = record { names = codes "id" ∷ codes "size" ∷ []; is = refl; plain = (refl, refl); unlisted = refl }
+sized_is = record { names = codes "size" ∷ codes "moment" ∷ []; is = refl; plain = (refl, refl); unlisted = refl }
 
 -- ---- the newest of them besides one
 

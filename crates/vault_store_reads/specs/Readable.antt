@@ -21,8 +21,8 @@ pub record IsHeldRow (h : HeldRow) : Type 0 where
   pub admitted : h.admitted ≤ last_moment
 
 pub record IsSizedRow (x : SizedRow) : Type 0 where
-  pub id : IsTrue (is_version_id x.id)
   pub size : x.size ≤ most_content
+  pub from : x.from ≤ last_moment
 
 -- each row states an item of that kind, in its limits
 abbrev pub AreReadable : {X : Type 0} → (X → Row) → (X → Type 0) → List Row → Type 0

@@ -1,14 +1,16 @@
 -- What a row of an ordered read says.
-use Rattle.std.specs.Prelude.{ℕ, ◌*◌, ◌==◌, not, List, [], ◌∷◌, map, filter, reverse, Option, None, Some, option_map}
+use Rattle.std.specs.Prelude.{ℕ, ◌*◌, ◌==◌, not, List, [], ◌∷◌, map, filter, reverse, Option, None, Some, option_map, option_to_list}
 use Rattle.sqlite_value.specs.declared.value.Value.TheVariants.{Text}
 use Rattle.sqlite_value.specs.Order.{Row}
+use Rattle.vault_base.specs.Days.{day}
 use Rattle.vault_rules.specs.declared.plan.Held.{Held}
 use Rattle.vault_rules.specs.declared.rule.Rule.{Rule}
 use Rattle.vault_core_model.specs.declared.records.History.{History}
 use Rattle.vault_core_model.specs.declared.records.LastSetting.{LastSetting}
+use Rattle.vault_core_model.specs.declared.records.Tenure.{Tenure}
 use Rattle.vault_core_model.specs.Places.{held_at}
-use Rattle.vault_core_model.specs.Reads.{head_over, lock_of, tenures_of}
-use Rattle.vault_core_model.specs.Totals.{last_day_from}
+use Rattle.vault_core_model.specs.Reads.{head_over, lock_of}
+use Rattle.vault_core_model.specs.Sound.{last_tenure}
 use Rattle.vault_core_model.specs.Vault.{Vault}
 use Rattle.vault_audit_model.specs.declared.rows.RuleRow.{RuleRow}
 use Rattle.vault_audit_model.specs.Rows.{retention_mode, retention_until}
@@ -43,16 +45,20 @@ id_row id = number id ∷ []
 abbrev pub ids_at : Vault → List ℕ → List ℕ → List ℕ
 ids_at v bucket key = reverse (map (λ h. h.entry.id) (held_at v bucket key))
 
--- a version and its size
+-- the size of a version, and since when its department has it
 abbrev pub sized_row : SizedRow → Row
-sized_row x = number x.id ∷ number x.size ∷ []
+sized_row x = number x.size ∷ number x.from ∷ []
 
-abbrev pub sized_of : History → SizedRow
-sized_of h = record { id = h.entry.id; size = h.entry.size }
+abbrev pub sized_with : ℕ → Tenure → SizedRow
+sized_with size t = record { size = size; from = t.from }
+
+-- a version has a last tenure
+abbrev pub sized_of : History → List SizedRow
+sized_of h = map (sized_with h.entry.size) (option_to_list (last_tenure h.tenures))
 
 -- its size times the day from which its department has it
-abbrev pub weight_in : Vault → SizedRow → ℕ
-weight_in v x = x.size * last_day_from (tenures_of v x.id)
+abbrev pub weight_of : SizedRow → ℕ
+weight_of x = x.size * day x.from
 
 -- the rules of these rows; no rule is no set of rules
 abbrev pub set_of : List RuleRow → Option (List Rule)

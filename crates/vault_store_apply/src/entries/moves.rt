@@ -18,7 +18,6 @@ use crate::entries::place::{read_config, read_sums};
 use crate::known::Known;
 use crate::parts::moves::MovedBucket;
 use sqlite::{Alter, Connection, Error, ErrorCode};
-use std::alloc::Global;
 use vault_base::moment::Moment;
 use vault_base::name::{BucketName, DeptName};
 use vault_core_model::records::BucketConfig;
@@ -64,7 +63,6 @@ fn find_number<S: Alter>(conn: &mut Connection<S>, known: &Known) -> Result<u32,
 fn find_held<S: Alter>(
     conn: &mut Connection<S>,
     known: &Known,
-    alloc: Global,
     bucket: &BucketName,
 ) -> Result<(u64, u64), Error>
     requires { IsOpen S.Store conn.old }
@@ -75,7 +73,7 @@ fn find_held<S: Alter>(
 {
     match known.load(bucket) {
         Some(held) => Ok(held),
-        None => read_bucket_held(conn, alloc, bucket),
+        None => read_bucket_held(conn, bucket),
     }
 }
 
@@ -91,7 +89,6 @@ struct Load {
 fn read_load<S: Alter>(
     conn: &mut Connection<S>,
     known: &Known,
-    alloc: Global,
     bucket: &BucketName,
 ) -> Result<Load, Error>
     requires { IsOpen S.Store conn.old }
@@ -100,7 +97,7 @@ fn read_load<S: Alter>(
     ensures open { IsOpenIfOk S.Store conn.new result }
     ensures read { OnlyReads S.Store conn.old conn.new }
 {
-    let held = find_held(conn, known, alloc, bucket)?;
+    let held = find_held(conn, known, bucket)?;
     let number = find_number(conn, known)?;
     Ok(Load {
         bytes: held.0,
@@ -162,7 +159,6 @@ fn with_load(sums: Row, load: Load, at: Moment) -> Row
 pub fn move_bucket<S: Alter>(
     conn: &mut Connection<S>,
     known: &Known,
-    alloc: Global,
     at: Moment,
     name: &BucketName,
     dept: &DeptName,
@@ -176,7 +172,7 @@ pub fn move_bucket<S: Alter>(
     ensures honest { HasCleanDisk (state S.Store conn.new) → HasCleanDisk (state S.Store conn.old) }
     ensures crash { (v : Vault) → Keeps (state S.Store conn.old) v → Survives (state S.Store conn.old) (state S.Store conn.new) (IsChanged (state S.Store conn.old) v at (change.MoveBucket name.now dept.now)) }
 {
-    let load = read_load(conn, known, alloc, name)?;
+    let load = read_load(conn, known, name)?;
     let hands = read_hands(conn, known, name, dept)?;
     let handed = without_load(hands.giver, load, at);
     let received = with_load(hands.taker, load, at);

@@ -173,7 +173,6 @@ pub fn read_entries<S: Alter>(
 /// department has the version.
 pub fn read_bucket_held<S: Alter>(
     conn: &mut Connection<S>,
-    alloc: Global,
     bucket: &BucketName,
 ) -> Result<(u64, u64), Error>
     ensures value { HasCleanDisk (state S.Store conn.new) → IfOk result (λ held. (v : Vault) → Keeps (state S.Store conn.old) v → (held.0 ≡ bucket_bytes v bucket.now) × (held.1 ≡ bucket_weight v bucket.now)) }
@@ -181,7 +180,7 @@ pub fn read_bucket_held<S: Alter>(
     ensures open { IsOpenIfOk S.Store conn.new result }
     ensures memory { WantsMemoryIfErr S.Store conn.old conn.new result }
 {
-    find_bucket_held(conn, alloc, bucket)
+    find_bucket_held(conn, bucket)
 }
 
 /// The settings of a version, oldest first; a marker has none, nor has an id that no entry has.

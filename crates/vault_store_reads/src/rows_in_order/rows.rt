@@ -6,7 +6,6 @@ ghost use Rattle.sqlite.specs.State.{HasCleanDisk};
 ghost use Rattle.sqlite.specs.Values.{bound};
 ghost use Rattle.vault_core_model.specs.Reads.{entries_of, keys_after, setting_of, settings_of, tenures_of};
 ghost use Rattle.vault_core_model.specs.Sound.{Sound};
-ghost use Rattle.vault_core_model.specs.Totals.{held_versions_in};
 ghost use Rattle.vault_core_model.specs.Vault.{Vault, rules_of};
 ghost use Rattle.vault_audit_model.specs.declared.rows.RuleRow.{RuleRow};
 ghost use Rattle.vault_audit_model.specs.declared.rows.SettingRow.{SettingRow};
@@ -18,8 +17,8 @@ ghost use Rattle.vault_store_model.specs.Keeping.{Keeps};
 ghost use Rattle.vault_store_model.specs.Sums.{last_tenure_of};
 ghost use Rattle.vault_store_reads.specs.Queries.{Selects, FindsRows};
 ghost use Rattle.vault_store_reads.specs.Quiet.{OnlyReads, ReadsQuietly, IsOpenIfOk};
-ghost use Rattle.vault_store_reads.specs.Readable.{AreReadable, IsHeldRow, IsLastSetting, IsSizedRow};
-ghost use Rattle.vault_store_reads.specs.Shown.{last_row, entry_shown, held_row, key_row, id_row, set_of, sized_row, sized_of, newest_but};
+ghost use Rattle.vault_store_reads.specs.Readable.{AreReadable, IsHeldRow, IsLastSetting};
+ghost use Rattle.vault_store_reads.specs.Shown.{last_row, entry_shown, held_row, key_row, id_row, set_of, newest_but};
 ghost use Rattle.vault_store_reads.specs.Wants.{IsAskedWith, WantsMemoryIfErr};
 
 use crate::query::query_rows;
@@ -88,24 +87,6 @@ pub fn tenure_rows<S: Alter>(conn: &mut Connection<S>, id: VersionId) -> Result<
         conn,
         tenures_columns!(select_text, " WHERE id = ?1 ORDER BY n"),
         params![id.number()],
-    )
-}
-
-/// The rows of a bucket's held versions and their sizes.
-pub fn sized_rows<S: Alter>(
-    conn: &mut Connection<S>,
-    bucket: &BucketName,
-) -> Result<Vec<Row>, Error>
-    ensures rows { HasCleanDisk (state S.Store conn.new) → IfOk result (λ rows. (v : Vault) → Keeps (state S.Store conn.old) v → (rows.items ≡ map sized_row (map sized_of (held_versions_in v bucket.now))) × Sound v) }
-    ensures readable { HasCleanDisk (state S.Store conn.new) → IfOk result (λ rows. (v : Vault) → Keeps (state S.Store conn.old) v → AreReadable sized_row IsSizedRow rows.items) }
-    ensures read { ReadsQuietly S.Store conn.old conn.new }
-    ensures open { IsOpenIfOk S.Store conn.new result }
-    ensures memory { WantsMemoryIfErr S.Store conn.old conn.new result }
-{
-    open_rows(
-        conn,
-        "SELECT id, size FROM entries WHERE bucket = ?1 AND marker = 0 AND removed IS NULL ORDER BY id",
-        params![bucket.as_str()],
     )
 }
 

@@ -66,26 +66,27 @@ pub fn read_held(row: &Row) -> Option<HeldRow>
     })
 }
 
-/// A version and its size.
+/// The size of a version, and since when its department has it.
 #[derive(Clone, Copy)]
 pub struct SizedRow {
-    pub id: VersionId,
     /// In bytes.
     pub size: u64,
+    /// When its last tenure began.
+    pub from: Moment,
 }
 
-/// A version and its size.
+/// The size of a version, and since when its department has it.
 pub fn read_sized(row: &Row) -> Option<SizedRow>
     ensures { MatchOption result ((x : Sized) → IsSizedRow x → row.now ≢ sized_row x) (λ x. row.now ≡ sized_row x) }
 {
     if row.column_count() != 2 {
         return None;
     }
-    let id = version_id(row, 0)?;
-    let size = number_within(row, 1, 0, 1_048_576)?;
+    let size = number_within(row, 0, 0, 1_048_576)?;
+    let from = moment(row, 1)?;
     Some(SizedRow {
-        id,
         size: u64::from(size),
+        from,
     })
 }
 
