@@ -6,7 +6,8 @@ ghost use Rattle.vault_core_model.specs.Totals.{IsRowFor, bucket_bytes, bucket_w
 ghost use Rattle.vault_core_model.specs.Vault.{Vault, config_of};
 ghost use Rattle.vault_audit_model.specs.Spells.{meta_of};
 ghost use Rattle.vault_store_model.specs.Keeping.{Keeps};
-ghost use Rattle.vault_store_apply.specs.Known.{AreKnown, IsOpen};
+ghost use Rattle.vault_store_model.specs.Known.{AreKnown};
+ghost use Rattle.vault_store_apply.specs.Known.{IsOpen};
 ghost use Rattle.vault_store_reads.specs.Quiet.{OnlyReads, IsOpenIfOk};
 ghost use Rattle.vault_store_reads.specs.Wants.{WantsMemoryIfErr};
 ghost use Rattle.vault_store.specs.Knows.{StaysKnown};
@@ -15,10 +16,10 @@ use sqlite::{Alter, Connection, Error, ErrorCode};
 use vault_audit_model::rows::MetaRow;
 use vault_base::name::{BucketName, DeptName};
 use vault_core_model::records::BucketConfig;
-use vault_store_apply::known::Known;
+use vault_store_model::known::Known;
 use vault_store_reads::meta::{read_meta, read_moves};
 use vault_store_reads::names::{read_bucket, read_totals};
-use vault_store_reads::rows_in_order::reads::read_bucket_held;
+use vault_store_walks::held::read_bucket_held;
 use vault_tally::row::Row;
 
 /// The row of `meta`, asked of the tables.

@@ -12,7 +12,7 @@ ghost use Rattle.vault_core_model.specs.Allowed.{Allows};
 ghost use Rattle.vault_core_model.specs.Change.{changed};
 ghost use Rattle.vault_core_model.specs.Halts.{is_device_given};
 ghost use Rattle.vault_core_model.specs.Leaves.{count_after};
-ghost use Rattle.vault_store_apply.specs.Known.{AreKnown};
+ghost use Rattle.vault_store_model.specs.Known.{AreKnown};
 ghost use Rattle.vault_store_apply.specs.Left.{IsFoundIn, LeavesAlone};
 ghost use Rattle.vault_audit_model.specs.Spells.{AreSound};
 ghost use Rattle.vault_store.specs.Kept.{kept_vault, IsSettled, StandsFor};
@@ -43,17 +43,17 @@ use vault_core_model::records::{
 use vault_rules::plan::Held;
 use vault_rules::rule_set::RuleSet;
 use vault_store_apply::apply::apply_change;
-use vault_store_apply::known::Known;
 use vault_store_create::create::fill;
+use vault_store_model::known::Known;
 use vault_store_reads::entries::{read_content, read_entry};
 use vault_store_reads::heads::read_head;
 use vault_store_reads::names::{has_department, read_caller};
 use vault_store_reads::notes::read_note;
-use vault_store_reads::removed::walk_removed;
 use vault_store_reads::rows_in_order::reads::{
     read_buckets, read_entries, read_ids, read_keys, read_rules, read_setting, read_settings,
     read_tenures,
 };
+use vault_store_walks::removed::walk_removed;
 use vault_tally::row::Row;
 
 /// A vault in tables.

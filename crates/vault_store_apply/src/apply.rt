@@ -16,13 +16,13 @@ use crate::entries::admission::admit;
 use crate::entries::moves::move_bucket;
 use crate::entries::removal::remove;
 use crate::entries::settings::add_setting;
-use crate::known::Known;
 use crate::records::{
     add_bucket, add_caller, add_department, close_caller, set_default, set_rules,
 };
 use sqlite::{Alter, Connection, Error};
 use vault_base::moment::Moment;
 use vault_core_model::change::Change;
+use vault_store_model::known::Known;
 
 /// Makes a change.
 fn make<S: Alter>(

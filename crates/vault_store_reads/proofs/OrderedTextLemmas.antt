@@ -126,37 +126,6 @@ pub entries_is : Selects entries_text (select_of entries_tree entries_tests entr
 unfolding understood everything
 entries_is = record { names = codes "id" ∷ codes "marker" ∷ codes "size" ∷ codes "admitted" ∷ []; is = refl; plain = (refl, refl); unlisted = refl }
 
--- ---- the held versions of a bucket, each with its last tenure
-
-abbrev pub sized_text : List ℕ
-sized_text = codes "SELECT e.size, t.moment FROM entries AS e JOIN tenures AS t ON t.id = e.id WHERE e.bucket = ?1 AND e.marker = 0 AND e.removed IS NULL AND NOT EXISTS (SELECT 1 FROM tenures AS u WHERE u.id = t.id AND t.n < u.n)"
-
--- a tenure of the same version that comes after it
-abbrev pub later_tests : List Term
-later_tests = op2 (Compare Eq Binary) (col 3 1) (col 2 1) ∷ op2 (Compare Lt Binary) (col 2 2) (col 3 2) ∷ []
-
-abbrev pub sized_tests : List Term
-sized_tests =
-    op2 (Compare Eq Binary) (col 2 1) (col 1 0) ∷ op2 (Compare Eq Binary) (col 1 2) (col 0 0) ∷ op2 (Compare Eq Binary) (col 1 4) (lit (Int (pos 0))) ∷ op2 (Is Binary) (col 1 10) (lit Null)
-    ∷ op1 Not (col 3 0) ∷ []
-
-abbrev pub sized_query : Query
-sized_query = record {
-  from = inner entries_tree (inner tenures_tree (counted 1 (inner tenures_tree end) later_tests end));
-  filter = sized_tests;
-  group = None;
-  project = col 1 5 ∷ col 2 4 ∷ [];
-  distinct = false;
-  collations = [];
-  order = [];
-  limit = no_limit;
-  offset = lit (Int (pos 0));
-}
-
-pub sized_is : Selects sized_text sized_query
-unfolding understood everything
-sized_is = record { names = codes "size" ∷ codes "moment" ∷ []; is = refl; plain = (refl, refl); unlisted = refl }
-
 -- ---- the newest of them besides one
 
 abbrev pub newest_text : List ℕ
@@ -222,29 +191,3 @@ keys_order = (col 1 2, ascending Binary) ∷ []
 pub keys_is : Selects keys_text (select_of heads_tree keys_tests (col 1 2 ∷ []) keys_order (col 0 2))
 unfolding understood everything
 keys_is = record { names = codes "key" ∷ []; is = refl; plain = (refl, refl); unlisted = refl }
-
--- ---- the removed entries
-
-abbrev pub removed_text : List ℕ
-removed_text = select_text entries (codes " WHERE removed IS NOT NULL ORDER BY id")
-
-abbrev pub removed_tests : List Term
-removed_tests = op1 Not (op2 (Is Binary) (col 1 10) (lit Null)) ∷ []
-
-abbrev pub removed_shown : List Term
-removed_shown = terms_of entries
-
-abbrev pub removed_names : List (List ℕ)
-removed_names = names_of entries
-
-pub removed_is : Selects removed_text (select_of entries_tree removed_tests removed_shown entries_order no_limit)
-unfolding understood everything
-removed_is = record { names = removed_names; is = refl; plain = (refl, refl); unlisted = refl }
-
-pub removed_command : command_of (understood vault_schema removed_text) ≡ Select (record { lets = []; body = select_of entries_tree removed_tests removed_shown entries_order no_limit }) removed_names
-unfolding understood everything
-removed_command = refl
-
-pub removed_plain : IsPlain (understood vault_schema removed_text)
-unfolding understood everything
-removed_plain = (refl, refl)

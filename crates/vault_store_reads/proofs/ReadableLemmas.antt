@@ -50,15 +50,8 @@ small_as true size digest is = subst (λ n. n ≤ most_content) (sym is.0) (omeg
 small_as false size None is = absurd is
 small_as false size (Some d) is = is.0
 
-small : (h : History) → IsHistory h → h.entry.size ≤ most_content
+pub small : (h : History) → IsHistory h → h.entry.size ≤ most_content
 small h is = small_as h.entry.marker h.entry.size h.entry.digest is.entry.sized
-
--- ---- tenures
-
-last_sized : (size : ℕ) (ts : List Tenure) → size ≤ most_content → AllByRecursion IsTenure ts → AllByRecursion IsSizedRow (map (sized_with size) (option_to_list (last_tenure ts)))
-last_sized size [] low all = tt
-last_sized size (t ∷ []) low all = (record { size = low; from = all.0.from }, tt)
-last_sized size (t ∷ u ∷ us) low all = last_sized size (u ∷ us) low all.1
 
 -- ---- keys
 
@@ -118,13 +111,6 @@ module _ (v : Vault) (kept : IsKept v) where
   pub rules_readable : (bucket : List ℕ) → AreReadable rule_row IsRuleRow (map rule_row (part_of rules_in (bucket_in v.buckets bucket)))
   rules_readable bucket = reported rule_row IsRuleRow _ (all_part IsRuleRow rules_in (λ (b : Bucket). bytes_eq b.name bucket) v.buckets (rules_limited v kept))
 
-  pub sized_readable : (bucket : List ℕ) → AreReadable sized_row IsSizedRow (map sized_row (flat_map sized_of (held_versions_in v bucket)))
-  sized_readable bucket =
-      reported sized_row IsSizedRow _
-      (all_flat IsSizedRow sized_of (held_versions_in v bucket)
-      (all_filtered (λ (h : History). AllByRecursion IsSizedRow (sized_of h)) (λ h. is_held_version_in bucket h.entry) v.histories
-      (all_as (λ (h : History) (is : IsHistory h × AreTenuresInLimits h). last_sized h.entry.size h.tenures (small h is.0) is.1) v.histories (all_both IsHistory AreTenuresInLimits v.histories kept.limits.histories (tenured v kept)))))
-
   pub held_readable : (bucket key : List ℕ) (most : ℕ) → AreReadable held_row IsHeldRow (take most (reverse (map entry_shown (entries_of v bucket key))))
   held_readable bucket key most =
       let here = all_filtered IsHistory (λ h. is_held_at bucket key h.entry) v.histories kept.limits.histories in
@@ -165,10 +151,3 @@ module _ (v : Vault) (kept : IsKept v) where
   buckets_readable after most =
       let names = all_mapped IsBucketName (λ (b : Bucket). b.name) v.buckets (all_as (λ (b : Bucket) (is : IsBucket b). is.name) v.buckets kept.limits.buckets) in
       reported name_row IsBucketName _ (all_taken IsBucketName most _ (all_filtered IsBucketName (λ name. is_behind name after) (map (λ (b : Bucket). b.name) v.buckets) names))
-
-  -- a row that one of the removed entries has
-  pub removed_readable : (given : List Row) (row : Row) (tail : List Row) → (given ++ row ∷ []) ++ tail ≡ map entry_row (removed_entries v) → ReportsOne entry_row IsEntry row
-  removed_readable given row tail are =
-      let gone = all_filtered IsHistory (λ h. not (is_held h.entry)) v.histories kept.limits.histories in
-      let all = reported entry_row IsEntry (removed_entries v) (all_mapped IsEntry (λ (h : History). h.entry) _ (all_as (λ (h : History) (is : IsHistory h). is.entry) _ gone)) in
-      at_seam (ReportsOne entry_row IsEntry) given row tail (subst (AllByRecursion (ReportsOne entry_row IsEntry)) (sym are) all)

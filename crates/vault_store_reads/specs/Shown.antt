@@ -1,22 +1,18 @@
 -- What a row of an ordered read says.
-use Rattle.std.specs.Prelude.{ℕ, ◌*◌, ◌==◌, not, List, [], ◌∷◌, map, filter, reverse, Option, None, Some, option_map, option_to_list}
+use Rattle.std.specs.Prelude.{ℕ, ◌==◌, not, List, [], ◌∷◌, map, filter, reverse, Option, None, Some, option_map}
 use Rattle.sqlite_value.specs.declared.value.Value.TheVariants.{Text}
 use Rattle.sqlite_value.specs.Order.{Row}
-use Rattle.vault_base.specs.Days.{day}
 use Rattle.vault_rules.specs.declared.plan.Held.{Held}
 use Rattle.vault_rules.specs.declared.rule.Rule.{Rule}
 use Rattle.vault_core_model.specs.declared.records.History.{History}
 use Rattle.vault_core_model.specs.declared.records.LastSetting.{LastSetting}
-use Rattle.vault_core_model.specs.declared.records.Tenure.{Tenure}
 use Rattle.vault_core_model.specs.Places.{held_at}
 use Rattle.vault_core_model.specs.Reads.{head_over, lock_of}
-use Rattle.vault_core_model.specs.Sound.{last_tenure}
 use Rattle.vault_core_model.specs.Vault.{Vault}
 use Rattle.vault_audit_model.specs.declared.rows.RuleRow.{RuleRow}
 use Rattle.vault_audit_model.specs.Rows.{retention_mode, retention_until}
 use Rattle.vault_audit_model.specs.Values.{number, flag}
 use Rattle.vault_store_reads.specs.declared.rows_in_order.shown.HeldRow.{HeldRow}
-use Rattle.vault_store_reads.specs.declared.rows_in_order.shown.SizedRow.{SizedRow}
 
 -- the place of a version's last setting, which is how many it has, and its lock
 abbrev pub last_row : LastSetting → Row
@@ -44,21 +40,6 @@ id_row id = number id ∷ []
 -- the ids of a key's held entries, the newest first
 abbrev pub ids_at : Vault → List ℕ → List ℕ → List ℕ
 ids_at v bucket key = reverse (map (λ h. h.entry.id) (held_at v bucket key))
-
--- the size of a version, and since when its department has it
-abbrev pub sized_row : SizedRow → Row
-sized_row x = number x.size ∷ number x.from ∷ []
-
-abbrev pub sized_with : ℕ → Tenure → SizedRow
-sized_with size t = record { size = size; from = t.from }
-
--- a version has a last tenure
-abbrev pub sized_of : History → List SizedRow
-sized_of h = map (sized_with h.entry.size) (option_to_list (last_tenure h.tenures))
-
--- its size times the day from which its department has it
-abbrev pub weight_of : SizedRow → ℕ
-weight_of x = x.size * day x.from
 
 -- the rules of these rows; no rule is no set of rules
 abbrev pub set_of : List RuleRow → Option (List Rule)

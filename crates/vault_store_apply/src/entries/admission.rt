@@ -15,13 +15,13 @@ ghost use Rattle.vault_store_edits.specs.Commits.{KeepsIfErr};
 
 use crate::commit::commit_part;
 use crate::entries::place::read_place;
-use crate::known::Known;
 use crate::parts::entry::NewEntry;
 use sqlite::{Alter, Connection, Error, ErrorCode};
 use vault_base::moment::Moment;
 use vault_base::name::VersionId;
 use vault_core_model::change::Admission;
 use vault_core_model::records::Head;
+use vault_store_model::known::{Known, with_version};
 use vault_tally::row::Row;
 
 /// The head of a key with one entry more. `TooBig` beyond 64 bits.
@@ -41,15 +41,6 @@ fn next_head(id: VersionId, head: Option<Head>) -> Result<Head, Error>
         newest: id,
         count: head.count + 1,
     })
-}
-
-/// The sums with a version counted in that is admitted at a moment.
-pub(crate) fn with_version(sums: Row, size: u64, at: Moment) -> Row
-    ensures { CountsIn sums size (day at) result }
-{
-    let mut sums = sums;
-    sums.admit(size, at.day());
-    sums
 }
 
 /// Admits an entry, with its note if it came by an intake list.

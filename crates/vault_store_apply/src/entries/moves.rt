@@ -9,20 +9,21 @@ ghost use Rattle.vault_core_model.specs.Vault.{Vault, config_of};
 ghost use Rattle.vault_store_model.specs.Keeping.{Keeps};
 ghost use Rattle.vault_store_model.specs.Sums.{HandsOver, Receives};
 ghost use Rattle.vault_store_apply.specs.Applies.{Changes, IsChanged};
-ghost use Rattle.vault_store_apply.specs.Known.{AreKnown, IsKnownOf, IsOpen};
+ghost use Rattle.vault_store_model.specs.Known.{AreKnown};
+ghost use Rattle.vault_store_apply.specs.Known.{IsKnownOf, IsOpen};
 ghost use Rattle.vault_store_reads.specs.Quiet.{OnlyReads, IsOpenIfOk};
 ghost use Rattle.vault_store_edits.specs.Commits.{KeepsIfErr};
 
 use crate::commit::commit_part;
 use crate::entries::place::{read_config, read_sums};
-use crate::known::Known;
 use crate::parts::moves::MovedBucket;
 use sqlite::{Alter, Connection, Error, ErrorCode};
 use vault_base::moment::Moment;
 use vault_base::name::{BucketName, DeptName};
 use vault_core_model::records::BucketConfig;
+use vault_store_model::known::Known;
 use vault_store_reads::meta::read_moves;
-use vault_store_reads::rows_in_order::reads::read_bucket_held;
+use vault_store_walks::held::read_bucket_held;
 use vault_tally::row::Row;
 
 /// The number behind so many moves. `TooBig` beyond 32 bits.

@@ -17,12 +17,12 @@ ghost use Rattle.vault_store_edits.specs.Commits.{KeepsIfErr};
 use crate::commit::commit_part;
 use crate::entries::beside::read_beside;
 use crate::entries::place::read_place;
-use crate::known::Known;
 use crate::parts::entry::RemovedEntry;
 use sqlite::{Alter, Connection, Error};
 use vault_base::moment::Moment;
 use vault_base::name::VersionId;
 use vault_core_model::records::{Entry, Head, Removal};
+use vault_store_model::known::Known;
 use vault_store_reads::entries::read_entry;
 use vault_tally::row::Row;
 

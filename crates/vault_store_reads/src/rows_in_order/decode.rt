@@ -11,8 +11,8 @@ ghost use Rattle.vault_audit_walk.specs.Records.{ReportsOne};
 ghost use Rattle.vault_store_reads.specs.Readable.{AreReadable, IsHeldRow};
 ghost use Rattle.vault_store_reads.specs.Shown.{held_row, key_row, set_of};
 
-use crate::query::unread;
-use crate::rows_in_order::shown::{HeldRow, UNREADABLE, read_held, read_key};
+use crate::query::{UNREADABLE, unread};
+use crate::rows_in_order::shown::{HeldRow, read_held, read_key};
 use sqlite::{Error, Row};
 use std::alloc::Global;
 use vault_audit_rows::records::{read_rule, read_setting, read_tenure};

@@ -11,10 +11,11 @@ ghost use Rattle.vault_store_reads.specs.Quiet.{ReadsQuietly, IsOpenIfOk};
 ghost use Rattle.vault_store_reads.specs.Wants.{WantsMemoryIfErr};
 ghost use Rattle.vault_store_reads.specs.Shown.{held_row, entry_shown, with_lock_in};
 
+use crate::query::UNREADABLE;
 use crate::rows_in_order::count::find_count;
 use crate::rows_in_order::decode::{decode_held, decode_tenure};
 use crate::rows_in_order::rows::{entry_rows, last_tenure_rows, setting_rows};
-use crate::rows_in_order::shown::{HeldRow, UNREADABLE, read_last};
+use crate::rows_in_order::shown::{HeldRow, read_last};
 use sqlite::{Alter, Connection, Error};
 use std::alloc::Global;
 use vault_base::name::{BucketName, ObjectKey, VersionId};

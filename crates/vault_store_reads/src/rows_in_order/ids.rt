@@ -16,9 +16,10 @@ ghost use Rattle.vault_store_reads.specs.Readable.{AreReadable};
 ghost use Rattle.vault_store_reads.specs.Shown.{id_row, ids_at};
 ghost use Rattle.vault_store_reads.specs.Wants.{WantsMemoryIfErr};
 
+use crate::query::UNREADABLE;
 use crate::rows_in_order::count::find_count;
 use crate::rows_in_order::rows::open_rows;
-use crate::rows_in_order::shown::{UNREADABLE, read_id};
+use crate::rows_in_order::shown::read_id;
 use sqlite::{Alter, Connection, Error, Row, params};
 use std::alloc::Global;
 use vault_base::name::{BucketName, ObjectKey, VersionId};
