@@ -13,7 +13,7 @@ ghost use Rattle.vault_core_model.specs.Change.{changed};
 ghost use Rattle.vault_core_model.specs.Halts.{is_device_given};
 ghost use Rattle.vault_core_model.specs.Leaves.{count_after};
 ghost use Rattle.vault_store_model.specs.Known.{AreKnown};
-ghost use Rattle.vault_store_apply.specs.Left.{IsFoundIn, LeavesAlone};
+ghost use Rattle.vault_store_apply.specs.Left.{IsFoundIn, LeavesAlone, MayLeave};
 ghost use Rattle.vault_audit_model.specs.Spells.{AreSound};
 ghost use Rattle.vault_store.specs.Kept.{kept_vault, IsSettled, StandsFor};
 ghost use Rattle.vault_store.specs.Left.{IsKept, LeavesOneOf};
@@ -216,7 +216,7 @@ impl<S: Alter> SqlKeeper<S> {
         ensures forgotten { OnOk result (self.new.refused.items ≡ []) }
         ensures refused { OnErr result (self.new.refused.items ≡ self.old.refused.items ++ (at, change.now) ∷ []) }
         // A crash leaves what it could leave before, or the vault with the change; once that is acknowledged, this vault alone.
-        ensures crash { HasCleanDisk (state S.Store self.new.conn) → ∥ Survives (state S.Store self.old.conn) (state S.Store self.new.conn) (IsFoundIn (changed (vault_of S.Store self.old) at change.now)) ∥₁ }
+        ensures crash { HasCleanDisk (state S.Store self.new.conn) → ∥ MayLeave S.Store self.old.conn self.new.conn (changed (vault_of S.Store self.old) at change.now) ∥₁ }
         ensures alone { HasCleanDisk (state S.Store self.new.conn) → OnOk result (∥ LeavesAlone (state S.Store self.new.conn) (vault_of S.Store self.new) ∥₁) }
         ensures open { HasCleanDisk (state S.Store self.new.conn) → OnOk result (IsTrue (state S.Store self.new.conn).is_open) }
     {
@@ -554,7 +554,7 @@ impl<S: Alter> Keeper for SqlKeeper<S> {
         // What `make` says of refused changes and of a crash.
         ensures forgotten { OnOk result (self.new.refused.items ≡ []) }
         ensures refused { OnErr result (self.new.refused.items ≡ self.old.refused.items ++ (at, change.now) ∷ []) }
-        ensures crash { HasCleanDisk (state S.Store self.new.conn) → ∥ Survives (state S.Store self.old.conn) (state S.Store self.new.conn) (IsFoundIn (changed (vault_of S.Store self.old) at change.now)) ∥₁ }
+        ensures crash { HasCleanDisk (state S.Store self.new.conn) → ∥ MayLeave S.Store self.old.conn self.new.conn (changed (vault_of S.Store self.old) at change.now) ∥₁ }
         ensures alone { HasCleanDisk (state S.Store self.new.conn) → OnOk result (∥ LeavesAlone (state S.Store self.new.conn) (vault_of S.Store self.new) ∥₁) }
         ensures open { HasCleanDisk (state S.Store self.new.conn) → OnOk result (IsTrue (state S.Store self.new.conn).is_open) }
     {

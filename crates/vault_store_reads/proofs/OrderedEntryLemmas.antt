@@ -10,9 +10,8 @@ use Rattle.sqlite_value.specs.declared.value.Value.TheVariants.{Null, Int, Text}
 use Rattle.sqlite_value.specs.declared.keys.Collation.TheVariants.{Binary}
 use Rattle.sqlite_value.specs.Order.{Row, column}
 use Rattle.sqlite_sql.specs.declared.ops.BinaryOp.TheVariants.{Compare, Is}
-use Rattle.sqlite_sql.specs.declared.ops.UnaryOp.TheVariants.{Not}
 use Rattle.sqlite_sql.specs.declared.ops.CompareOp.TheVariants.{Eq, Ne}
-use Rattle.sqlite_sql.specs.Ops.{unary, binary, is_true}
+use Rattle.sqlite_sql.specs.Ops.{binary, is_true}
 use Rattle.sqlite_sql.specs.Term.{col, lit}
 use Rattle.sqlite_sql.specs.Query.{Query, Output, output, output_cmp}
 use Rattle.vault_audit_model.specs.Tables.{entries_tree}
@@ -26,13 +25,12 @@ use Rattle.vault_audit_model.specs.Values.{number}
 use Rattle.vault_store_reads.specs.Queries.{FindsRows}
 use Rattle.vault_store_model.specs.Scans.{passes}
 use Rattle.vault_store_reads.specs.Shown.{entry_shown, id_row, newest_but}
-use Rattle.sqlite_tied.proofs.RuleLemmas.{and_true}
 use Rattle.vault_store_reads.proofs.OrderedListLemmas.{falls, map-reverse, last, first_reversed, last-map, mapped_kept, always, filter_twice}
 use Rattle.vault_store_reads.proofs.SelectLemmas.{select_of, of_records, answered}
 use Rattle.vault_store_reads.proofs.SettingLemmas.{ids_rise}
-use Rattle.vault_store_reads.proofs.OrderedTextLemmas.{entries_text, entries_tests, entries_shown, entries_order, entries_is, newest_text, newest_tests, newest_is, held_order}
+use Rattle.vault_store_reads.proofs.OrderedTextLemmas.{entries_text, entries_tests, entries_shown, entries_is, newest_text, newest_tests, newest_is, held_order}
 use Rattle.vault_audit_model.proofs.ValueLemmas.{same_text, none_removed, three}
-use Rattle.vault_store_reads.proofs.ValueLemmas.{other_number, null_if_held, number_less, null_then_less}
+use Rattle.vault_store_reads.proofs.ValueLemmas.{other_number, null_if_held, null_then_less}
 
 abbrev pub row_of : History → Row
 row_of h = entry_row h.entry

@@ -1,19 +1,15 @@
 -- What the statements mean.
-use Rattle.std.proofs.Common.{◌≡◌, ℕ, pos, negsuc, List, [], ◌∷◌, codes, true, false, None, refl}
+use Rattle.std.proofs.Common.{ℕ, pos, negsuc, List, [], ◌∷◌, codes, true, refl}
 use Rattle.sqlite_tied.specs.Compute.{everything}
 use Rattle.sqlite_value.specs.declared.value.Value.TheVariants.{Null, Int}
 use Rattle.sqlite_value.specs.declared.keys.Collation.TheVariants.{Binary}
 use Rattle.sqlite_value.specs.declared.keys.Key.{Key}
 use Rattle.sqlite_value.specs.Keys.{ascending}
 use Rattle.sqlite_sql.specs.declared.ops.BinaryOp.TheVariants.{Compare, Is}
-use Rattle.sqlite_sql.specs.declared.ops.UnaryOp.TheVariants.{Not}
 use Rattle.sqlite_sql.specs.declared.ops.CompareOp.TheVariants.{Eq, Ne, Gt, Lt}
-use Rattle.sqlite_sql.specs.Term.{Term, lit, col, op1, op2}
-use Rattle.sqlite_sql.specs.Query.{Query, inner, counted, end}
-use Rattle.sqlite_schema.specs.declared.command.Command.TheVariants.{Select}
+use Rattle.sqlite_sql.specs.Term.{Term, lit, col, op2}
 use Rattle.sqlite.specs.Listing.{understood}
-use Rattle.sqlite.proofs.Callers.{IsPlain, command_of}
-use Rattle.vault_audit_model.specs.Tables.{vault_schema, entries, rules, settings, tenures, buckets_tree, entries_tree, heads_tree, rules_tree, settings_tree, tenures_tree}
+use Rattle.vault_audit_model.specs.Tables.{entries, rules, settings, tenures, buckets_tree, entries_tree, heads_tree, rules_tree, settings_tree, tenures_tree}
 use Rattle.vault_audit_schema.specs.Texts.{names_of, select_text, terms_of}
 use Rattle.vault_store_reads.specs.Queries.{Selects}
 use Rattle.vault_store_reads.proofs.SelectLemmas.{select_of}

@@ -1,5 +1,5 @@
 -- The rows that the ordered reads find of a vault are in their limits.
-use Rattle.std.proofs.Common.{◌≡◌, ℕ, ◌≤◌, List, [], ◌∷◌, ◌++◌, length, map, filter, flat_map, take, reverse, Bool, true, false, Some, None, Option, option_to_list, IfSome, IsTrue, ◌==◌, not, Ordering, Less, Equal, Greater, nat_cmp, refl, sym, subst, ◌∙◌, arith}
+use Rattle.std.proofs.Common.{ℕ, ◌≤◌, List, [], ◌∷◌, length, map, filter, take, reverse, Bool, true, false, Some, None, Option, option_to_list, IfSome, IsTrue, ◌==◌, not, Ordering, Less, Equal, Greater, nat_cmp, refl, sym, subst, ◌∙◌, arith}
 use Rattle.std.specs.Prelude.{option_map}
 use Rattle.std.specs.List.{AllByRecursion}
 use Rattle.std.specs.Cmp.Lexicographic.{slice_cmp}
@@ -8,25 +8,22 @@ use Rattle.sqlite_keyed.proofs.ListLemmas.{map-map}
 use Rattle.sqlite_value.specs.Order.{Row}
 use Rattle.vault_base.specs.Name.{is_version_id}
 use Rattle.vault_core_model.specs.Checks.{most_content, most_settings}
-use Rattle.vault_core_model.specs.Places.{is_held, is_held_at, is_held_in, is_held_version_in, is_behind, held_at, keys_of, key_set, with_key, with_key_by}
-use Rattle.vault_core_model.specs.Reads.{buckets_after, entries_of, head_over, held_of, ids_before, is_older, keys_after, last_setting, removed_entries, setting_of}
-use Rattle.vault_core_model.specs.Sound.{IsWhole, last_tenure}
-use Rattle.vault_core_model.specs.Totals.{held_versions_in}
+use Rattle.vault_core_model.specs.Places.{is_held_at, is_held_in, is_behind, held_at, keys_of, key_set, with_key, with_key_by}
+use Rattle.vault_core_model.specs.Reads.{buckets_after, entries_of, head_over, held_of, ids_before, is_older, keys_after, last_setting, setting_of}
+use Rattle.vault_core_model.specs.Sound.{IsWhole}
 use Rattle.vault_core_model.specs.Vault.{Vault, history_of, bucket_in, last_lock}
 use Rattle.vault_core_model.specs.declared.records.Bucket.{Bucket}
 use Rattle.vault_core_model.specs.declared.records.Head.{Head}
 use Rattle.vault_core_model.specs.declared.records.History.{History}
 use Rattle.vault_core_model.specs.declared.records.Setting.{Setting}
-use Rattle.vault_core_model.specs.declared.records.Tenure.{Tenure}
-use Rattle.vault_audit_model.specs.Limits.{IsBucket, IsBucketName, IsEntry, IsSizedAs, IsHistory, IsObjectKey, IsRetention, IsRuleRow, IsSetting, IsSettingRow, IsTenure, IsTenureRow}
-use Rattle.vault_audit_model.specs.Relations.{AreTenuresInLimits}
-use Rattle.vault_audit_model.specs.Rows.{entry_row, rule_row, setting_row, tenure_row}
+use Rattle.vault_audit_model.specs.Limits.{IsBucket, IsBucketName, IsSizedAs, IsHistory, IsObjectKey, IsRetention, IsRuleRow, IsSetting, IsSettingRow, IsTenureRow}
+use Rattle.vault_audit_model.specs.Rows.{rule_row, setting_row, tenure_row}
 use Rattle.vault_audit_model.specs.Spells.{IsKept, rules_in, settings_in, tenures_in}
-use Rattle.vault_audit_model.proofs.ListLemmas.{all_as, all_both}
+use Rattle.vault_audit_model.proofs.ListLemmas.{all_as}
 use Rattle.vault_audit_walk.specs.Records.{ReportsOne}
-use Rattle.vault_store_reads.specs.Readable.{AreReadable, IsHeldRow, IsLastSetting, IsSizedRow}
-use Rattle.vault_store_reads.specs.Shown.{entry_shown, held_row, id_row, ids_at, key_row, last_row, name_row, newest_but, sized_of, sized_row, sized_with, without_lock}
-use Rattle.vault_store_reads.proofs.LimitLemmas.{all_filtered, all_flat, all_given, all_last, all_mapped, all_part, all_reversed, all_taken, at_seam, most_of, rules_limited, settings_limited, tenured, tenures_limited, wholes}
+use Rattle.vault_store_reads.specs.Readable.{AreReadable, IsHeldRow, IsLastSetting}
+use Rattle.vault_store_reads.specs.Shown.{entry_shown, held_row, id_row, ids_at, key_row, last_row, name_row, newest_but, without_lock}
+use Rattle.vault_store_reads.proofs.LimitLemmas.{all_filtered, all_given, all_last, all_mapped, all_part, all_reversed, all_taken, most_of, rules_limited, settings_limited, tenures_limited, wholes}
 use Rattle.vault_store_reads.proofs.OrderedListLemmas.{last, part_of}
 
 pub reported : {X : Type 0} (row_of : X → Row) (Is : X → Type 0) (xs : List X) → AllByRecursion Is xs → AreReadable row_of Is (map row_of xs)

@@ -1,7 +1,7 @@
 -- What a bucket holds: the last tenure of each held version, in any order, with the version's size.
-use Rattle.std.proofs.Common.{◌≡◌, inl, inr, ℕ, zero, suc, ◌==◌, ◌&&◌, min, eqb, ne_eqb, not, List, [], ◌∷◌, length, map, filter, find, flat_map, ◌++◌, cond, Bool, true, false, Option, None, Some, option_to_list, pos, IsPermutation, refl, sym, ap, ap₂, subst, subst₂, ◌∙◌, arith}
-use Rattle.std.specs.Prelude.{option_map, unwrap_or, nat_lt}
-use Rattle.std.specs.List.{AllByRecursion, list_all, list_any}
+use Rattle.std.proofs.Common.{◌≡◌, inl, inr, ℕ, zero, suc, ◌==◌, ◌&&◌, min, eqb, ne_eqb, List, [], ◌∷◌, length, map, filter, find, flat_map, ◌++◌, cond, Bool, true, false, Option, None, Some, option_to_list, pos, IsPermutation, refl, sym, ap, subst, subst₂, ◌∙◌, arith}
+use Rattle.std.specs.Prelude.{option_map, unwrap_or}
+use Rattle.std.specs.List.{AllByRecursion, list_all}
 use Rattle.std.proofs.lemmas.Bool.{cases_Bool}
 use Rattle.std.proofs.lemmas.List.{length-map}
 use Rattle.std.proofs.lemmas.List.Sorted.{IsPermutation-append, IsPermutation-map, IsPermutation-refl, IsPermutation-trans, length_permutation}
@@ -14,7 +14,6 @@ use Rattle.sqlite_sql.specs.Term.{Env, holds}
 use Rattle.sqlite_sql.specs.declared.ops.BinaryOp.TheVariants.{Compare, Is}
 use Rattle.sqlite_sql.specs.declared.ops.CompareOp.TheVariants.{Eq, Lt}
 use Rattle.sqlite_sql.specs.declared.ops.UnaryOp.TheVariants.{Not}
-use Rattle.sqlite_tied.proofs.RuleLemmas.{and_true}
 use Rattle.sqlite_trees.specs.Tree.{Trees}
 use Rattle.sqlite_value.specs.Order.{Row, column}
 use Rattle.sqlite_value.specs.declared.keys.Collation.TheVariants.{Binary}
@@ -31,7 +30,6 @@ use Rattle.vault_core_model.specs.Sound.{last_tenure}
 use Rattle.vault_core_model.specs.Totals.{held_versions_in}
 use Rattle.vault_core_model.specs.Vault.{Vault}
 use Rattle.vault_core_model.specs.declared.records.History.{History}
-use Rattle.vault_core_model.specs.declared.records.Tenure.{Tenure}
 use Rattle.vault_store_model.proofs.CopyLemmas.{test_is}
 use Rattle.vault_store_model.proofs.ScanLemmas.{uncovered}
 use Rattle.vault_store_model.specs.Copies.{is_held_version}

@@ -1,5 +1,5 @@
 -- The removed entries by their ids.
-use Rattle.std.proofs.Common.{◌≡◌, ◌<◌, ◌&&◌, List, [], ◌∷◌, map, filter, Bool, true, not, Less, refl, sym, ap, ◌∙◌}
+use Rattle.std.proofs.Common.{◌≡◌, ◌&&◌, List, [], ◌∷◌, map, filter, Bool, true, not, Less, refl, sym, ◌∙◌}
 use Rattle.sqlite_trees.specs.Tree.{IsAscending}
 use Rattle.sqlite_keyed.proofs.ListLemmas.{map-map, ascending-map, ascending_weaker, ascending-filter}
 use Rattle.sqlite_value.specs.declared.value.Value.TheVariants.{Null}

@@ -2,13 +2,9 @@
 //!
 //! Each comes with its last tenure, which is the one that none of the same version follows. Their tenures are found by
 //! their key. No index has a bucket's held versions alone, so its removed ones are passed over one by one.
-ghost use Rattle.std.specs.Prelude.{◌≡◌, ◌≢◌, ◌+◌, ◌<◌, ◌^◌, MatchOption, IfOk};
-ghost use Rattle.sqlite.specs.Held.{state};
-ghost use Rattle.sqlite.specs.State.{HasCleanDisk};
+ghost use Rattle.std.specs.Prelude.{◌≡◌, ◌≢◌, ◌+◌, ◌<◌, ◌^◌, MatchOption};
 ghost use Rattle.vault_core_model.specs.Totals.{bucket_bytes, bucket_weight};
-ghost use Rattle.vault_core_model.specs.Vault.{Vault};
-ghost use Rattle.vault_store_model.specs.Keeping.{Keeps};
-ghost use Rattle.vault_store_reads.specs.Quiet.{OnlyReads, ReadsQuietly, IsOpenIfOk};
+ghost use Rattle.vault_store_reads.specs.Quiet.{OnlyReads, ReadsQuietly, IsOpenIfOk, SaysOf};
 ghost use Rattle.vault_store_reads.specs.Wants.{WantsMemoryIfErr};
 ghost use Rattle.vault_store_walks.specs.Sized.{IsSizedRow, sized_row, weight_of};
 ghost use Rattle.vault_store_walks.specs.declared.held.SizedRow.{SizedRow as Sized};
@@ -69,7 +65,7 @@ fn find_bucket_held<S: Alter>(
     conn: &mut Connection<S>,
     bucket: &BucketName,
 ) -> Result<(u64, u64), Error>
-    ensures value { HasCleanDisk (state S.Store conn.new) → IfOk result (λ held. (v : Vault) → Keeps (state S.Store conn.old) v → (held.0 ≡ bucket_bytes v bucket.now) × (held.1 ≡ bucket_weight v bucket.now)) }
+    ensures value { SaysOf S.Store conn.old conn.new result (λ v held. (held.0 ≡ bucket_bytes v bucket.now) × (held.1 ≡ bucket_weight v bucket.now)) }
     ensures read { ReadsQuietly S.Store conn.old conn.new }
     ensures open { IsOpenIfOk S.Store conn.new result }
     ensures memory { WantsMemoryIfErr S.Store conn.old conn.new result }
@@ -99,7 +95,7 @@ pub fn read_bucket_held<S: Alter>(
     conn: &mut Connection<S>,
     bucket: &BucketName,
 ) -> Result<(u64, u64), Error>
-    ensures value { HasCleanDisk (state S.Store conn.new) → IfOk result (λ held. (v : Vault) → Keeps (state S.Store conn.old) v → (held.0 ≡ bucket_bytes v bucket.now) × (held.1 ≡ bucket_weight v bucket.now)) }
+    ensures value { SaysOf S.Store conn.old conn.new result (λ v held. (held.0 ≡ bucket_bytes v bucket.now) × (held.1 ≡ bucket_weight v bucket.now)) }
     ensures read { OnlyReads S.Store conn.old conn.new }
     ensures open { IsOpenIfOk S.Store conn.new result }
     ensures memory { WantsMemoryIfErr S.Store conn.old conn.new result }

@@ -1,14 +1,10 @@
 //! An entry that is admitted.
 ghost use Rattle.std.specs.Prelude.{◌≡◌, false, IfOk, OnOk};
 ghost use Rattle.sqlite.specs.Held.{state};
-ghost use Rattle.sqlite.specs.State.{HasCleanDisk, Survives};
+ghost use Rattle.sqlite.specs.State.{HasCleanDisk};
 ghost use Rattle.vault_core_model.specs.declared.change.Change.TheVariants as change;
-ghost use Rattle.vault_base.specs.Days.{day};
-ghost use Rattle.vault_core_model.specs.Vault.{Vault};
-ghost use Rattle.vault_store_model.specs.Keeping.{Keeps};
 ghost use Rattle.vault_store_model.specs.Changes.{head_with};
-ghost use Rattle.vault_store_model.specs.Sums.{CountsIn};
-ghost use Rattle.vault_store_apply.specs.Applies.{Changes, IsChanged};
+ghost use Rattle.vault_store_apply.specs.Applies.{Changes, MayLeaveChanged};
 ghost use Rattle.vault_store_apply.specs.Known.{IsKnownOf};
 ghost use Rattle.vault_store_reads.specs.Quiet.{IsOpenIfOk};
 ghost use Rattle.vault_store_edits.specs.Commits.{KeepsIfErr};
@@ -57,7 +53,7 @@ pub fn admit<S: Alter>(
     ensures done { HasCleanDisk (state S.Store conn.new) → OnOk result (Changes (state S.Store conn.old) (state S.Store conn.new) at (change.Admit admission.now)) }
     ensures nothing { KeepsIfErr S.Store conn.old conn.new result }
     ensures honest { HasCleanDisk (state S.Store conn.new) → HasCleanDisk (state S.Store conn.old) }
-    ensures crash { (v : Vault) → Keeps (state S.Store conn.old) v → Survives (state S.Store conn.old) (state S.Store conn.new) (IsChanged (state S.Store conn.old) v at (change.Admit admission.now)) }
+    ensures crash { MayLeaveChanged S.Store conn.old conn.new at (change.Admit admission.now) }
 {
     let entry = &admission.history.entry;
     let place = read_place(conn, known, &entry.bucket, &entry.key)?;

@@ -1,14 +1,14 @@
 //! A bucket that moves to another department.
 ghost use Rattle.std.specs.Prelude.{◌≡◌, ◌+◌, false, Some, IfOk, OnOk};
 ghost use Rattle.sqlite.specs.Held.{state};
-ghost use Rattle.sqlite.specs.State.{HasCleanDisk, Survives};
+ghost use Rattle.sqlite.specs.State.{HasCleanDisk};
 ghost use Rattle.vault_base.specs.Days.{day};
 ghost use Rattle.vault_core_model.specs.declared.change.Change.TheVariants as change;
 ghost use Rattle.vault_core_model.specs.Totals.{IsRowFor, bucket_bytes, bucket_weight};
 ghost use Rattle.vault_core_model.specs.Vault.{Vault, config_of};
 ghost use Rattle.vault_store_model.specs.Keeping.{Keeps};
 ghost use Rattle.vault_store_model.specs.Sums.{HandsOver, Receives};
-ghost use Rattle.vault_store_apply.specs.Applies.{Changes, IsChanged};
+ghost use Rattle.vault_store_apply.specs.Applies.{Changes, MayLeaveChanged};
 ghost use Rattle.vault_store_model.specs.Known.{AreKnown};
 ghost use Rattle.vault_store_apply.specs.Known.{IsKnownOf, IsOpen};
 ghost use Rattle.vault_store_reads.specs.Quiet.{OnlyReads, IsOpenIfOk};
@@ -171,7 +171,7 @@ pub fn move_bucket<S: Alter>(
     ensures done { HasCleanDisk (state S.Store conn.new) → OnOk result (Changes (state S.Store conn.old) (state S.Store conn.new) at (change.MoveBucket name.now dept.now)) }
     ensures nothing { KeepsIfErr S.Store conn.old conn.new result }
     ensures honest { HasCleanDisk (state S.Store conn.new) → HasCleanDisk (state S.Store conn.old) }
-    ensures crash { (v : Vault) → Keeps (state S.Store conn.old) v → Survives (state S.Store conn.old) (state S.Store conn.new) (IsChanged (state S.Store conn.old) v at (change.MoveBucket name.now dept.now)) }
+    ensures crash { MayLeaveChanged S.Store conn.old conn.new at (change.MoveBucket name.now dept.now) }
 {
     let load = read_load(conn, known, name)?;
     let hands = read_hands(conn, known, name, dept)?;
