@@ -14,8 +14,8 @@ use Rattle.vault_audit_laws.proofs.Uniqueness.{same_vault}
 use Rattle.vault_audit_model.specs.contracts.rows.MetaRow as meta
 use Rattle.vault_audit_model.specs.Spells.{meta_of}
 use Rattle.vault_store_model.specs.Keeping.{Keeps}
-use Rattle.vault_store_apply.specs.declared.known.Known.{Known}
-use Rattle.vault_store_apply.specs.Known.{AreKnown}
+use Rattle.vault_store_model.specs.declared.known.Known.{Known}
+use Rattle.vault_store_model.specs.Known.{AreKnown}
 use Rattle.vault_store.specs.Knows.{StaysKnown}
 use Rattle.vault_store.specs.Left.{IsKept}
 

@@ -4,8 +4,8 @@ use Rattle.sqlite.specs.Held.{Held, state}
 use Rattle.sqlite.specs.State.{HasCleanDisk}
 use Rattle.vault_core_model.specs.Vault.{Vault}
 use Rattle.vault_store_model.specs.Keeping.{Keeps}
-use Rattle.vault_store_apply.specs.declared.known.Known.{Known}
-use Rattle.vault_store_apply.specs.Known.{AreKnown}
+use Rattle.vault_store_model.specs.declared.known.Known.{Known}
+use Rattle.vault_store_model.specs.Known.{AreKnown}
 
 -- what was known of the vault that a connection kept, what is known then is true of it too
 abbrev pub StaysKnown : {S : Type 0} → Ghosts S → Held S → Held S → Known → Known → Type 0

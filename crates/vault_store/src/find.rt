@@ -6,20 +6,20 @@ ghost use Rattle.vault_core_model.specs.Totals.{IsRowFor, bucket_bytes, bucket_w
 ghost use Rattle.vault_core_model.specs.Vault.{Vault, config_of};
 ghost use Rattle.vault_audit_model.specs.Spells.{meta_of};
 ghost use Rattle.vault_store_model.specs.Keeping.{Keeps};
-ghost use Rattle.vault_store_apply.specs.Known.{AreKnown, IsOpen};
+ghost use Rattle.vault_store_model.specs.Known.{AreKnown};
+ghost use Rattle.vault_store_apply.specs.Known.{IsOpen};
 ghost use Rattle.vault_store_reads.specs.Quiet.{OnlyReads, IsOpenIfOk};
 ghost use Rattle.vault_store_reads.specs.Wants.{WantsMemoryIfErr};
 ghost use Rattle.vault_store.specs.Knows.{StaysKnown};
 
 use sqlite::{Alter, Connection, Error, ErrorCode};
-use std::alloc::Global;
 use vault_audit_model::rows::MetaRow;
 use vault_base::name::{BucketName, DeptName};
 use vault_core_model::records::BucketConfig;
-use vault_store_apply::known::Known;
+use vault_store_model::known::Known;
 use vault_store_reads::meta::{read_meta, read_moves};
 use vault_store_reads::names::{read_bucket, read_totals};
-use vault_store_reads::rows_in_order::reads::read_bucket_held;
+use vault_store_walks::held::read_bucket_held;
 use vault_tally::row::Row;
 
 /// The row of `meta`, asked of the tables.
@@ -149,7 +149,6 @@ pub(crate) fn find_sums<S: Alter>(
 fn ask_held<S: Alter>(
     conn: &mut Connection<S>,
     known: &mut Known,
-    alloc: Global,
     name: &BucketName,
 ) -> Result<(u64, u64), Error>
     ensures value { HasCleanDisk (state S.Store conn.new) → IfOk result (λ held. (v : Vault) → Keeps (state S.Store conn.old) v
@@ -159,7 +158,7 @@ fn ask_held<S: Alter>(
     ensures open { IsOpenIfOk S.Store conn.new result }
     ensures memory { WantsMemoryIfErr S.Store conn.old conn.new result }
 {
-    let held = read_bucket_held(conn, alloc, name)?;
+    let held = read_bucket_held(conn, name)?;
     known.note_load(name, held.0, held.1);
     Ok(held)
 }
@@ -168,7 +167,6 @@ fn ask_held<S: Alter>(
 pub(crate) fn find_held<S: Alter>(
     conn: &mut Connection<S>,
     known: &mut Known,
-    alloc: Global,
     name: &BucketName,
 ) -> Result<(u64, u64), Error>
     requires { IsOpen S.Store conn.old }
@@ -181,6 +179,6 @@ pub(crate) fn find_held<S: Alter>(
 {
     match known.load(name) {
         Some(held) => Ok(held),
-        None => ask_held(conn, known, alloc, name),
+        None => ask_held(conn, known, name),
     }
 }

@@ -12,8 +12,8 @@ ghost use Rattle.vault_core_model.specs.Allowed.{Allows};
 ghost use Rattle.vault_core_model.specs.Change.{changed};
 ghost use Rattle.vault_core_model.specs.Halts.{is_device_given};
 ghost use Rattle.vault_core_model.specs.Leaves.{count_after};
-ghost use Rattle.vault_store_apply.specs.Known.{AreKnown};
-ghost use Rattle.vault_store_apply.specs.Left.{IsFoundIn, LeavesAlone};
+ghost use Rattle.vault_store_model.specs.Known.{AreKnown};
+ghost use Rattle.vault_store_apply.specs.Left.{IsFoundIn, LeavesAlone, MayLeave};
 ghost use Rattle.vault_audit_model.specs.Spells.{AreSound};
 ghost use Rattle.vault_store.specs.Kept.{kept_vault, IsSettled, StandsFor};
 ghost use Rattle.vault_store.specs.Left.{IsKept, LeavesOneOf};
@@ -43,17 +43,17 @@ use vault_core_model::records::{
 use vault_rules::plan::Held;
 use vault_rules::rule_set::RuleSet;
 use vault_store_apply::apply::apply_change;
-use vault_store_apply::known::Known;
 use vault_store_create::create::fill;
+use vault_store_model::known::Known;
 use vault_store_reads::entries::{read_content, read_entry};
 use vault_store_reads::heads::read_head;
 use vault_store_reads::names::{has_department, read_caller};
 use vault_store_reads::notes::read_note;
-use vault_store_reads::removed::walk_removed;
 use vault_store_reads::rows_in_order::reads::{
     read_buckets, read_entries, read_ids, read_keys, read_rules, read_setting, read_settings,
     read_tenures,
 };
+use vault_store_walks::removed::walk_removed;
 use vault_tally::row::Row;
 
 /// A vault in tables.
@@ -486,7 +486,7 @@ impl<S: Alter> Keeper for SqlKeeper<S> {
         ensures read { ReadsAs S.Store self.old self.new result }
     {
         self.check_open()?;
-        match find_held(&mut self.conn, &mut self.known, self.alloc, bucket) {
+        match find_held(&mut self.conn, &mut self.known, bucket) {
             Ok(found) => Ok(found),
             Err(error) => Err(self.blamed.blame(error)),
         }
@@ -514,8 +514,7 @@ impl<S: Alter> Keeper for SqlKeeper<S> {
         ensures forgotten { OnOk result (self.new.refused.items ≡ []) }
         ensures refused { OnErr result (self.new.refused.items ≡ self.old.refused.items ++ (at, change.now) ∷ []) }
         // A crash leaves what it could leave before, or the vault with the change; once that is acknowledged, this vault alone.
-        ensures crash { HasCleanDisk (state S.Store self.new.conn)
-            → ∥ Survives (state S.Store self.old.conn) (state S.Store self.new.conn) (IsFoundIn (changed (vault_of S.Store self.old) at change.now)) ∥₁ }
+        ensures crash { HasCleanDisk (state S.Store self.new.conn) → ∥ MayLeave S.Store self.old.conn self.new.conn (changed (vault_of S.Store self.old) at change.now) ∥₁ }
         ensures alone { HasCleanDisk (state S.Store self.new.conn) → OnOk result (∥ LeavesAlone (state S.Store self.new.conn) (vault_of S.Store self.new) ∥₁) }
         ensures open { HasCleanDisk (state S.Store self.new.conn) → OnOk result (IsTrue (state S.Store self.new.conn).is_open) }
     {
@@ -527,7 +526,7 @@ impl<S: Alter> Keeper for SqlKeeper<S> {
                 return Err(fault);
             }
         }
-        match apply_change(&mut self.conn, &self.known, self.alloc, at, change) {
+        match apply_change(&mut self.conn, &self.known, at, change) {
             Ok(()) => {
                 self.known.follow(at, change);
                 self.made = self.made.and(&at, change);

@@ -1,7 +1,9 @@
 -- What it is for a transaction to make a change of the vault.
 use Rattle.std.specs.Prelude.{◌≡◌, ℕ, ◌≤◌, IsTrue}
 use Rattle.sqlite_trees.specs.Tree.{Trees}
-use Rattle.sqlite.specs.State.{State}
+use Rattle.sqlite_trees.specs.declared.store.Store.{Ghosts}
+use Rattle.sqlite.specs.Held.{Held, state}
+use Rattle.sqlite.specs.State.{State, Survives}
 use Rattle.vault_base.specs.Days.{last_moment}
 use Rattle.vault_base.specs.declared.refusal.Table.{Table}
 use Rattle.vault_core_model.specs.declared.change.Change.{Change}
@@ -36,3 +38,7 @@ AreChangedBy old t edit trees = (v : Vault) (c : Change) → t ≤ last_moment �
 -- where the connection was open, this vault is found in these trees, with the change
 abbrev pub IsChanged : State → Vault → ℕ → Change → Trees → Type 0
 IsChanged old v t c trees = IsTrue old.is_open → v.last ≤ t → Allows v t c → IsFoundIn (changed v t c) trees
+
+-- a crash during the call leaves what it could leave before, or a vault that was kept, with the change
+abbrev pub MayLeaveChanged : {S : Type 0} → Ghosts S → Held S → Held S → ℕ → Change → Type 0
+MayLeaveChanged g old new t c = (v : Vault) → Keeps (state g old) v → Survives (state g old) (state g new) (IsChanged (state g old) v t c)

@@ -1,14 +1,14 @@
 //! A change of any kind.
 ghost use Rattle.std.specs.Prelude.{◌≡◌, ◌≤◌, false, OnOk};
 ghost use Rattle.sqlite.specs.Held.{state};
-ghost use Rattle.sqlite.specs.State.{HasCleanDisk, Survives};
+ghost use Rattle.sqlite.specs.State.{HasCleanDisk};
 ghost use Rattle.vault_core_model.specs.Allowed.{Allows};
 ghost use Rattle.vault_core_model.specs.Change.{changed};
 ghost use Rattle.vault_core_model.specs.Vault.{Vault};
 ghost use Rattle.vault_store_model.specs.Keeping.{Keeps};
-ghost use Rattle.vault_store_apply.specs.Applies.{Changes, IsChanged};
+ghost use Rattle.vault_store_apply.specs.Applies.{Changes, MayLeaveChanged};
 ghost use Rattle.vault_store_apply.specs.Known.{IsKnownOf};
-ghost use Rattle.vault_store_apply.specs.Left.{IsFoundIn};
+ghost use Rattle.vault_store_apply.specs.Left.{MayLeave};
 ghost use Rattle.vault_store_reads.specs.Quiet.{IsOpenIfOk};
 ghost use Rattle.vault_store_edits.specs.Commits.{KeepsIfErr};
 
@@ -16,20 +16,18 @@ use crate::entries::admission::admit;
 use crate::entries::moves::move_bucket;
 use crate::entries::removal::remove;
 use crate::entries::settings::add_setting;
-use crate::known::Known;
 use crate::records::{
     add_bucket, add_caller, add_department, close_caller, set_default, set_rules,
 };
 use sqlite::{Alter, Connection, Error};
-use std::alloc::Global;
 use vault_base::moment::Moment;
 use vault_core_model::change::Change;
+use vault_store_model::known::Known;
 
 /// Makes a change.
 fn make<S: Alter>(
     conn: &mut Connection<S>,
     known: &Known,
-    alloc: Global,
     at: Moment,
     change: &Change,
 ) -> Result<(), Error>
@@ -40,14 +38,14 @@ fn make<S: Alter>(
     ensures done { HasCleanDisk (state S.Store conn.new) → OnOk result (Changes (state S.Store conn.old) (state S.Store conn.new) at change.now) }
     ensures nothing { KeepsIfErr S.Store conn.old conn.new result }
     ensures honest { HasCleanDisk (state S.Store conn.new) → HasCleanDisk (state S.Store conn.old) }
-    ensures crash { (v : Vault) → Keeps (state S.Store conn.old) v → Survives (state S.Store conn.old) (state S.Store conn.new) (IsChanged (state S.Store conn.old) v at change.now) }
+    ensures crash { MayLeaveChanged S.Store conn.old conn.new at change.now }
 {
     match change {
         Change::AddDept(name) => add_department(conn, at, name),
         Change::AddCaller(caller) => add_caller(conn, at, caller),
         Change::CloseCaller(name) => close_caller(conn, at, name),
         Change::AddBucket(name, dept) => add_bucket(conn, at, name, dept),
-        Change::MoveBucket(name, dept) => move_bucket(conn, known, alloc, at, name, dept),
+        Change::MoveBucket(name, dept) => move_bucket(conn, known, at, name, dept),
         Change::SetDefault(name, default) => set_default(conn, at, name, *default),
         Change::SetRules(name, rules) => set_rules(conn, at, name, rules),
         Change::Admit(admission) => admit(conn, known, at, admission),
@@ -63,7 +61,6 @@ fn make<S: Alter>(
 pub fn apply_change<S: Alter>(
     conn: &mut Connection<S>,
     known: &Known,
-    alloc: Global,
     at: Moment,
     change: &Change,
 ) -> Result<(), Error>
@@ -76,7 +73,7 @@ pub fn apply_change<S: Alter>(
     ensures nothing { KeepsIfErr S.Store conn.old conn.new result }
     ensures honest { HasCleanDisk (state S.Store conn.new) → HasCleanDisk (state S.Store conn.old) }
     // What a crash may leave, at any moment of the call: what it could leave before, or the changed vault.
-    ensures crash { (v : Vault) → Keeps (state S.Store conn.old) v → v.last ≤ at → Allows v at change.now → Survives (state S.Store conn.old) (state S.Store conn.new) (IsFoundIn (changed v at change.now)) }
+    ensures crash { (v : Vault) → Keeps (state S.Store conn.old) v → v.last ≤ at → Allows v at change.now → MayLeave S.Store conn.old conn.new (changed v at change.now) }
 {
-    make(conn, known, alloc, at, change)
+    make(conn, known, at, change)
 }

@@ -7,6 +7,5 @@
 pub mod apply;
 pub mod commit;
 pub mod entries;
-pub mod known;
 pub mod parts;
 pub mod records;

@@ -1,5 +1,5 @@
 -- What a transaction that makes an edit of the tables leaves.
-use Rattle.std.specs.Prelude.{◌≡◌, IsTrue, Result, OnErr}
+use Rattle.std.specs.Prelude.{◌≡◌, IsTrue, Result, OnOk, OnErr}
 use Rattle.sqlite_trees.specs.Tree.{Trees}
 use Rattle.sqlite.specs.Effect.{IsDatabase}
 use Rattle.sqlite.specs.State.{State, HasCleanDisk}
@@ -21,12 +21,20 @@ pub record Commits (old new : State) (edit : Rows → Rows) : Type 0 where
   pub rows : old.now.schema ≡ vault_schema → AreSameRows (edit (rows_in old.now)) (rows_in new.now)
   pub ignores : IgnoresOrder edit
 
+-- where it is answered over the tables of a vault, they are edited so, and that is committed
+abbrev pub CommitsEdit : {S A E : Type 0} → Ghosts S → Held S → Held S → Result A E → (Rows → Rows) → Type 0
+CommitsEdit g old new result edit = HasCleanDisk (state g new) → OnOk result ((state g old).now.schema ≡ vault_schema → Commits (state g old) (state g new) edit)
+
 -- trees of the edited tables, which list their schema and obey it
 pub record MayCommit (old : State) (edit : Rows → Rows) (trees : Trees) : Type 0 where
   pub was_open : IsTrue old.is_open
   pub listed : old.now.schema ≡ vault_schema → IsDatabase (record { schema = vault_schema; trees = trees })
   pub rows : old.now.schema ≡ vault_schema → AreSameRows (edit (rows_in old.now)) (rows_in (record { schema = vault_schema; trees = trees }))
   pub ignores : IgnoresOrder edit
+
+-- trees that a part in its limits may commit, where the connection is open and has the tables of a vault
+abbrev pub MayCommitPart : Type 0 → State → (Rows → Rows) → Trees → Type 0
+MayCommitPart limits old edit trees = limits × IsTrue old.is_open × (old.now.schema ≡ vault_schema → MayCommit old edit trees)
 
 -- where it fails, a vault that was kept is
 abbrev pub KeepsIfErr : {S A E : Type 0} → Ghosts S → Held S → Held S → Result A E → Type 0

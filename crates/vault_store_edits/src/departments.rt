@@ -6,6 +6,7 @@ ghost use Rattle.vault_audit_model.specs.Rows.{department_row};
 ghost use Rattle.vault_store_model.specs.Edits.{with_row, with_changed};
 ghost use Rattle.vault_store_model.specs.Tests.{is_named, with_sums};
 ghost use Rattle.vault_store_edits.specs.Inside.{IsEdit, IsEditOfSound};
+ghost use Rattle.vault_store_edits.specs.NewRows.{new_department};
 
 use crate::apart::check_apart;
 use crate::parameters::whole;
@@ -51,7 +52,7 @@ pub fn put_department<S: Alter>(
     name: &DeptName,
 ) -> Result<usize, Error>
     ensures same_reference { tx.new.conn.ghost_name ≡ tx.old.conn.ghost_name }
-    ensures edit { IsEdit S.Store tx.old.conn.now tx.new.conn.now result (with_row table.Departments (department_row (record { name = name.now; sums = record { admitted = 0; received = 0; held = 0; removed = 0; handed = 0; weighted = 0; closed = 0 } }))) }
+    ensures edit { IsEdit S.Store tx.old.conn.now tx.new.conn.now result (with_row table.Departments (department_row (new_department name.now))) }
     ensures limits { IsPlainName name.now }
 {
     put_row(tx, &NewDepartment { name })

@@ -6,7 +6,7 @@ ghost use Rattle.sqlite.specs.Held.{state};
 ghost use Rattle.sqlite.specs.State.{HasCleanDisk, IsLive, IsUnchanged, KeepsCommit, Survives};
 ghost use Rattle.vault_audit_model.specs.Tables.{vault_schema};
 ghost use Rattle.vault_store_model.specs.Edits.{Edits};
-ghost use Rattle.vault_store_edits.specs.Commits.{Commits, MayCommit, KeepsIfErr};
+ghost use Rattle.vault_store_edits.specs.Commits.{CommitsEdit, KeepsIfErr, MayCommitPart};
 ghost use Rattle.vault_store_edits.specs.Ready.{IsReady};
 ghost use Rattle.vault_store_edits.specs.Inside.{CommitsNoPart};
 
@@ -61,14 +61,14 @@ pub fn transact<S: Alter, P: Part<S>>(conn: &mut Connection<S>, part: &P) -> Res
     requires { conn.old.in_transaction ≡ false }
     ensures mode { conn.new.in_transaction ≡ false }
     ensures open { HasCleanDisk (state S.Store conn.new) → OnOk result (IsTrue (state S.Store conn.old).is_open × IsTrue (state S.Store conn.new).is_open) }
-    ensures done { HasCleanDisk (state S.Store conn.new) → OnOk result ((state S.Store conn.old).now.schema ≡ vault_schema → Commits (state S.Store conn.old) (state S.Store conn.new) (P.edit part.now)) }
+    ensures done { CommitsEdit S.Store conn.old conn.new result (P.edit part.now) }
     ensures limited { OnOk result (P.limits part.now) }
     ensures nothing { KeepsIfErr S.Store conn.old conn.new result }
     // What a crash may leave after that are these tables alone.
     ensures alone { HasCleanDisk (state S.Store conn.new) → OnOk result ((trees : Trees) → (state S.Store conn.new).may_leave trees → trees ≡ (state S.Store conn.new).now.trees) }
     // What a crash may leave, at any moment of the call: what it could leave before, or the edited tables,
     // where all has been written.
-    ensures crash { Survives (state S.Store conn.old) (state S.Store conn.new) (λ trees. P.limits part.now × IsTrue (state S.Store conn.old).is_open × ((state S.Store conn.old).now.schema ≡ vault_schema → MayCommit (state S.Store conn.old) (P.edit part.now) trees)) }
+    ensures crash { Survives (state S.Store conn.old) (state S.Store conn.new) (MayCommitPart (P.limits part.now) (state S.Store conn.old) (P.edit part.now)) }
 {
     // Its clause says that the tables of an open connection obey their schema.
     let _schema = conn.schema();

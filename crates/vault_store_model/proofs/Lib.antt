@@ -25,3 +25,4 @@ pub mod HeadParts
 pub mod HeadLemmas
 pub mod ChangeLemmas
 pub mod HeadAfterRemovalLemmas
+pub mod KnownLemmas

@@ -8,3 +8,4 @@ pub mod Tests
 pub mod Copies
 pub mod Sums
 pub mod Scans
+pub mod Known

@@ -1,8 +1,9 @@
-//! Which vault the tables of a connection stand for, and what edits of single tables make of the rows of all
-//! of them.
+//! Which vault the tables of a connection stand for, what edits of single tables make of the rows of all
+//! of them, and what is known of a vault from what was read last.
 #![tactic(auto)]
 
 pub mod changes;
+pub mod known;
 
 ghost use Rattle.std.specs.Prelude.{◌↔◌};
 ghost use Rattle.sqlite.specs.Effect.{Database};

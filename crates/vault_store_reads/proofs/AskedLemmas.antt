@@ -6,7 +6,7 @@ use Rattle.sqlite.specs.Listing.{understood}
 use Rattle.vault_audit_model.specs.Values.{number}
 use Rattle.vault_store_reads.specs.Wants.{IsAskedWith}
 use Rattle.vault_store_reads.proofs.TextLemmas.{meta_text, department_text, caller_text, bucket_text, entry_text, content_text, note_text, head_text}
-use Rattle.vault_store_reads.proofs.OrderedTextLemmas.{setting_text, settings_text, rules_text, tenures_text, last_tenure_text, entries_text, sized_text, newest_text, ids_text, older_text, buckets_text, keys_text, removed_text}
+use Rattle.vault_store_reads.proofs.OrderedTextLemmas.{setting_text, settings_text, rules_text, tenures_text, last_tenure_text, entries_text, newest_text, ids_text, older_text, buckets_text, keys_text}
 
 pub meta_asked : IsAskedWith meta_text []
 unfolding understood everything
@@ -64,10 +64,6 @@ pub entries_asked : (bucket key : List ℕ) (most : ℕ) → IsAskedWith entries
 unfolding understood everything
 entries_asked bucket key most = (omega (arith), refl, (refl, refl, refl, refl))
 
-pub sized_asked : (bucket : List ℕ) → IsAskedWith sized_text (Text bucket ∷ [])
-unfolding understood everything
-sized_asked bucket = (omega (arith), refl, (refl, refl, refl, refl))
-
 pub newest_asked : (bucket key : List ℕ) (id : ℕ) → IsAskedWith newest_text (Text bucket ∷ Text key ∷ number id ∷ [])
 unfolding understood everything
 newest_asked bucket key id = (omega (arith), refl, (refl, refl, refl, refl))
@@ -87,7 +83,3 @@ buckets_asked after most = (omega (arith), refl, (refl, refl, refl, refl))
 pub keys_asked : (bucket after : List ℕ) (most : ℕ) → IsAskedWith keys_text (Text bucket ∷ Text after ∷ number most ∷ [])
 unfolding understood everything
 keys_asked bucket after most = (omega (arith), refl, (refl, refl, refl, refl))
-
-pub removed_asked : IsAskedWith removed_text []
-unfolding understood everything
-removed_asked = (omega (arith), refl, (refl, refl, refl, refl))

@@ -8,7 +8,6 @@ pub mod EntryLemmas
 pub mod HeadLemmas
 pub mod CountLemmas
 pub mod OrderedEntryLemmas
-pub mod HoldingLemmas
 pub mod KeyLemmas
 pub mod KeySetLemmas
 pub mod OrderedListLemmas
@@ -20,7 +19,6 @@ pub mod TenureLemmas
 pub mod OrderedTextLemmas
 pub mod StatedLemmas
 pub mod ValueLemmas
-pub mod HandLemmas
 pub mod WantLemmas
 pub mod AskedLemmas
 pub mod LimitLemmas

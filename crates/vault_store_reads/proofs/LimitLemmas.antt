@@ -201,7 +201,7 @@ module _ (v : Vault) (kept : IsKept v) where
   pub wholes : AllByRecursion (λ h. IsHistory h × IsWhole h) v.histories
   wholes = all_both IsHistory IsWhole v.histories kept.limits.histories kept.sound.whole
 
-  tenured : AllByRecursion AreTenuresInLimits v.histories
+  pub tenured : AllByRecursion AreTenuresInLimits v.histories
   tenured =
       all_as (λ (h : History) (is : IsInTime v.last h × HasTenures v h).
       within_as h.entry.marker v h kept.limits.departments (by_last_moment h.entry.admitted v.last h.entry.removal kept.limits.last is.0) kept.sound.enough_moves is.1)

@@ -1,18 +1,15 @@
 -- What the statements mean.
-use Rattle.std.proofs.Common.{◌≡◌, ℕ, pos, negsuc, List, [], ◌∷◌, codes, true, refl}
+use Rattle.std.proofs.Common.{ℕ, pos, negsuc, List, [], ◌∷◌, codes, true, refl}
 use Rattle.sqlite_tied.specs.Compute.{everything}
 use Rattle.sqlite_value.specs.declared.value.Value.TheVariants.{Null, Int}
 use Rattle.sqlite_value.specs.declared.keys.Collation.TheVariants.{Binary}
 use Rattle.sqlite_value.specs.declared.keys.Key.{Key}
 use Rattle.sqlite_value.specs.Keys.{ascending}
 use Rattle.sqlite_sql.specs.declared.ops.BinaryOp.TheVariants.{Compare, Is}
-use Rattle.sqlite_sql.specs.declared.ops.UnaryOp.TheVariants.{Not}
 use Rattle.sqlite_sql.specs.declared.ops.CompareOp.TheVariants.{Eq, Ne, Gt, Lt}
-use Rattle.sqlite_sql.specs.Term.{Term, lit, col, op1, op2}
-use Rattle.sqlite_schema.specs.declared.command.Command.TheVariants.{Select}
+use Rattle.sqlite_sql.specs.Term.{Term, lit, col, op2}
 use Rattle.sqlite.specs.Listing.{understood}
-use Rattle.sqlite.proofs.Callers.{IsPlain, command_of}
-use Rattle.vault_audit_model.specs.Tables.{vault_schema, entries, rules, settings, tenures, buckets_tree, entries_tree, heads_tree, rules_tree, settings_tree, tenures_tree}
+use Rattle.vault_audit_model.specs.Tables.{entries, rules, settings, tenures, buckets_tree, entries_tree, heads_tree, rules_tree, settings_tree, tenures_tree}
 use Rattle.vault_audit_schema.specs.Texts.{names_of, select_text, terms_of}
 use Rattle.vault_store_reads.specs.Queries.{Selects}
 use Rattle.vault_store_reads.proofs.SelectLemmas.{select_of}
@@ -125,21 +122,6 @@ pub entries_is : Selects entries_text (select_of entries_tree entries_tests entr
 unfolding understood everything
 entries_is = record { names = codes "id" ∷ codes "marker" ∷ codes "size" ∷ codes "admitted" ∷ []; is = refl; plain = (refl, refl); unlisted = refl }
 
--- ---- the held versions of a bucket
-
-abbrev pub sized_text : List ℕ
-sized_text = codes "SELECT id, size FROM entries WHERE bucket = ?1 AND marker = 0 AND removed IS NULL ORDER BY id"
-
-abbrev pub sized_tests : List Term
-sized_tests = op2 (Compare Eq Binary) (col 1 2) (col 0 0) ∷ op2 (Compare Eq Binary) (col 1 4) (lit (Int (pos 0))) ∷ op2 (Is Binary) (col 1 10) (lit Null) ∷ []
-
-abbrev pub sized_shown : List Term
-sized_shown = col 1 0 ∷ col 1 5 ∷ []
-
-pub sized_is : Selects sized_text (select_of entries_tree sized_tests sized_shown entries_order no_limit)
-unfolding understood everything
-sized_is = record { names = codes "id" ∷ codes "size" ∷ []; is = refl; plain = (refl, refl); unlisted = refl }
-
 -- ---- the newest of them besides one
 
 abbrev pub newest_text : List ℕ
@@ -205,29 +187,3 @@ keys_order = (col 1 2, ascending Binary) ∷ []
 pub keys_is : Selects keys_text (select_of heads_tree keys_tests (col 1 2 ∷ []) keys_order (col 0 2))
 unfolding understood everything
 keys_is = record { names = codes "key" ∷ []; is = refl; plain = (refl, refl); unlisted = refl }
-
--- ---- the removed entries
-
-abbrev pub removed_text : List ℕ
-removed_text = select_text entries (codes " WHERE removed IS NOT NULL ORDER BY id")
-
-abbrev pub removed_tests : List Term
-removed_tests = op1 Not (op2 (Is Binary) (col 1 10) (lit Null)) ∷ []
-
-abbrev pub removed_shown : List Term
-removed_shown = terms_of entries
-
-abbrev pub removed_names : List (List ℕ)
-removed_names = names_of entries
-
-pub removed_is : Selects removed_text (select_of entries_tree removed_tests removed_shown entries_order no_limit)
-unfolding understood everything
-removed_is = record { names = removed_names; is = refl; plain = (refl, refl); unlisted = refl }
-
-pub removed_command : command_of (understood vault_schema removed_text) ≡ Select (record { lets = []; body = select_of entries_tree removed_tests removed_shown entries_order no_limit }) removed_names
-unfolding understood everything
-removed_command = refl
-
-pub removed_plain : IsPlain (understood vault_schema removed_text)
-unfolding understood everything
-removed_plain = (refl, refl)

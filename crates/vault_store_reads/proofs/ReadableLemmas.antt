@@ -1,5 +1,5 @@
 -- The rows that the ordered reads find of a vault are in their limits.
-use Rattle.std.proofs.Common.{◌≡◌, ℕ, ◌≤◌, List, [], ◌∷◌, ◌++◌, length, map, filter, take, reverse, Bool, true, false, Some, None, Option, option_to_list, IfSome, IsTrue, ◌==◌, not, Ordering, Less, Equal, Greater, nat_cmp, refl, sym, subst, ◌∙◌, arith}
+use Rattle.std.proofs.Common.{ℕ, ◌≤◌, List, [], ◌∷◌, length, map, filter, take, reverse, Bool, true, false, Some, None, Option, option_to_list, IfSome, IsTrue, ◌==◌, not, Ordering, Less, Equal, Greater, nat_cmp, refl, sym, subst, ◌∙◌, arith}
 use Rattle.std.specs.Prelude.{option_map}
 use Rattle.std.specs.List.{AllByRecursion}
 use Rattle.std.specs.Cmp.Lexicographic.{slice_cmp}
@@ -8,23 +8,22 @@ use Rattle.sqlite_keyed.proofs.ListLemmas.{map-map}
 use Rattle.sqlite_value.specs.Order.{Row}
 use Rattle.vault_base.specs.Name.{is_version_id}
 use Rattle.vault_core_model.specs.Checks.{most_content, most_settings}
-use Rattle.vault_core_model.specs.Places.{is_held, is_held_at, is_held_in, is_held_version_in, is_behind, held_at, keys_of, key_set, with_key, with_key_by}
-use Rattle.vault_core_model.specs.Reads.{buckets_after, entries_of, head_over, held_of, ids_before, is_older, keys_after, last_setting, removed_entries, setting_of}
+use Rattle.vault_core_model.specs.Places.{is_held_at, is_held_in, is_behind, held_at, keys_of, key_set, with_key, with_key_by}
+use Rattle.vault_core_model.specs.Reads.{buckets_after, entries_of, head_over, held_of, ids_before, is_older, keys_after, last_setting, setting_of}
 use Rattle.vault_core_model.specs.Sound.{IsWhole}
-use Rattle.vault_core_model.specs.Totals.{held_versions_in}
 use Rattle.vault_core_model.specs.Vault.{Vault, history_of, bucket_in, last_lock}
 use Rattle.vault_core_model.specs.declared.records.Bucket.{Bucket}
 use Rattle.vault_core_model.specs.declared.records.Head.{Head}
 use Rattle.vault_core_model.specs.declared.records.History.{History}
 use Rattle.vault_core_model.specs.declared.records.Setting.{Setting}
-use Rattle.vault_audit_model.specs.Limits.{IsBucket, IsBucketName, IsEntry, IsSizedAs, IsHistory, IsObjectKey, IsRetention, IsRuleRow, IsSetting, IsSettingRow, IsTenureRow}
-use Rattle.vault_audit_model.specs.Rows.{entry_row, rule_row, setting_row, tenure_row}
+use Rattle.vault_audit_model.specs.Limits.{IsBucket, IsBucketName, IsSizedAs, IsHistory, IsObjectKey, IsRetention, IsRuleRow, IsSetting, IsSettingRow, IsTenureRow}
+use Rattle.vault_audit_model.specs.Rows.{rule_row, setting_row, tenure_row}
 use Rattle.vault_audit_model.specs.Spells.{IsKept, rules_in, settings_in, tenures_in}
 use Rattle.vault_audit_model.proofs.ListLemmas.{all_as}
 use Rattle.vault_audit_walk.specs.Records.{ReportsOne}
-use Rattle.vault_store_reads.specs.Readable.{AreReadable, IsHeldRow, IsLastSetting, IsSizedRow}
-use Rattle.vault_store_reads.specs.Shown.{entry_shown, held_row, id_row, ids_at, key_row, last_row, name_row, newest_but, sized_of, sized_row, without_lock}
-use Rattle.vault_store_reads.proofs.LimitLemmas.{all_filtered, all_given, all_last, all_mapped, all_part, all_reversed, all_taken, at_seam, most_of, rules_limited, settings_limited, tenures_limited, wholes}
+use Rattle.vault_store_reads.specs.Readable.{AreReadable, IsHeldRow, IsLastSetting}
+use Rattle.vault_store_reads.specs.Shown.{entry_shown, held_row, id_row, ids_at, key_row, last_row, name_row, newest_but, without_lock}
+use Rattle.vault_store_reads.proofs.LimitLemmas.{all_filtered, all_given, all_last, all_mapped, all_part, all_reversed, all_taken, most_of, rules_limited, settings_limited, tenures_limited, wholes}
 use Rattle.vault_store_reads.proofs.OrderedListLemmas.{last, part_of}
 
 pub reported : {X : Type 0} (row_of : X → Row) (Is : X → Type 0) (xs : List X) → AllByRecursion Is xs → AreReadable row_of Is (map row_of xs)
@@ -48,7 +47,7 @@ small_as true size digest is = subst (λ n. n ≤ most_content) (sym is.0) (omeg
 small_as false size None is = absurd is
 small_as false size (Some d) is = is.0
 
-small : (h : History) → IsHistory h → h.entry.size ≤ most_content
+pub small : (h : History) → IsHistory h → h.entry.size ≤ most_content
 small h is = small_as h.entry.marker h.entry.size h.entry.digest is.entry.sized
 
 -- ---- keys
@@ -109,13 +108,6 @@ module _ (v : Vault) (kept : IsKept v) where
   pub rules_readable : (bucket : List ℕ) → AreReadable rule_row IsRuleRow (map rule_row (part_of rules_in (bucket_in v.buckets bucket)))
   rules_readable bucket = reported rule_row IsRuleRow _ (all_part IsRuleRow rules_in (λ (b : Bucket). bytes_eq b.name bucket) v.buckets (rules_limited v kept))
 
-  pub sized_readable : (bucket : List ℕ) → AreReadable sized_row IsSizedRow (map sized_row (map sized_of (held_versions_in v bucket)))
-  sized_readable bucket =
-      reported sized_row IsSizedRow _
-      (all_mapped IsSizedRow sized_of (held_versions_in v bucket)
-      (all_as (λ (h : History) (is : IsHistory h). record { id = is.entry.id; size = small h is }) (held_versions_in v bucket)
-      (all_filtered IsHistory (λ h. is_held_version_in bucket h.entry) v.histories kept.limits.histories)))
-
   pub held_readable : (bucket key : List ℕ) (most : ℕ) → AreReadable held_row IsHeldRow (take most (reverse (map entry_shown (entries_of v bucket key))))
   held_readable bucket key most =
       let here = all_filtered IsHistory (λ h. is_held_at bucket key h.entry) v.histories kept.limits.histories in
@@ -156,10 +148,3 @@ module _ (v : Vault) (kept : IsKept v) where
   buckets_readable after most =
       let names = all_mapped IsBucketName (λ (b : Bucket). b.name) v.buckets (all_as (λ (b : Bucket) (is : IsBucket b). is.name) v.buckets kept.limits.buckets) in
       reported name_row IsBucketName _ (all_taken IsBucketName most _ (all_filtered IsBucketName (λ name. is_behind name after) (map (λ (b : Bucket). b.name) v.buckets) names))
-
-  -- a row that one of the removed entries has
-  pub removed_readable : (given : List Row) (row : Row) (tail : List Row) → (given ++ row ∷ []) ++ tail ≡ map entry_row (removed_entries v) → ReportsOne entry_row IsEntry row
-  removed_readable given row tail are =
-      let gone = all_filtered IsHistory (λ h. not (is_held h.entry)) v.histories kept.limits.histories in
-      let all = reported entry_row IsEntry (removed_entries v) (all_mapped IsEntry (λ (h : History). h.entry) _ (all_as (λ (h : History) (is : IsHistory h). is.entry) _ gone)) in
-      at_seam (ReportsOne entry_row IsEntry) given row tail (subst (AllByRecursion (ReportsOne entry_row IsEntry)) (sym are) all)

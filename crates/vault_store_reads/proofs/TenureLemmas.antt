@@ -59,7 +59,7 @@ tenures_rise v h true has = subst (IsAscending IsEarlier) (sym has) tt
 tenures_rise v h false has = theirs_rise v h.entry h.tenures has.0
 
 -- a row's tenure is earlier than the next one's
-abbrev IsBefore : TenureRow → TenureRow → Type 0
+abbrev pub IsBefore : TenureRow → TenureRow → Type 0
 IsBefore s t = s.tenure.number < t.tenure.number
 
 part_rises : (v : Vault) (p : History → Bool) (hs : List History) → AllByRecursion (HasTenures v) hs → IsAscending IsBefore (part_of tenures_in (find p hs))
@@ -75,7 +75,7 @@ all_of id (t ∷ ts) n = (refl, all_of id ts n)
 
 -- ---- what the rows say
 
-abbrev tenure_in : TenureRow → Tenure
+abbrev pub tenure_in : TenureRow → Tenure
 tenure_in x = x.tenure
 
 same_all : (id : ℕ) (ts : List Tenure) → map tenure_in (map (tenure_at id) ts) ≡ ts
@@ -99,7 +99,7 @@ stated_last v id = sym (last-map tenure_in (part_of tenures_in (history_of v id)
 
 -- ---- the rows of one version
 
-abbrev test : ℕ → Row → Bool
+abbrev pub test : ℕ → Row → Bool
 test id c = is_true (binary (Compare Eq Binary) (column c 0) (number id)) && true
 
 abbrev out : Row → Output
@@ -130,22 +130,22 @@ first_out ts =
     ∙ first_reversed (map tenure_row ts) ∙ ap option_to_list (last-map tenure_row ts) ∙ mapped_option tenure_row (last ts)
 
 module _ (v : Vault) (id : ℕ) (db : Database) (sound : AreSound db v) where
-  abbrev all : List TenureRow
+  abbrev pub all : List TenureRow
   all = flat_map tenures_in v.histories
 
-  abbrev mine : List TenureRow
+  abbrev pub mine : List TenureRow
   mine = filter (λ t. t.id == id) all
 
-  abbrev its : List TenureRow
+  abbrev pub its : List TenureRow
   its = part_of tenures_in (history_of v id)
 
-  mine_are : mine ≡ its
+  pub mine_are : mine ≡ its
   mine_are = in_one_part (λ h. h.entry.id == id) tenures_in (λ t. t.id == id) (λ h. all_of h.entry.id h.tenures id) v.histories (ids_apart id v.histories sound.spells.kept.sound.ids)
 
-  rise : IsAscending IsBefore mine
+  pub rise : IsAscending IsBefore mine
   rise = subst (IsAscending IsBefore) (sym mine_are) (part_rises v (λ h. h.entry.id == id) v.histories sound.spells.kept.sound.tenured)
 
-  tests : AllByRecursion (λ t. test id (tenure_row t) ≡ (t.id == id)) all
+  pub tests : AllByRecursion (λ t. test id (tenure_row t) ≡ (t.id == id)) all
   tests = always (λ t. test id (tenure_row t) ≡ (t.id == id)) (λ t. and_true _ ∙ same_number t.id id) all
 
 -- ---- the answers

@@ -28,7 +28,7 @@ pub other_number : (a b : ℕ) → is_true (binary (Compare Ne Binary) (number a
 unfolding binary
 other_number a b = truth_back _ ∙ ap is_ne (value_cmp-Int (pos a) (pos b)) ∙ other_int a b
 
-lower_int : (a b : ℕ) → is_lt (int_cmp (pos a) (pos b)) ≡ nat_lt a b
+pub lower_int : (a b : ℕ) → is_lt (int_cmp (pos a) (pos b)) ≡ nat_lt a b
 lower_int a b = grind (arith, nat_tests)
 
 pub lower_number : (a b : ℕ) → is_true (binary (Compare Lt Binary) (number a) (number b)) ≡ nat_lt a b

@@ -1,5 +1,5 @@
--- What a read of the vault that a connection keeps leaves: that vault, also where a crash comes.
-use Rattle.std.specs.Prelude.{IsTrue, ◌≡◌, false, Result, OnOk}
+-- What a read of the vault that a connection keeps says of it, and leaves: that vault, also where a crash comes.
+use Rattle.std.specs.Prelude.{IsTrue, ◌≡◌, false, Result, IfOk, OnOk}
 use Rattle.sqlite_trees.specs.Tree.{Trees}
 use Rattle.sqlite.specs.State.{State, HasCleanDisk, Survives}
 use Rattle.sqlite_trees.specs.declared.store.Store.{Ghosts}
@@ -24,6 +24,10 @@ pub record ReadsQuietly {S : Type 0} (g : Ghosts S) (old new : Held S) : Type 0 
   pub honest : HasCleanDisk (state g new) → HasCleanDisk (state g old)
   pub mode : old.in_transaction ≡ false → new.in_transaction ≡ false
   pub survives : Survives (state g old) (state g new) (IsQuiet (state g old))
+
+-- where it is answered, this holds of each vault that was kept and of the answer
+abbrev pub SaysOf : {S A E : Type 0} → Ghosts S → Held S → Held S → Result A E → (Vault → A → Type 0) → Type 0
+SaysOf g old new result Is = HasCleanDisk (state g new) → IfOk result (λ x. (v : Vault) → Keeps (state g old) v → Is v x)
 
 -- where it is answered, the connection is open
 abbrev pub IsOpenIfOk : {S A E : Type 0} → Ghosts S → Held S → Result A E → Type 0

@@ -9,7 +9,6 @@ use Rattle.vault_core_model.specs.Checks.{most_content, most_settings}
 use Rattle.vault_audit_model.specs.Limits.{IsRetention}
 use Rattle.vault_audit_walk.specs.Records.{ReportsOne}
 use Rattle.vault_store_reads.specs.declared.rows_in_order.shown.HeldRow.{HeldRow}
-use Rattle.vault_store_reads.specs.declared.rows_in_order.shown.SizedRow.{SizedRow}
 
 pub record IsLastSetting (s : LastSetting) : Type 0 where
   pub count : (1 ≤ s.count) × (s.count ≤ most_settings)
@@ -19,10 +18,6 @@ pub record IsHeldRow (h : HeldRow) : Type 0 where
   pub id : IsTrue (is_version_id h.id)
   pub size : h.size ≤ most_content
   pub admitted : h.admitted ≤ last_moment
-
-pub record IsSizedRow (x : SizedRow) : Type 0 where
-  pub id : IsTrue (is_version_id x.id)
-  pub size : x.size ≤ most_content
 
 -- each row states an item of that kind, in its limits
 abbrev pub AreReadable : {X : Type 0} → (X → Row) → (X → Type 0) → List Row → Type 0

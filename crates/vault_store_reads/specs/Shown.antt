@@ -1,20 +1,19 @@
 -- What a row of an ordered read says.
-use Rattle.std.specs.Prelude.{ℕ, ◌*◌, ◌==◌, not, List, [], ◌∷◌, map, filter, reverse, Option, None, Some, option_map}
+use Rattle.std.specs.Prelude.{◌≡◌, ℕ, ◌==◌, not, List, [], ◌∷◌, map, filter, reverse, Option, None, Some, option_map, option_to_list}
 use Rattle.sqlite_value.specs.declared.value.Value.TheVariants.{Text}
 use Rattle.sqlite_value.specs.Order.{Row}
 use Rattle.vault_rules.specs.declared.plan.Held.{Held}
 use Rattle.vault_rules.specs.declared.rule.Rule.{Rule}
-use Rattle.vault_core_model.specs.declared.records.History.{History}
 use Rattle.vault_core_model.specs.declared.records.LastSetting.{LastSetting}
+use Rattle.vault_core_model.specs.declared.records.Tenure.{Tenure}
 use Rattle.vault_core_model.specs.Places.{held_at}
-use Rattle.vault_core_model.specs.Reads.{head_over, lock_of, tenures_of}
-use Rattle.vault_core_model.specs.Totals.{last_day_from}
+use Rattle.vault_core_model.specs.Reads.{head_over, lock_of}
 use Rattle.vault_core_model.specs.Vault.{Vault}
 use Rattle.vault_audit_model.specs.declared.rows.RuleRow.{RuleRow}
-use Rattle.vault_audit_model.specs.Rows.{retention_mode, retention_until}
+use Rattle.vault_audit_model.specs.declared.rows.TenureRow.{TenureRow}
+use Rattle.vault_audit_model.specs.Rows.{retention_mode, retention_until, tenure_row}
 use Rattle.vault_audit_model.specs.Values.{number, flag}
 use Rattle.vault_store_reads.specs.declared.rows_in_order.shown.HeldRow.{HeldRow}
-use Rattle.vault_store_reads.specs.declared.rows_in_order.shown.SizedRow.{SizedRow}
 
 -- the place of a version's last setting, which is how many it has, and its lock
 abbrev pub last_row : LastSetting → Row
@@ -43,16 +42,9 @@ id_row id = number id ∷ []
 abbrev pub ids_at : Vault → List ℕ → List ℕ → List ℕ
 ids_at v bucket key = reverse (map (λ h. h.entry.id) (held_at v bucket key))
 
--- a version and its size
-abbrev pub sized_row : SizedRow → Row
-sized_row x = number x.id ∷ number x.size ∷ []
-
-abbrev pub sized_of : History → SizedRow
-sized_of h = record { id = h.entry.id; size = h.entry.size }
-
--- its size times the day from which its department has it
-abbrev pub weight_in : Vault → SizedRow → ℕ
-weight_in v x = x.size * last_day_from (tenures_of v x.id)
+-- the row of that tenure; none where there is no tenure
+abbrev pub ShowsTenure : Option Tenure → List Row → Type 0
+ShowsTenure tenure rows = (last : Option TenureRow) × (rows ≡ map tenure_row (option_to_list last)) × (option_map (λ x. x.tenure) last ≡ tenure)
 
 -- the rules of these rows; no rule is no set of rules
 abbrev pub set_of : List RuleRow → Option (List Rule)

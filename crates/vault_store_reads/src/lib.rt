@@ -1,5 +1,4 @@
-//! Reads of a vault's tables: records by their keys, several rows in order, and the removed entries, handed
-//! on one at a time.
+//! Reads of a vault's tables: records by their keys, and several rows in order.
 //!
 //! Each answers what its name says of the vault that the connection keeps, and changes nothing. An error
 //! is want of memory, reported as `ErrorCode::OutOfMemory`, or a failure of the store.
@@ -11,5 +10,4 @@ pub mod meta;
 pub mod names;
 pub mod notes;
 pub mod query;
-pub mod removed;
 pub mod rows_in_order;

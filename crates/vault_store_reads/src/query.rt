@@ -36,6 +36,9 @@ pub fn query_rows<S: Alter>(
     conn.query_all(sql, params)
 }
 
+/// What is said of a row that says nothing of a vault.
+pub const UNREADABLE: Error = Error::SqliteFailure(ErrorCode::DatabaseCorrupt);
+
 /// What is said of a row that isn't read as a record: want of memory as such, any other cause as a file
 /// that isn't a vault's.
 pub fn unread(misread: Misread) -> Error
@@ -44,6 +47,6 @@ pub fn unread(misread: Misread) -> Error
 {
     match misread {
         Misread::Memory => Error::SqliteFailure(ErrorCode::OutOfMemory),
-        Misread::Wrong => Error::SqliteFailure(ErrorCode::DatabaseCorrupt),
+        Misread::Wrong => UNREADABLE,
     }
 }

@@ -4,7 +4,6 @@ mod buckets;
 mod count;
 mod decode;
 mod find;
-mod holding;
 mod ids;
 pub mod reads;
 mod rows;

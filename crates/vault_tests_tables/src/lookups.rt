@@ -1,5 +1,6 @@
 //! What a report reads, and what is read of one key, takes as many steps in a large vault as in a small one, and of a key with
-//! many removed versions as of a fresh one. So do a few ids of a key with many held ones.
+//! many removed versions as of a fresh one. So do a few ids of a key with many held ones. What a bucket holds is summed by one
+//! statement, whose steps grow with the tenures of its versions.
 use sqlite::{Alter, Connection, Error, params};
 use std::alloc::Global;
 use std::process::Abort;
@@ -11,6 +12,7 @@ use vault_store_reads::heads::read_head;
 use vault_store_reads::meta::read_last;
 use vault_store_reads::names::{has_department, read_totals};
 use vault_store_reads::rows_in_order::reads::{read_entries, read_ids, read_keys, read_newest_but};
+use vault_store_walks::held::read_bucket_held;
 use vault_tests_tables_stores::disks::{let_go, opened_empty};
 
 /// A department, its bucket, a key of it, and where the bucket's keys begin.
@@ -328,5 +330,58 @@ fn judge_ids<S: Alter>(
     limit(conn, None);
     batch(conn, REMOVED_VERSIONS)?;
     assert_eq!(rt; enough_of_many(conn, alloc, names), of_ten);
+    Ok(())
+}
+
+/// How many versions the bucket holds once it has grown, each of one byte.
+const MANY: u64 = 10_240;
+
+const FIRST_TENURES: &str = "INSERT INTO tenures SELECT id, 0, 'records', 1600000000 FROM entries";
+
+const LATER_TENURES: &str = "INSERT INTO tenures SELECT id, 1, 'records', 1700000000 FROM entries";
+
+/// Whether so many steps are enough to sum the grown bucket, whose versions its department has from a day.
+fn sums_within<S: Alter>(conn: &mut Connection<S>, names: &Names, steps: u64, day: u64) -> bool {
+    limit(conn, Some(steps));
+    let read = read_bucket_held(conn, &names.bucket);
+    limit(conn, None);
+    read.is_ok_and(|held| held.0 == MANY && held.1 == MANY * day)
+}
+
+#[test]
+fn what_a_bucket_holds_is_summed_by_one_statement(rt: HostRuntime) -> Result<(), Fail> {
+    let mut conn = opened_empty(rt.alloc())?;
+    let judged = summed_in_one_pass(&rt, rt.alloc(), &mut conn);
+    let_go(conn);
+    judged
+}
+
+fn summed_in_one_pass<S: Alter>(
+    rt: &impl Abort,
+    alloc: Global,
+    conn: &mut Connection<S>,
+) -> Result<(), Fail> {
+    make_small(rt, conn)?;
+    let names = read_names(alloc)?;
+    let judged = judge_sums(rt, conn, &names);
+    drop(names);
+    judged
+}
+
+/// Five steps a version are in one statement: a limit of four isn't enough, as it would be if each version were asked for by
+/// itself. A tenure more takes four, and a removed version one.
+fn judge_sums<S: Alter>(
+    rt: &impl Abort,
+    conn: &mut Connection<S>,
+    names: &Names,
+) -> Result<(), Fail> {
+    grow(conn)?;
+    batch(conn, FIRST_TENURES)?;
+    assert!(rt; !sums_within(conn, names, 4 * MANY, 18_518));
+    assert!(rt; sums_within(conn, names, 5 * MANY + 10, 18_518));
+    batch(conn, LATER_TENURES)?;
+    assert!(rt; sums_within(conn, names, 9 * MANY + 10, 19_675));
+    batch(conn, REMOVED_VERSIONS)?;
+    assert!(rt; sums_within(conn, names, 10 * MANY + 10, 19_675));
     Ok(())
 }

@@ -1,27 +1,23 @@
 //! An entry that is admitted.
 ghost use Rattle.std.specs.Prelude.{◌≡◌, false, IfOk, OnOk};
 ghost use Rattle.sqlite.specs.Held.{state};
-ghost use Rattle.sqlite.specs.State.{HasCleanDisk, Survives};
+ghost use Rattle.sqlite.specs.State.{HasCleanDisk};
 ghost use Rattle.vault_core_model.specs.declared.change.Change.TheVariants as change;
-ghost use Rattle.vault_base.specs.Days.{day};
-ghost use Rattle.vault_core_model.specs.Vault.{Vault};
-ghost use Rattle.vault_store_model.specs.Keeping.{Keeps};
 ghost use Rattle.vault_store_model.specs.Changes.{head_with};
-ghost use Rattle.vault_store_model.specs.Sums.{CountsIn};
-ghost use Rattle.vault_store_apply.specs.Applies.{Changes, IsChanged};
+ghost use Rattle.vault_store_apply.specs.Applies.{Changes, MayLeaveChanged};
 ghost use Rattle.vault_store_apply.specs.Known.{IsKnownOf};
 ghost use Rattle.vault_store_reads.specs.Quiet.{IsOpenIfOk};
 ghost use Rattle.vault_store_edits.specs.Commits.{KeepsIfErr};
 
 use crate::commit::commit_part;
 use crate::entries::place::read_place;
-use crate::known::Known;
 use crate::parts::entry::NewEntry;
 use sqlite::{Alter, Connection, Error, ErrorCode};
 use vault_base::moment::Moment;
 use vault_base::name::VersionId;
 use vault_core_model::change::Admission;
 use vault_core_model::records::Head;
+use vault_store_model::known::{Known, with_version};
 use vault_tally::row::Row;
 
 /// The head of a key with one entry more. `TooBig` beyond 64 bits.
@@ -43,15 +39,6 @@ fn next_head(id: VersionId, head: Option<Head>) -> Result<Head, Error>
     })
 }
 
-/// The sums with a version counted in that is admitted at a moment.
-pub(crate) fn with_version(sums: Row, size: u64, at: Moment) -> Row
-    ensures { CountsIn sums size (day at) result }
-{
-    let mut sums = sums;
-    sums.admit(size, at.day());
-    sums
-}
-
 /// Admits an entry, with its note if it came by an intake list.
 pub fn admit<S: Alter>(
     conn: &mut Connection<S>,
@@ -66,7 +53,7 @@ pub fn admit<S: Alter>(
     ensures done { HasCleanDisk (state S.Store conn.new) → OnOk result (Changes (state S.Store conn.old) (state S.Store conn.new) at (change.Admit admission.now)) }
     ensures nothing { KeepsIfErr S.Store conn.old conn.new result }
     ensures honest { HasCleanDisk (state S.Store conn.new) → HasCleanDisk (state S.Store conn.old) }
-    ensures crash { (v : Vault) → Keeps (state S.Store conn.old) v → Survives (state S.Store conn.old) (state S.Store conn.new) (IsChanged (state S.Store conn.old) v at (change.Admit admission.now)) }
+    ensures crash { MayLeaveChanged S.Store conn.old conn.new at (change.Admit admission.now) }
 {
     let entry = &admission.history.entry;
     let place = read_place(conn, known, &entry.bucket, &entry.key)?;

@@ -9,7 +9,7 @@ ghost use Rattle.vault_store_model.specs.Keeping.{Keeps};
 ghost use Rattle.vault_store_model.specs.Sums.{last_tenure_of};
 ghost use Rattle.vault_store_reads.specs.Shown.{newest_but};
 ghost use Rattle.vault_store_apply.specs.Heads.{holds_no_other};
-ghost use Rattle.vault_store_reads.specs.Quiet.{OnlyReads};
+ghost use Rattle.vault_store_reads.specs.Quiet.{OnlyReads, SaysOf};
 
 use sqlite::{Alter, Connection, Error};
 use vault_base::moment::Moment;
@@ -34,7 +34,7 @@ fn find_newest_but<S: Alter>(
     id: VersionId,
     head: Option<Head>,
 ) -> Result<Option<VersionId>, Error>
-    ensures value { HasCleanDisk (state S.Store conn.new) → IfOk result (λ newest. (v : Vault) → Keeps (state S.Store conn.old) v → head ≡ head_of v entry.now.bucket entry.now.key → newest ≡ newest_but v entry.now.bucket entry.now.key id) }
+    ensures value { SaysOf S.Store conn.old conn.new result (λ v newest. head ≡ head_of v entry.now.bucket entry.now.key → newest ≡ newest_but v entry.now.bucket entry.now.key id) }
     ensures open { HasCleanDisk (state S.Store conn.new) → IsTrue (state S.Store conn.old).is_open → OnOk result (IsTrue (state S.Store conn.new).is_open) }
     ensures read { OnlyReads S.Store conn.old conn.new }
 {
@@ -60,7 +60,7 @@ fn find_begin<S: Alter>(
     entry: &Entry,
     id: VersionId,
 ) -> Result<Moment, Error>
-    ensures value { HasCleanDisk (state S.Store conn.new) → IfOk result (λ since. (v : Vault) → Keeps (state S.Store conn.old) v → since ≡ unwrap_or (option_map (λ (t : Tenure). t.from) (last_tenure_of v id)) entry.now.admitted) }
+    ensures value { SaysOf S.Store conn.old conn.new result (λ v since. since ≡ unwrap_or (option_map (λ (t : Tenure). t.from) (last_tenure_of v id)) entry.now.admitted) }
     ensures read { OnlyReads S.Store conn.old conn.new }
 {
     let tenure = read_last_tenure(conn, id)?;

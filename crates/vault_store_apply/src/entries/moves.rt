@@ -1,29 +1,29 @@
 //! A bucket that moves to another department.
 ghost use Rattle.std.specs.Prelude.{◌≡◌, ◌+◌, false, Some, IfOk, OnOk};
 ghost use Rattle.sqlite.specs.Held.{state};
-ghost use Rattle.sqlite.specs.State.{HasCleanDisk, Survives};
+ghost use Rattle.sqlite.specs.State.{HasCleanDisk};
 ghost use Rattle.vault_base.specs.Days.{day};
 ghost use Rattle.vault_core_model.specs.declared.change.Change.TheVariants as change;
 ghost use Rattle.vault_core_model.specs.Totals.{IsRowFor, bucket_bytes, bucket_weight};
 ghost use Rattle.vault_core_model.specs.Vault.{Vault, config_of};
 ghost use Rattle.vault_store_model.specs.Keeping.{Keeps};
 ghost use Rattle.vault_store_model.specs.Sums.{HandsOver, Receives};
-ghost use Rattle.vault_store_apply.specs.Applies.{Changes, IsChanged};
-ghost use Rattle.vault_store_apply.specs.Known.{AreKnown, IsKnownOf, IsOpen};
+ghost use Rattle.vault_store_apply.specs.Applies.{Changes, MayLeaveChanged};
+ghost use Rattle.vault_store_model.specs.Known.{AreKnown};
+ghost use Rattle.vault_store_apply.specs.Known.{IsKnownOf, IsOpen};
 ghost use Rattle.vault_store_reads.specs.Quiet.{OnlyReads, IsOpenIfOk};
 ghost use Rattle.vault_store_edits.specs.Commits.{KeepsIfErr};
 
 use crate::commit::commit_part;
 use crate::entries::place::{read_config, read_sums};
-use crate::known::Known;
 use crate::parts::moves::MovedBucket;
 use sqlite::{Alter, Connection, Error, ErrorCode};
-use std::alloc::Global;
 use vault_base::moment::Moment;
 use vault_base::name::{BucketName, DeptName};
 use vault_core_model::records::BucketConfig;
+use vault_store_model::known::Known;
 use vault_store_reads::meta::read_moves;
-use vault_store_reads::rows_in_order::reads::read_bucket_held;
+use vault_store_walks::held::read_bucket_held;
 use vault_tally::row::Row;
 
 /// The number behind so many moves. `TooBig` beyond 32 bits.
@@ -64,7 +64,6 @@ fn find_number<S: Alter>(conn: &mut Connection<S>, known: &Known) -> Result<u32,
 fn find_held<S: Alter>(
     conn: &mut Connection<S>,
     known: &Known,
-    alloc: Global,
     bucket: &BucketName,
 ) -> Result<(u64, u64), Error>
     requires { IsOpen S.Store conn.old }
@@ -75,7 +74,7 @@ fn find_held<S: Alter>(
 {
     match known.load(bucket) {
         Some(held) => Ok(held),
-        None => read_bucket_held(conn, alloc, bucket),
+        None => read_bucket_held(conn, bucket),
     }
 }
 
@@ -91,7 +90,6 @@ struct Load {
 fn read_load<S: Alter>(
     conn: &mut Connection<S>,
     known: &Known,
-    alloc: Global,
     bucket: &BucketName,
 ) -> Result<Load, Error>
     requires { IsOpen S.Store conn.old }
@@ -100,7 +98,7 @@ fn read_load<S: Alter>(
     ensures open { IsOpenIfOk S.Store conn.new result }
     ensures read { OnlyReads S.Store conn.old conn.new }
 {
-    let held = find_held(conn, known, alloc, bucket)?;
+    let held = find_held(conn, known, bucket)?;
     let number = find_number(conn, known)?;
     Ok(Load {
         bytes: held.0,
@@ -162,7 +160,6 @@ fn with_load(sums: Row, load: Load, at: Moment) -> Row
 pub fn move_bucket<S: Alter>(
     conn: &mut Connection<S>,
     known: &Known,
-    alloc: Global,
     at: Moment,
     name: &BucketName,
     dept: &DeptName,
@@ -174,9 +171,9 @@ pub fn move_bucket<S: Alter>(
     ensures done { HasCleanDisk (state S.Store conn.new) → OnOk result (Changes (state S.Store conn.old) (state S.Store conn.new) at (change.MoveBucket name.now dept.now)) }
     ensures nothing { KeepsIfErr S.Store conn.old conn.new result }
     ensures honest { HasCleanDisk (state S.Store conn.new) → HasCleanDisk (state S.Store conn.old) }
-    ensures crash { (v : Vault) → Keeps (state S.Store conn.old) v → Survives (state S.Store conn.old) (state S.Store conn.new) (IsChanged (state S.Store conn.old) v at (change.MoveBucket name.now dept.now)) }
+    ensures crash { MayLeaveChanged S.Store conn.old conn.new at (change.MoveBucket name.now dept.now) }
 {
-    let load = read_load(conn, known, alloc, name)?;
+    let load = read_load(conn, known, name)?;
     let hands = read_hands(conn, known, name, dept)?;
     let handed = without_load(hands.giver, load, at);
     let received = with_load(hands.taker, load, at);

@@ -6,13 +6,14 @@ ghost use Rattle.vault_core_model.specs.Reads.{head_of};
 ghost use Rattle.vault_core_model.specs.Totals.{IsRowFor};
 ghost use Rattle.vault_core_model.specs.Vault.{Vault, config_of};
 ghost use Rattle.vault_store_model.specs.Keeping.{Keeps};
-ghost use Rattle.vault_store_apply.specs.Known.{AreKnown, IsOpen};
+ghost use Rattle.vault_store_model.specs.Known.{AreKnown};
+ghost use Rattle.vault_store_apply.specs.Known.{IsOpen};
 ghost use Rattle.vault_store_reads.specs.Quiet.{OnlyReads, IsOpenIfOk};
 
-use crate::known::Known;
 use sqlite::{Alter, Connection, Error, ErrorCode};
 use vault_base::name::{BucketName, DeptName, ObjectKey};
 use vault_core_model::records::{BucketConfig, Head};
+use vault_store_model::known::Known;
 use vault_store_reads::heads::read_head;
 use vault_store_reads::names::{read_bucket, read_totals};
 use vault_tally::row::Row;

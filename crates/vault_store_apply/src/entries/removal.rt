@@ -1,14 +1,14 @@
 //! An entry that is removed.
 ghost use Rattle.std.specs.Prelude.{◌≡◌, false, Some, IfOk, OnOk};
 ghost use Rattle.sqlite.specs.Held.{state};
-ghost use Rattle.sqlite.specs.State.{HasCleanDisk, Survives};
+ghost use Rattle.sqlite.specs.State.{HasCleanDisk};
 ghost use Rattle.vault_base.specs.Days.{day};
 ghost use Rattle.vault_core_model.specs.declared.change.Change.TheVariants as change;
 ghost use Rattle.vault_core_model.specs.Reads.{entry_of};
 ghost use Rattle.vault_core_model.specs.Vault.{Vault};
 ghost use Rattle.vault_store_model.specs.Keeping.{Keeps};
 ghost use Rattle.vault_store_model.specs.Sums.{CountsOut};
-ghost use Rattle.vault_store_apply.specs.Applies.{Changes, IsChanged};
+ghost use Rattle.vault_store_apply.specs.Applies.{Changes, MayLeaveChanged};
 ghost use Rattle.vault_store_apply.specs.Known.{IsKnownOf};
 ghost use Rattle.vault_store_apply.specs.Heads.{head_without};
 ghost use Rattle.vault_store_reads.specs.Quiet.{OnlyReads, IsOpenIfOk};
@@ -17,12 +17,12 @@ ghost use Rattle.vault_store_edits.specs.Commits.{KeepsIfErr};
 use crate::commit::commit_part;
 use crate::entries::beside::read_beside;
 use crate::entries::place::read_place;
-use crate::known::Known;
 use crate::parts::entry::RemovedEntry;
 use sqlite::{Alter, Connection, Error};
 use vault_base::moment::Moment;
 use vault_base::name::VersionId;
 use vault_core_model::records::{Entry, Head, Removal};
+use vault_store_model::known::Known;
 use vault_store_reads::entries::read_entry;
 use vault_tally::row::Row;
 
@@ -72,7 +72,7 @@ pub fn remove<S: Alter>(
     ensures done { HasCleanDisk (state S.Store conn.new) → OnOk result (Changes (state S.Store conn.old) (state S.Store conn.new) at (change.Remove id removal.now)) }
     ensures nothing { KeepsIfErr S.Store conn.old conn.new result }
     ensures honest { HasCleanDisk (state S.Store conn.new) → HasCleanDisk (state S.Store conn.old) }
-    ensures crash { (v : Vault) → Keeps (state S.Store conn.old) v → Survives (state S.Store conn.old) (state S.Store conn.new) (IsChanged (state S.Store conn.old) v at (change.Remove id removal.now)) }
+    ensures crash { MayLeaveChanged S.Store conn.old conn.new at (change.Remove id removal.now) }
 {
     let entry = find_entry(conn, id)?;
     let place = match read_place(conn, known, &entry.bucket, &entry.key) {

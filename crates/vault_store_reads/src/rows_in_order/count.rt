@@ -14,9 +14,8 @@ ghost use Rattle.vault_store_model.specs.Keeping.{Keeps};
 ghost use Rattle.vault_store_reads.specs.Quiet.{ReadsQuietly, IsOpenIfOk};
 ghost use Rattle.vault_store_reads.specs.Wants.{WantsMemoryIfErr};
 
-use crate::query::unread;
+use crate::query::{UNREADABLE, unread};
 use crate::rows_in_order::rows::open_rows;
-use crate::rows_in_order::shown::UNREADABLE;
 use sqlite::{Alter, Connection, Error, Row, params};
 use vault_audit_model::rows::HeadRow;
 use vault_audit_rows::records::read_head;

@@ -8,11 +8,11 @@ ghost use Rattle.vault_audit_model.specs.Rows.{rule_row, setting_row, tenure_row
 ghost use Rattle.vault_audit_model.specs.Limits.{IsObjectKey, IsRuleRow, IsSettingRow, IsTenureRow};
 ghost use Rattle.vault_audit_walk.specs.Health.{IsMemory};
 ghost use Rattle.vault_audit_walk.specs.Records.{ReportsOne};
-ghost use Rattle.vault_store_reads.specs.Readable.{AreReadable, IsHeldRow, IsSizedRow};
-ghost use Rattle.vault_store_reads.specs.Shown.{held_row, key_row, set_of, sized_row};
+ghost use Rattle.vault_store_reads.specs.Readable.{AreReadable, IsHeldRow};
+ghost use Rattle.vault_store_reads.specs.Shown.{held_row, key_row, set_of};
 
-use crate::query::unread;
-use crate::rows_in_order::shown::{HeldRow, SizedRow, UNREADABLE, read_held, read_key, read_sized};
+use crate::query::{UNREADABLE, unread};
+use crate::rows_in_order::shown::{HeldRow, read_held, read_key};
 use sqlite::{Error, Row};
 use std::alloc::Global;
 use vault_audit_rows::records::{read_rule, read_setting, read_tenure};
@@ -34,21 +34,6 @@ pub fn decode_held(alloc: Global, rows: &[Row]) -> Result<Vec<HeldRow>, Error>
         held.push(one)?;
     }
     Ok(held)
-}
-
-/// Versions and their sizes.
-pub fn decode_sized(alloc: Global, rows: &[Row]) -> Result<Vec<SizedRow>, Error>
-    ensures ok { IfOk result (λ versions. map sized_row versions.items ≡ rows.now) }
-    ensures memory { AreReadable sized_row IsSizedRow rows.now → IfErr result IsMemory }
-{
-    let mut versions = Vec::new(alloc);
-    for row in rows {
-        let Some(one) = read_sized(row) else {
-            return Err(UNREADABLE);
-        };
-        versions.push(one)?;
-    }
-    Ok(versions)
 }
 
 /// The key of a row.

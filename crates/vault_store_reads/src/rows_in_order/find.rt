@@ -1,20 +1,19 @@
 //! The reads that ask more than once, where each leaves the connection open for the next.
-ghost use Rattle.std.specs.Prelude.{◌≡◌, false, map, IsTrue, IfOk, OnOk};
+ghost use Rattle.std.specs.Prelude.{◌≡◌, false, map, IsTrue, OnOk};
 ghost use Rattle.sqlite.specs.Held.{state};
 ghost use Rattle.sqlite.specs.State.{HasCleanDisk};
 ghost use Rattle.vault_core_model.specs.Reads.{entries_of, setting_of};
 ghost use Rattle.vault_core_model.specs.Sound.{Sound};
-ghost use Rattle.vault_core_model.specs.Vault.{Vault};
-ghost use Rattle.vault_store_model.specs.Keeping.{Keeps};
 ghost use Rattle.vault_store_model.specs.Sums.{last_tenure_of};
-ghost use Rattle.vault_store_reads.specs.Quiet.{ReadsQuietly, IsOpenIfOk};
+ghost use Rattle.vault_store_reads.specs.Quiet.{ReadsQuietly, IsOpenIfOk, SaysOf};
 ghost use Rattle.vault_store_reads.specs.Wants.{WantsMemoryIfErr};
 ghost use Rattle.vault_store_reads.specs.Shown.{held_row, entry_shown, with_lock_in};
 
+use crate::query::UNREADABLE;
 use crate::rows_in_order::count::find_count;
 use crate::rows_in_order::decode::{decode_held, decode_tenure};
 use crate::rows_in_order::rows::{entry_rows, last_tenure_rows, setting_rows};
-use crate::rows_in_order::shown::{HeldRow, UNREADABLE, read_last};
+use crate::rows_in_order::shown::{HeldRow, read_last};
 use sqlite::{Alter, Connection, Error};
 use std::alloc::Global;
 use vault_base::name::{BucketName, ObjectKey, VersionId};
@@ -27,7 +26,7 @@ pub fn find_setting<S: Alter>(
     conn: &mut Connection<S>,
     id: VersionId,
 ) -> Result<Option<LastSetting>, Error>
-    ensures value { HasCleanDisk (state S.Store conn.new) → IfOk result (λ found. (v : Vault) → Keeps (state S.Store conn.old) v → found ≡ setting_of v id) }
+    ensures value { SaysOf S.Store conn.old conn.new result (λ v found. found ≡ setting_of v id) }
     ensures read { ReadsQuietly S.Store conn.old conn.new }
     ensures open { IsOpenIfOk S.Store conn.new result }
     ensures memory { WantsMemoryIfErr S.Store conn.old conn.new result }
@@ -47,7 +46,7 @@ pub fn find_last_tenure<S: Alter>(
     conn: &mut Connection<S>,
     id: VersionId,
 ) -> Result<Option<Tenure>, Error>
-    ensures value { HasCleanDisk (state S.Store conn.new) → IfOk result (λ found. (v : Vault) → Keeps (state S.Store conn.old) v → found ≡ last_tenure_of v id) }
+    ensures value { SaysOf S.Store conn.old conn.new result (λ v found. found ≡ last_tenure_of v id) }
     ensures read { ReadsQuietly S.Store conn.old conn.new }
     ensures open { IsOpenIfOk S.Store conn.new result }
     ensures memory { WantsMemoryIfErr S.Store conn.old conn.new result }
@@ -62,7 +61,7 @@ pub fn find_last_tenure<S: Alter>(
 
 /// The entry with the lock that its last setting gives; one without settings has none.
 fn with_lock<S: Alter>(conn: &mut Connection<S>, held: HeldRow) -> Result<Held, Error>
-    ensures value { HasCleanDisk (state S.Store conn.new) → IfOk result (λ locked. (v : Vault) → Keeps (state S.Store conn.old) v → locked ≡ with_lock_in v held) }
+    ensures value { SaysOf S.Store conn.old conn.new result (λ v locked. locked ≡ with_lock_in v held) }
     ensures read { ReadsQuietly S.Store conn.old conn.new }
     ensures open { IsOpenIfOk S.Store conn.new result }
     ensures memory { WantsMemoryIfErr S.Store conn.old conn.new result }
@@ -90,7 +89,7 @@ fn with_locks<S: Alter>(
     alloc: Global,
     entries: &[HeldRow],
 ) -> Result<Vec<Held>, Error>
-    ensures value { HasCleanDisk (state S.Store conn.new) → IfOk result (λ locked. (v : Vault) → Keeps (state S.Store conn.old) v → locked.items ≡ map (with_lock_in v) entries.now) }
+    ensures value { SaysOf S.Store conn.old conn.new result (λ v locked. locked.items ≡ map (with_lock_in v) entries.now) }
     ensures read { ReadsQuietly S.Store conn.old conn.new }
     ensures open { HasCleanDisk (state S.Store conn.new) → IsTrue (state S.Store conn.old).is_open → OnOk result (IsTrue (state S.Store conn.new).is_open) }
     ensures memory { WantsMemoryIfErr S.Store conn.old conn.new result }
@@ -110,7 +109,7 @@ fn find_bare<S: Alter>(
     bucket: &BucketName,
     key: &ObjectKey,
 ) -> Result<Vec<HeldRow>, Error>
-    ensures value { HasCleanDisk (state S.Store conn.new) → IfOk result (λ held. (v : Vault) → Keeps (state S.Store conn.old) v → (map held_row held.items ≡ map entry_shown (entries_of v bucket.now key.now)) × Sound v) }
+    ensures value { SaysOf S.Store conn.old conn.new result (λ v held. (map held_row held.items ≡ map entry_shown (entries_of v bucket.now key.now)) × Sound v) }
     ensures read { ReadsQuietly S.Store conn.old conn.new }
     ensures open { IsOpenIfOk S.Store conn.new result }
     ensures memory { WantsMemoryIfErr S.Store conn.old conn.new result }
@@ -132,7 +131,7 @@ pub fn find_entries<S: Alter>(
     bucket: &BucketName,
     key: &ObjectKey,
 ) -> Result<Vec<Held>, Error>
-    ensures value { HasCleanDisk (state S.Store conn.new) → IfOk result (λ held. (v : Vault) → Keeps (state S.Store conn.old) v → held.items ≡ entries_of v bucket.now key.now) }
+    ensures value { SaysOf S.Store conn.old conn.new result (λ v held. held.items ≡ entries_of v bucket.now key.now) }
     ensures read { ReadsQuietly S.Store conn.old conn.new }
     ensures open { IsOpenIfOk S.Store conn.new result }
     ensures memory { WantsMemoryIfErr S.Store conn.old conn.new result }

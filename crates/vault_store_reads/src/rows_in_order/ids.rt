@@ -4,21 +4,18 @@
 //! head counts are read from there, and no removed entry is looked at. Another index has a key's entries by their ids:
 //! it is read where the key holds more than are asked for, and begins at the one that they have to be older than.
 ghost use Rattle.std.specs.Prelude.{◌≡◌, map, filter, take, nat_lt, None, Some, IfOk, IfErr, IsTrue};
-ghost use Rattle.sqlite.specs.Held.{state};
-ghost use Rattle.sqlite.specs.State.{HasCleanDisk};
 ghost use Rattle.vault_base.specs.Name.{is_version_id};
 ghost use Rattle.vault_core_model.specs.Reads.{ids_before};
-ghost use Rattle.vault_core_model.specs.Vault.{Vault};
 ghost use Rattle.vault_audit_walk.specs.Health.{IsMemory};
-ghost use Rattle.vault_store_model.specs.Keeping.{Keeps};
-ghost use Rattle.vault_store_reads.specs.Quiet.{ReadsQuietly, IsOpenIfOk};
+ghost use Rattle.vault_store_reads.specs.Quiet.{ReadsQuietly, IsOpenIfOk, SaysOf};
 ghost use Rattle.vault_store_reads.specs.Readable.{AreReadable};
 ghost use Rattle.vault_store_reads.specs.Shown.{id_row, ids_at};
 ghost use Rattle.vault_store_reads.specs.Wants.{WantsMemoryIfErr};
 
+use crate::query::UNREADABLE;
 use crate::rows_in_order::count::find_count;
 use crate::rows_in_order::rows::open_rows;
-use crate::rows_in_order::shown::{UNREADABLE, read_id};
+use crate::rows_in_order::shown::read_id;
 use sqlite::{Alter, Connection, Error, Row, params};
 use std::alloc::Global;
 use vault_base::name::{BucketName, ObjectKey, VersionId};
@@ -30,8 +27,8 @@ fn newest_id_rows<S: Alter>(
     key: &ObjectKey,
     most: u32,
 ) -> Result<Vec<Row>, Error>
-    ensures rows { HasCleanDisk (state S.Store conn.new) → IfOk result (λ rows. (v : Vault) → Keeps (state S.Store conn.old) v → rows.items ≡ map id_row (take most (ids_at v bucket.now key.now))) }
-    ensures readable { HasCleanDisk (state S.Store conn.new) → IfOk result (λ rows. (v : Vault) → Keeps (state S.Store conn.old) v → AreReadable id_row (λ id. IsTrue (is_version_id id)) rows.items) }
+    ensures rows { SaysOf S.Store conn.old conn.new result (λ v rows. rows.items ≡ map id_row (take most (ids_at v bucket.now key.now))) }
+    ensures readable { SaysOf S.Store conn.old conn.new result (λ v rows. AreReadable id_row (λ id. IsTrue (is_version_id id)) rows.items) }
     ensures read { ReadsQuietly S.Store conn.old conn.new }
     ensures open { IsOpenIfOk S.Store conn.new result }
     ensures memory { WantsMemoryIfErr S.Store conn.old conn.new result }
@@ -51,8 +48,8 @@ fn older_id_rows<S: Alter>(
     than: VersionId,
     most: u32,
 ) -> Result<Vec<Row>, Error>
-    ensures rows { HasCleanDisk (state S.Store conn.new) → IfOk result (λ rows. (v : Vault) → Keeps (state S.Store conn.old) v → rows.items ≡ map id_row (ids_before v bucket.now key.now (Some than) most)) }
-    ensures readable { HasCleanDisk (state S.Store conn.new) → IfOk result (λ rows. (v : Vault) → Keeps (state S.Store conn.old) v → AreReadable id_row (λ id. IsTrue (is_version_id id)) rows.items) }
+    ensures rows { SaysOf S.Store conn.old conn.new result (λ v rows. rows.items ≡ map id_row (ids_before v bucket.now key.now (Some than) most)) }
+    ensures readable { SaysOf S.Store conn.old conn.new result (λ v rows. AreReadable id_row (λ id. IsTrue (is_version_id id)) rows.items) }
     ensures read { ReadsQuietly S.Store conn.old conn.new }
     ensures open { IsOpenIfOk S.Store conn.new result }
     ensures memory { WantsMemoryIfErr S.Store conn.old conn.new result }
@@ -87,7 +84,7 @@ fn find_newest<S: Alter>(
     key: &ObjectKey,
     most: u32,
 ) -> Result<Vec<VersionId>, Error>
-    ensures value { HasCleanDisk (state S.Store conn.new) → IfOk result (λ ids. (v : Vault) → Keeps (state S.Store conn.old) v → ids.items ≡ take most (ids_at v bucket.now key.now)) }
+    ensures value { SaysOf S.Store conn.old conn.new result (λ v ids. ids.items ≡ take most (ids_at v bucket.now key.now)) }
     ensures read { ReadsQuietly S.Store conn.old conn.new }
     ensures open { IsOpenIfOk S.Store conn.new result }
     ensures memory { WantsMemoryIfErr S.Store conn.old conn.new result }
@@ -105,7 +102,7 @@ fn find_among<S: Alter>(
     than: VersionId,
     most: u32,
 ) -> Result<Vec<VersionId>, Error>
-    ensures value { HasCleanDisk (state S.Store conn.new) → IfOk result (λ ids. (v : Vault) → Keeps (state S.Store conn.old) v → ids.items ≡ filter (λ id. nat_lt id than) (take most (ids_at v bucket.now key.now))) }
+    ensures value { SaysOf S.Store conn.old conn.new result (λ v ids. ids.items ≡ filter (λ id. nat_lt id than) (take most (ids_at v bucket.now key.now))) }
     ensures read { ReadsQuietly S.Store conn.old conn.new }
     ensures open { IsOpenIfOk S.Store conn.new result }
     ensures memory { WantsMemoryIfErr S.Store conn.old conn.new result }
@@ -124,7 +121,7 @@ fn find_older<S: Alter>(
     than: VersionId,
     most: u32,
 ) -> Result<Vec<VersionId>, Error>
-    ensures value { HasCleanDisk (state S.Store conn.new) → IfOk result (λ ids. (v : Vault) → Keeps (state S.Store conn.old) v → ids.items ≡ ids_before v bucket.now key.now (Some than) most) }
+    ensures value { SaysOf S.Store conn.old conn.new result (λ v ids. ids.items ≡ ids_before v bucket.now key.now (Some than) most) }
     ensures read { ReadsQuietly S.Store conn.old conn.new }
     ensures open { IsOpenIfOk S.Store conn.new result }
     ensures memory { WantsMemoryIfErr S.Store conn.old conn.new result }
@@ -141,7 +138,7 @@ fn find_counted<S: Alter>(
     key: &ObjectKey,
     most: u32,
 ) -> Result<Vec<VersionId>, Error>
-    ensures value { HasCleanDisk (state S.Store conn.new) → IfOk result (λ ids. (v : Vault) → Keeps (state S.Store conn.old) v → ids.items ≡ ids_before v bucket.now key.now None most) }
+    ensures value { SaysOf S.Store conn.old conn.new result (λ v ids. ids.items ≡ ids_before v bucket.now key.now None most) }
     ensures read { ReadsQuietly S.Store conn.old conn.new }
     ensures open { IsOpenIfOk S.Store conn.new result }
     ensures memory { WantsMemoryIfErr S.Store conn.old conn.new result }
@@ -159,7 +156,7 @@ fn find_below<S: Alter>(
     than: VersionId,
     most: u32,
 ) -> Result<Vec<VersionId>, Error>
-    ensures value { HasCleanDisk (state S.Store conn.new) → IfOk result (λ ids. (v : Vault) → Keeps (state S.Store conn.old) v → ids.items ≡ ids_before v bucket.now key.now (Some than) most) }
+    ensures value { SaysOf S.Store conn.old conn.new result (λ v ids. ids.items ≡ ids_before v bucket.now key.now (Some than) most) }
     ensures read { ReadsQuietly S.Store conn.old conn.new }
     ensures open { IsOpenIfOk S.Store conn.new result }
     ensures memory { WantsMemoryIfErr S.Store conn.old conn.new result }
@@ -181,7 +178,7 @@ pub fn find_ids<S: Alter>(
     than: Option<VersionId>,
     most: u32,
 ) -> Result<Vec<VersionId>, Error>
-    ensures value { HasCleanDisk (state S.Store conn.new) → IfOk result (λ ids. (v : Vault) → Keeps (state S.Store conn.old) v → ids.items ≡ ids_before v bucket.now key.now than most) }
+    ensures value { SaysOf S.Store conn.old conn.new result (λ v ids. ids.items ≡ ids_before v bucket.now key.now than most) }
     ensures read { ReadsQuietly S.Store conn.old conn.new }
     ensures open { IsOpenIfOk S.Store conn.new result }
     ensures memory { WantsMemoryIfErr S.Store conn.old conn.new result }

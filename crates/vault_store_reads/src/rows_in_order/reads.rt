@@ -3,7 +3,6 @@ ghost use Rattle.std.specs.Prelude.{◌≡◌, IfOk};
 ghost use Rattle.sqlite.specs.Held.{state};
 ghost use Rattle.sqlite.specs.State.{HasCleanDisk};
 ghost use Rattle.vault_core_model.specs.Reads.{buckets_after, entries_of, ids_before, keys_after, setting_of, settings_of, tenures_of};
-ghost use Rattle.vault_core_model.specs.Totals.{bucket_bytes, bucket_weight};
 ghost use Rattle.vault_core_model.specs.Vault.{Vault, rules_of};
 ghost use Rattle.vault_store_model.specs.Keeping.{Keeps};
 ghost use Rattle.vault_store_model.specs.Sums.{last_tenure_of};
@@ -11,13 +10,13 @@ ghost use Rattle.vault_store_reads.specs.Shown.{newest_but};
 ghost use Rattle.vault_store_reads.specs.Quiet.{OnlyReads, IsOpenIfOk};
 ghost use Rattle.vault_store_reads.specs.Wants.{WantsMemoryIfErr};
 
+use crate::query::UNREADABLE;
 use crate::rows_in_order::buckets::find_buckets;
 use crate::rows_in_order::decode::{decode_keys, decode_rules, decode_settings, decode_tenures};
 use crate::rows_in_order::find::{find_entries, find_last_tenure, find_setting};
-use crate::rows_in_order::holding::find_bucket_held;
 use crate::rows_in_order::ids::find_ids;
 use crate::rows_in_order::rows::{key_rows, newest_rows, rule_rows, settings_rows, tenure_rows};
-use crate::rows_in_order::shown::{UNREADABLE, read_id};
+use crate::rows_in_order::shown::read_id;
 use sqlite::{Alter, Connection, Error};
 use std::alloc::Global;
 use vault_base::name::{BucketName, KeyPrefix, ObjectKey, VersionId};
@@ -167,21 +166,6 @@ pub fn read_entries<S: Alter>(
     ensures memory { WantsMemoryIfErr S.Store conn.old conn.new result }
 {
     find_entries(conn, alloc, bucket, key)
-}
-
-/// The bytes of a bucket's held versions, and their weight: each size times the day from which the
-/// department has the version.
-pub fn read_bucket_held<S: Alter>(
-    conn: &mut Connection<S>,
-    alloc: Global,
-    bucket: &BucketName,
-) -> Result<(u64, u64), Error>
-    ensures value { HasCleanDisk (state S.Store conn.new) → IfOk result (λ held. (v : Vault) → Keeps (state S.Store conn.old) v → (held.0 ≡ bucket_bytes v bucket.now) × (held.1 ≡ bucket_weight v bucket.now)) }
-    ensures read { OnlyReads S.Store conn.old conn.new }
-    ensures open { IsOpenIfOk S.Store conn.new result }
-    ensures memory { WantsMemoryIfErr S.Store conn.old conn.new result }
-{
-    find_bucket_held(conn, alloc, bucket)
 }
 
 /// The settings of a version, oldest first; a marker has none, nor has an id that no entry has.

@@ -1,25 +1,21 @@
 //! The queries of the ordered reads, each with the rows that it shows of the vault.
-ghost use Rattle.std.specs.Prelude.{◌≡◌, List, map, reverse, take, Option, option_map, option_to_list, IfOk, IsTrue};
+ghost use Rattle.std.specs.Prelude.{◌≡◌, List, map, reverse, take, option_to_list, IsTrue};
 ghost use Rattle.sqlite_sql.specs.Query.{Query};
-ghost use Rattle.sqlite.specs.Held.{state};
-ghost use Rattle.sqlite.specs.State.{HasCleanDisk};
 ghost use Rattle.sqlite.specs.Values.{bound};
 ghost use Rattle.vault_core_model.specs.Reads.{entries_of, keys_after, setting_of, settings_of, tenures_of};
 ghost use Rattle.vault_core_model.specs.Sound.{Sound};
-ghost use Rattle.vault_core_model.specs.Totals.{held_versions_in};
-ghost use Rattle.vault_core_model.specs.Vault.{Vault, rules_of};
+ghost use Rattle.vault_core_model.specs.Vault.{rules_of};
 ghost use Rattle.vault_audit_model.specs.declared.rows.RuleRow.{RuleRow};
 ghost use Rattle.vault_audit_model.specs.declared.rows.SettingRow.{SettingRow};
 ghost use Rattle.vault_audit_model.specs.declared.rows.TenureRow.{TenureRow};
 ghost use Rattle.vault_base.specs.Name.{is_version_id};
 ghost use Rattle.vault_audit_model.specs.Limits.{IsObjectKey, IsRuleRow, IsSettingRow, IsTenureRow};
 ghost use Rattle.vault_audit_model.specs.Rows.{rule_row, setting_row, tenure_row};
-ghost use Rattle.vault_store_model.specs.Keeping.{Keeps};
 ghost use Rattle.vault_store_model.specs.Sums.{last_tenure_of};
 ghost use Rattle.vault_store_reads.specs.Queries.{Selects, FindsRows};
-ghost use Rattle.vault_store_reads.specs.Quiet.{OnlyReads, ReadsQuietly, IsOpenIfOk};
-ghost use Rattle.vault_store_reads.specs.Readable.{AreReadable, IsHeldRow, IsLastSetting, IsSizedRow};
-ghost use Rattle.vault_store_reads.specs.Shown.{last_row, entry_shown, held_row, key_row, id_row, set_of, sized_row, sized_of, newest_but};
+ghost use Rattle.vault_store_reads.specs.Quiet.{OnlyReads, ReadsQuietly, IsOpenIfOk, SaysOf};
+ghost use Rattle.vault_store_reads.specs.Readable.{AreReadable, IsHeldRow, IsLastSetting};
+ghost use Rattle.vault_store_reads.specs.Shown.{last_row, entry_shown, held_row, key_row, id_row, set_of, newest_but, ShowsTenure};
 ghost use Rattle.vault_store_reads.specs.Wants.{IsAskedWith, WantsMemoryIfErr};
 
 use crate::query::query_rows;
@@ -35,7 +31,7 @@ pub fn open_rows<S: Alter>(
     params: &[ValueRef<'_>],
 ) -> Result<Vec<Row>, Error>
     requires { (q : Query) × Selects sql.now q }
-    ensures rows { HasCleanDisk (state S.Store conn.new) → IfOk result (λ rows. (v : Vault) → Keeps (state S.Store conn.old) v → FindsRows v sql.now (bound params.now) rows.items) }
+    ensures rows { SaysOf S.Store conn.old conn.new result (λ v rows. FindsRows v sql.now (bound params.now) rows.items) }
     ensures read { ReadsQuietly S.Store conn.old conn.new }
     ensures open { IsOpenIfOk S.Store conn.new result }
     ensures memory { IsAskedWith sql.now (bound params.now) → WantsMemoryIfErr S.Store conn.old conn.new result }
@@ -45,8 +41,8 @@ pub fn open_rows<S: Alter>(
 
 /// The row of a version's last setting.
 pub fn setting_rows<S: Alter>(conn: &mut Connection<S>, id: VersionId) -> Result<Vec<Row>, Error>
-    ensures rows { HasCleanDisk (state S.Store conn.new) → IfOk result (λ rows. (v : Vault) → Keeps (state S.Store conn.old) v → rows.items ≡ map last_row (option_to_list (setting_of v id))) }
-    ensures readable { HasCleanDisk (state S.Store conn.new) → IfOk result (λ rows. (v : Vault) → Keeps (state S.Store conn.old) v → AreReadable last_row IsLastSetting rows.items) }
+    ensures rows { SaysOf S.Store conn.old conn.new result (λ v rows. rows.items ≡ map last_row (option_to_list (setting_of v id))) }
+    ensures readable { SaysOf S.Store conn.old conn.new result (λ v rows. AreReadable last_row IsLastSetting rows.items) }
     ensures read { ReadsQuietly S.Store conn.old conn.new }
     ensures open { IsOpenIfOk S.Store conn.new result }
     ensures memory { WantsMemoryIfErr S.Store conn.old conn.new result }
@@ -63,8 +59,8 @@ pub fn last_tenure_rows<S: Alter>(
     conn: &mut Connection<S>,
     id: VersionId,
 ) -> Result<Vec<Row>, Error>
-    ensures rows { HasCleanDisk (state S.Store conn.new) → IfOk result (λ rows. (v : Vault) → Keeps (state S.Store conn.old) v → (last : Option TenureRow) × (rows.items ≡ map tenure_row (option_to_list last)) × (option_map (λ x. x.tenure) last ≡ last_tenure_of v id)) }
-    ensures readable { HasCleanDisk (state S.Store conn.new) → IfOk result (λ rows. (v : Vault) → Keeps (state S.Store conn.old) v → AreReadable tenure_row IsTenureRow rows.items) }
+    ensures rows { SaysOf S.Store conn.old conn.new result (λ v rows. ShowsTenure (last_tenure_of v id) rows.items) }
+    ensures readable { SaysOf S.Store conn.old conn.new result (λ v rows. AreReadable tenure_row IsTenureRow rows.items) }
     ensures read { ReadsQuietly S.Store conn.old conn.new }
     ensures open { IsOpenIfOk S.Store conn.new result }
     ensures memory { WantsMemoryIfErr S.Store conn.old conn.new result }
@@ -78,8 +74,8 @@ pub fn last_tenure_rows<S: Alter>(
 
 /// The rows of a version's tenures.
 pub fn tenure_rows<S: Alter>(conn: &mut Connection<S>, id: VersionId) -> Result<Vec<Row>, Error>
-    ensures rows { HasCleanDisk (state S.Store conn.new) → IfOk result (λ rows. (v : Vault) → Keeps (state S.Store conn.old) v → (tenures : List TenureRow) × (rows.items ≡ map tenure_row tenures) × (map (λ x. x.tenure) tenures ≡ tenures_of v id)) }
-    ensures readable { HasCleanDisk (state S.Store conn.new) → IfOk result (λ rows. (v : Vault) → Keeps (state S.Store conn.old) v → AreReadable tenure_row IsTenureRow rows.items) }
+    ensures rows { SaysOf S.Store conn.old conn.new result (λ v rows. (tenures : List TenureRow) × (rows.items ≡ map tenure_row tenures) × (map (λ x. x.tenure) tenures ≡ tenures_of v id)) }
+    ensures readable { SaysOf S.Store conn.old conn.new result (λ v rows. AreReadable tenure_row IsTenureRow rows.items) }
     ensures read { OnlyReads S.Store conn.old conn.new }
     ensures open { IsOpenIfOk S.Store conn.new result }
     ensures memory { WantsMemoryIfErr S.Store conn.old conn.new result }
@@ -91,28 +87,10 @@ pub fn tenure_rows<S: Alter>(conn: &mut Connection<S>, id: VersionId) -> Result<
     )
 }
 
-/// The rows of a bucket's held versions and their sizes.
-pub fn sized_rows<S: Alter>(
-    conn: &mut Connection<S>,
-    bucket: &BucketName,
-) -> Result<Vec<Row>, Error>
-    ensures rows { HasCleanDisk (state S.Store conn.new) → IfOk result (λ rows. (v : Vault) → Keeps (state S.Store conn.old) v → (rows.items ≡ map sized_row (map sized_of (held_versions_in v bucket.now))) × Sound v) }
-    ensures readable { HasCleanDisk (state S.Store conn.new) → IfOk result (λ rows. (v : Vault) → Keeps (state S.Store conn.old) v → AreReadable sized_row IsSizedRow rows.items) }
-    ensures read { ReadsQuietly S.Store conn.old conn.new }
-    ensures open { IsOpenIfOk S.Store conn.new result }
-    ensures memory { WantsMemoryIfErr S.Store conn.old conn.new result }
-{
-    open_rows(
-        conn,
-        "SELECT id, size FROM entries WHERE bucket = ?1 AND marker = 0 AND removed IS NULL ORDER BY id",
-        params![bucket.as_str()],
-    )
-}
-
 /// The rows of a bucket's rules.
 pub fn rule_rows<S: Alter>(conn: &mut Connection<S>, bucket: &BucketName) -> Result<Vec<Row>, Error>
-    ensures rows { HasCleanDisk (state S.Store conn.new) → IfOk result (λ rows. (v : Vault) → Keeps (state S.Store conn.old) v → (rules : List RuleRow) × (rows.items ≡ map rule_row rules) × (set_of rules ≡ rules_of v bucket.now)) }
-    ensures readable { HasCleanDisk (state S.Store conn.new) → IfOk result (λ rows. (v : Vault) → Keeps (state S.Store conn.old) v → AreReadable rule_row IsRuleRow rows.items) }
+    ensures rows { SaysOf S.Store conn.old conn.new result (λ v rows. (rules : List RuleRow) × (rows.items ≡ map rule_row rules) × (set_of rules ≡ rules_of v bucket.now)) }
+    ensures readable { SaysOf S.Store conn.old conn.new result (λ v rows. AreReadable rule_row IsRuleRow rows.items) }
     ensures read { OnlyReads S.Store conn.old conn.new }
     ensures open { IsOpenIfOk S.Store conn.new result }
     ensures memory { WantsMemoryIfErr S.Store conn.old conn.new result }
@@ -131,8 +109,8 @@ pub fn entry_rows<S: Alter>(
     key: &ObjectKey,
     most: u32,
 ) -> Result<Vec<Row>, Error>
-    ensures rows { HasCleanDisk (state S.Store conn.new) → IfOk result (λ rows. (v : Vault) → Keeps (state S.Store conn.old) v → (rows.items ≡ take most (reverse (map entry_shown (entries_of v bucket.now key.now)))) × Sound v) }
-    ensures readable { HasCleanDisk (state S.Store conn.new) → IfOk result (λ rows. (v : Vault) → Keeps (state S.Store conn.old) v → AreReadable held_row IsHeldRow rows.items) }
+    ensures rows { SaysOf S.Store conn.old conn.new result (λ v rows. (rows.items ≡ take most (reverse (map entry_shown (entries_of v bucket.now key.now)))) × Sound v) }
+    ensures readable { SaysOf S.Store conn.old conn.new result (λ v rows. AreReadable held_row IsHeldRow rows.items) }
     ensures read { ReadsQuietly S.Store conn.old conn.new }
     ensures open { IsOpenIfOk S.Store conn.new result }
     ensures memory { WantsMemoryIfErr S.Store conn.old conn.new result }
@@ -151,8 +129,8 @@ pub fn key_rows<S: Alter>(
     after: &KeyPrefix,
     most: u32,
 ) -> Result<Vec<Row>, Error>
-    ensures rows { HasCleanDisk (state S.Store conn.new) → IfOk result (λ rows. (v : Vault) → Keeps (state S.Store conn.old) v → rows.items ≡ map key_row (keys_after v bucket.now after.now most)) }
-    ensures readable { HasCleanDisk (state S.Store conn.new) → IfOk result (λ rows. (v : Vault) → Keeps (state S.Store conn.old) v → AreReadable key_row IsObjectKey rows.items) }
+    ensures rows { SaysOf S.Store conn.old conn.new result (λ v rows. rows.items ≡ map key_row (keys_after v bucket.now after.now most)) }
+    ensures readable { SaysOf S.Store conn.old conn.new result (λ v rows. AreReadable key_row IsObjectKey rows.items) }
     ensures read { OnlyReads S.Store conn.old conn.new }
     ensures open { IsOpenIfOk S.Store conn.new result }
     ensures memory { WantsMemoryIfErr S.Store conn.old conn.new result }
@@ -171,8 +149,8 @@ pub fn newest_rows<S: Alter>(
     key: &ObjectKey,
     id: VersionId,
 ) -> Result<Vec<Row>, Error>
-    ensures rows { HasCleanDisk (state S.Store conn.new) → IfOk result (λ rows. (v : Vault) → Keeps (state S.Store conn.old) v → rows.items ≡ map id_row (option_to_list (newest_but v bucket.now key.now id))) }
-    ensures readable { HasCleanDisk (state S.Store conn.new) → IfOk result (λ rows. (v : Vault) → Keeps (state S.Store conn.old) v → AreReadable id_row (λ id. IsTrue (is_version_id id)) rows.items) }
+    ensures rows { SaysOf S.Store conn.old conn.new result (λ v rows. rows.items ≡ map id_row (option_to_list (newest_but v bucket.now key.now id))) }
+    ensures readable { SaysOf S.Store conn.old conn.new result (λ v rows. AreReadable id_row (λ id. IsTrue (is_version_id id)) rows.items) }
     ensures read { OnlyReads S.Store conn.old conn.new }
     ensures open { IsOpenIfOk S.Store conn.new result }
     ensures memory { WantsMemoryIfErr S.Store conn.old conn.new result }
@@ -186,8 +164,8 @@ pub fn newest_rows<S: Alter>(
 
 /// The rows of a version's settings.
 pub fn settings_rows<S: Alter>(conn: &mut Connection<S>, id: VersionId) -> Result<Vec<Row>, Error>
-    ensures rows { HasCleanDisk (state S.Store conn.new) → IfOk result (λ rows. (v : Vault) → Keeps (state S.Store conn.old) v → (settings : List SettingRow) × (rows.items ≡ map setting_row settings) × (map (λ x. x.setting) settings ≡ settings_of v id)) }
-    ensures readable { HasCleanDisk (state S.Store conn.new) → IfOk result (λ rows. (v : Vault) → Keeps (state S.Store conn.old) v → AreReadable setting_row IsSettingRow rows.items) }
+    ensures rows { SaysOf S.Store conn.old conn.new result (λ v rows. (settings : List SettingRow) × (rows.items ≡ map setting_row settings) × (map (λ x. x.setting) settings ≡ settings_of v id)) }
+    ensures readable { SaysOf S.Store conn.old conn.new result (λ v rows. AreReadable setting_row IsSettingRow rows.items) }
     ensures read { OnlyReads S.Store conn.old conn.new }
     ensures open { IsOpenIfOk S.Store conn.new result }
     ensures memory { WantsMemoryIfErr S.Store conn.old conn.new result }

@@ -3,12 +3,11 @@ ghost use Rattle.std.specs.Prelude.{◌≡◌, ◌≢◌, ℕ, List, IsTrue, Mat
 ghost use Rattle.vault_base.specs.Name.{is_version_id};
 ghost use Rattle.vault_core_model.specs.declared.records.LastSetting.{LastSetting as Last};
 ghost use Rattle.vault_audit_model.specs.Limits.{IsBucketName, IsObjectKey};
-ghost use Rattle.vault_store_reads.specs.Readable.{IsHeldRow, IsLastSetting, IsSizedRow};
-ghost use Rattle.vault_store_reads.specs.Shown.{last_row, held_row, sized_row, key_row, id_row, name_row};
+ghost use Rattle.vault_store_reads.specs.Readable.{IsHeldRow, IsLastSetting};
+ghost use Rattle.vault_store_reads.specs.Shown.{last_row, held_row, key_row, id_row, name_row};
 ghost use Rattle.vault_store_reads.specs.declared.rows_in_order.shown.HeldRow.{HeldRow as Held};
-ghost use Rattle.vault_store_reads.specs.declared.rows_in_order.shown.SizedRow.{SizedRow as Sized};
 
-use sqlite::{Error, ErrorCode, Row};
+use sqlite::Row;
 use vault_audit_rows::cell::{flag, moment, number_within, version_id};
 use vault_audit_rows::misread::Misread;
 use vault_audit_rows::name::{bucket_name, object_key};
@@ -17,9 +16,6 @@ use vault_base::moment::Moment;
 use vault_base::name::{BucketName, ObjectKey, VersionId};
 use vault_core_model::records::LastSetting;
 use vault_lock::lock::Lock;
-
-/// What is said of a row that says nothing of a vault.
-pub const UNREADABLE: Error = Error::SqliteFailure(ErrorCode::DatabaseCorrupt);
 
 /// The last setting of a version.
 pub fn read_last(row: &Row) -> Option<LastSetting>
@@ -63,29 +59,6 @@ pub fn read_held(row: &Row) -> Option<HeldRow>
         marker,
         size: u64::from(size),
         admitted,
-    })
-}
-
-/// A version and its size.
-#[derive(Clone, Copy)]
-pub struct SizedRow {
-    pub id: VersionId,
-    /// In bytes.
-    pub size: u64,
-}
-
-/// A version and its size.
-pub fn read_sized(row: &Row) -> Option<SizedRow>
-    ensures { MatchOption result ((x : Sized) → IsSizedRow x → row.now ≢ sized_row x) (λ x. row.now ≡ sized_row x) }
-{
-    if row.column_count() != 2 {
-        return None;
-    }
-    let id = version_id(row, 0)?;
-    let size = number_within(row, 1, 0, 1_048_576)?;
-    Some(SizedRow {
-        id,
-        size: u64::from(size),
     })
 }
 

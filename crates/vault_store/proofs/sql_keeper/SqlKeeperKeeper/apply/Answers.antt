@@ -8,7 +8,7 @@ use Rattle.vault_core_model.specs.Allowed.{Allows}
 use Rattle.vault_core_model.specs.Change.{changed}
 use Rattle.vault_core_model.specs.Vault.{Vault}
 use Rattle.vault_core_model.specs.declared.change.Change.{Change}
-use Rattle.vault_store_apply.specs.Known.{AreKnown}
+use Rattle.vault_store_model.specs.Known.{AreKnown}
 use Rattle.vault_store_apply.specs.Left.{IsFoundIn, LeavesAlone}
 use Rattle.vault_store.specs.Kept.{after}
 use Rattle.vault_store.specs.Left.{IsKept}

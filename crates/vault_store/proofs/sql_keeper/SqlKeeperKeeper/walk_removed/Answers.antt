@@ -6,8 +6,8 @@ use Rattle.vault_core_model.specs.declared.records.Entry.{Entry}
 use Rattle.vault_core_model.specs.Handing.{Hands, Taking}
 use Rattle.vault_core_model.specs.Reads.{removed_entries}
 use Rattle.vault_store.specs.VaultOf.{vault_of}
-use Rattle.vault_store_reads.proofs.HandLemmas.{none_taken}
-use Rattle.vault_store_reads.specs.Handed.{as_fault}
+use Rattle.vault_store_walks.proofs.HandLemmas.{none_taken}
+use Rattle.vault_store_walks.specs.Handed.{as_fault}
 use Rattle.vault_core_model.specs.Halts.{is_device_fault}
 use Rattle.vault_store.proofs.KeptLemmas.{no_failure, read_kept}
 use Rattle.vault_store.proofs.KnownLemmas.{known_still}
