@@ -1,7 +1,6 @@
 -- Which table is reported: they are looked at in their order.
-use Rattle.std.specs.Prelude.{◌≡◌, ◌<◌, ◌⊎◌, Bool, true, false, map, Option, Some, None, MatchOption}
+use Rattle.std.specs.Prelude.{◌≡◌, ◌<◌, ◌⊎◌, Bool, true, false, map, Option, Some, None}
 use Rattle.sqlite.specs.Effect.{Database}
-use Rattle.sqlite.specs.Schema.{Schema}
 use Rattle.vault_base.specs.declared.refusal.Table.{Table}
 use Rattle.vault_base.specs.declared.refusal.Table.TheVariants.{Meta, Departments, Callers, Buckets, Rules, Entries, Contents, Settings, Intake, Heads, Tenures}
 use Rattle.vault_core_model.specs.Vault.{Vault}
@@ -12,7 +11,7 @@ use Rattle.vault_audit_model.specs.Order.{place_of}
 use Rattle.vault_audit_model.specs.Rows.{department_row, caller_row, bucket_row, rule_row, entry_row, content_row, setting_row, note_row, head_row, tenure_row, department_columns_as, caller_columns, bucket_columns, rule_columns_as, entry_columns, content_columns, setting_columns, note_columns, head_columns}
 use Rattle.vault_audit_model.specs.Spells.{AreSoundAs, tenure_rows_in}
 use Rattle.vault_audit_model.specs.Tables.{schema_of, departments_tree, callers_tree, buckets_tree, rules_tree, entries_tree, contents_tree, settings_tree, intake_tree, heads_tree}
-use Rattle.vault_audit_schema.specs.Places.{IsInPlace, AreInPlace, IsReportedIn}
+use Rattle.vault_audit_schema.specs.Places.{IsInPlace, AreInPlace}
 use Rattle.vault_audit_records.specs.Entries.{IsEntryBy}
 use Rattle.vault_audit_records.specs.Meta.{IsMetaOf}
 use Rattle.vault_audit_walk.specs.Records.{AreRecords}
@@ -50,7 +49,3 @@ pub record IsReportedInOrder (n : Edition) (db : Database) (stated : Table) : Ty
 abbrev pub ReportedInOrder : Edition → Database → Option Table → Type 0
 ReportedInOrder n db None = (db.schema ≡ schema_of n) × AreRight n db
 ReportedInOrder n db (Some table) = IsReportedInOrder n db table × ((v : Vault) → ¬ AreSoundAs n db v)
-
--- where the schema differs from the edition's, if it does
-abbrev pub Differs : Edition → Schema → Option Table → Type 0
-Differs n s difference = MatchOption difference (s ≡ schema_of n) (IsReportedIn n s)

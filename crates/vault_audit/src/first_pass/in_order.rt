@@ -7,7 +7,8 @@ ghost use Rattle.vault_core_model.specs.Vault.{Vault};
 ghost use Rattle.vault_audit_model.specs.Spells.{AreSoundAs};
 ghost use Rattle.vault_audit_schema.specs.Places.{BeginTo};
 ghost use Rattle.vault_audit_records.specs.Meta.{IsMetaOf};
-ghost use Rattle.vault_audit.specs.InOrder.{AreRowsRight, Differs, ReportedInOrder};
+ghost use Rattle.vault_audit.specs.InOrder.{AreRowsRight, ReportedInOrder};
+ghost use Rattle.vault_audit.specs.Looks.{Differs};
 ghost use Rattle.vault_audit_walk.specs.Health.{IsHealthy, IsMemory, OnlyLooks};
 
 use crate::first_pass::buckets::check_buckets;
