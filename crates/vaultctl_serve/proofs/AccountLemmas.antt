@@ -1,5 +1,5 @@
 -- What is logged as late wasn't read to its end.
-use Rattle.std.proofs.Common.{◌≡◌, Option, Some, Result, Ok, Err, refl}
+use Rattle.std.proofs.Common.{◌≡◌, Some, Result, Ok, Err, refl}
 use Rattle.vault_http.specs.declared.fault.ServeFault.{ServeFault}
 use Rattle.vault_http.specs.declared.fault.ServeFault.TheVariants as faults
 use Rattle.vaultctl_log.specs.declared.entry.Trouble.TheVariants as trouble

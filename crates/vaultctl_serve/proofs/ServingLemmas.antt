@@ -1,5 +1,5 @@
 -- Steps of connections, one after another, and the tries in which these are taken.
-use Rattle.std.proofs.Common.{◌≡◌, ◌∙◌, ◌+◌, ◌≤◌, ℕ, Bool, true, false, true≢false, List, [], ◌∷◌, ◌++◌, length, Option, None, Some, refl, sym, subst, inl, inr, arith}
+use Rattle.std.proofs.Common.{◌≡◌, ◌+◌, ◌≤◌, ℕ, Bool, true, List, [], ◌∷◌, ◌++◌, length, Option, None, Some, refl, sym, subst, inl, inr, arith}
 use Rattle.std.proofs.lemmas.List.{length-append}
 use Rattle.vault_core_model.specs.Step.{Reached}
 use Rattle.vault_core_model.specs.Vault.{Vault}
@@ -100,12 +100,9 @@ OnTime-append n m before mid after old between new first second = (
 pub OnTime-stepped : (n : ℕ) (before after : Option (List Try)) (old new : Vault) → SteppedOnTime n before after old new → Stepped n old new
 OnTime-stepped n before after old new timely = Stepped-more (length timely.0) n old new (omega (arith, timely.1)) (SteppedAt-stepped timely.0 old new timely.3)
 
--- as many as there were to be were made, or there were to be no more
+-- as many were made as there were to be
 pub While-all : (going : Bool) (n most : ℕ) (before after : Option (List Try)) (old new : Vault) → n ≡ most → SteppedOnTime n before after old new → SteppedWhile going most before after old new
 While-all going n most before after old new all timely = (n, omega (arith, all), λ _. all, timely)
-
-pub While-ended : (going : Bool) (n most : ℕ) (before after : Option (List Try)) (old new : Vault) → going ≡ false → n ≤ most → SteppedOnTime n before after old new → SteppedWhile going most before after old new
-While-ended going n most before after old new ended within timely = (n, within, λ on. absurd (true≢false (sym on ∙ ended)), timely)
 
 -- ---- what is heard
 

@@ -1,5 +1,5 @@
 -- A request for another host than those of a server is refused.
-use Rattle.std.proofs.Common.{◌≡◌, ℕ, List, [], ◌∷◌, ◌++◌, Bool, length, map, Option, None, Some, IfSome, Result, Ok, Err, IfErr, OnOk, ap, subst, inl, inr, arith}
+use Rattle.std.proofs.Common.{◌≡◌, ℕ, List, [], ◌∷◌, Bool, length, Option, None, Some, IfSome, Result, Ok, Err, IfErr, OnOk, ap, subst, inl, inr, arith}
 use Rattle.std.specs.Prelude.{if◌then◌else◌}
 use Rattle.std.proofs.lemmas.List.{length-append}
 use Rattle.httparse.specs.Grammar.{RequestHead, print_request}

@@ -12,7 +12,6 @@ use Rattle.vault_core_model.specs.Vault.{Vault, next_id}
 use Rattle.vault_core_model.specs.declared.reply.Answer.TheVariants.{Nothing as NothingMore}
 use Rattle.vault_core_model.specs.declared.reply.Reply.TheVariants as reply
 use Rattle.vault_http.specs.ReplyLine.{reply_text}
-use Rattle.vault_core_evidence.specs.declared.walk.JudgedPart.{JudgedPart}
 use Rattle.vault_core_evidence.specs.declared.breach.Breach.{Breach}
 use Rattle.vault_core_evidence.specs.Breaches.{law_name}
 use Rattle.vault_core_evidence.specs.Parts.{judged_part}

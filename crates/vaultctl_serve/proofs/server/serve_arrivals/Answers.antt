@@ -1,6 +1,6 @@
-use Rattle.std.proofs.Common.{refl, inl, arith}
+use Rattle.std.proofs.Common.{refl, inl, sym, ◌∙◌, arith}
 use Rattle.vaultctl_serve.proofs.ReportLemmas.{reports-then}
-use Rattle.vaultctl_serve.proofs.ServingLemmas.{HearsAll-more, HearsAll-none, OnTime-append, OnTime-none, OnTime-stepped, Stepped-more, Stepped-reached, While-all, While-ended}
+use Rattle.vaultctl_serve.proofs.ServingLemmas.{HearsAll-more, HearsAll-none, OnTime-append, OnTime-none, OnTime-stepped, Stepped-more, Stepped-reached, While-all}
 use Rattle.vaultctl_serve.proofs.server.serve_arrivals.Goals as goal
 
 pub loop-init : goal.loop-init
@@ -20,9 +20,17 @@ loop-preserved g c = record {
   counted = omega (arith, c.loop.invariant.counted, c.serve_watched.ensures.leaves.1);
   reported = reports-then g.T.Reporter.fails _ _ _ _ _ _ _ c.faults-since.ensures c.loop.invariant.counted c.serve_watched.ensures.leaves.1 c.loop.invariant.reported c.serve_watched.ensures.reported c.serve_watched.ensures.once;
   timely = λ h. OnTime-append c.loop.counter 1 _ _ _ _ _ _ (c.loop.invariant.timely (c.serve_watched.ensures.leaves.0 h)) (c.serve_watched.ensures.timely h);
-  heard = λ h. HearsAll-more g.H.Hears.going g.H.Hears.hears _ _ _ _ _ _ (c.loop.invariant.heard (c.serve_watched.ensures.leaves.0 h)) ? (c.serve_watched.ensures.heard h);
+  heard = λ h. HearsAll-more g.H.Hears.going g.H.Hears.hears _ _ _ _ _ _ (c.loop.invariant.heard (c.serve_watched.ensures.leaves.0 h)) (sym c.goes_on.ensures ∙ c.if-not-goes_on.false) (c.serve_watched.ensures.heard h);
 }
 
+-- who hears lets no more be carried out
+pub returns-then-not-goes_on-clause-stepped : goal.returns-then-not-goes_on-clause-stepped
+returns-then-not-goes_on-clause-stepped g c = λ h. Stepped-more c.loop.counter c.args.count _ _ c.loop.auto.counter-end (OnTime-stepped _ _ _ _ _ (c.loop.invariant.timely h))
+
+pub returns-then-not-goes_on-clause-reached : goal.returns-then-not-goes_on-clause-reached
+returns-then-not-goes_on-clause-reached g c = λ h before. Stepped-reached _ _ _ (OnTime-stepped _ _ _ _ _ (c.loop.invariant.timely h)) before
+
+-- all were taken
 pub returns-clause-stepped : goal.returns-clause-stepped
 returns-clause-stepped g c = λ h. Stepped-more c.loop.counter c.args.count _ _ (omega arith) (OnTime-stepped _ _ _ _ _ (c.loop.invariant.timely h))
 

@@ -21,5 +21,5 @@ returns-in-Ok-clause-timely g c =
 pub returns-in-Ok-clause-heard : goal.returns-in-Ok-clause-heard
 returns-in-Ok-clause-heard g c = λ h. (_, c.serve_taken.ensures.heard h)
 
-pub returns-clause-heard : goal.returns-clause-heard
-returns-clause-heard g c = λ h. (None, inl (refl, refl))
+pub returns-in-Err-clause-heard : goal.returns-in-Err-clause-heard
+returns-in-Err-clause-heard g c = λ h. (None, inl (refl, refl))

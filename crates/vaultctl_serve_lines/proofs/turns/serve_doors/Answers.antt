@@ -1,4 +1,4 @@
-use Rattle.std.proofs.Common.{◌≡◌, ◌+◌, ◌≤◌, ℕ, arith, subst, sym}
+use Rattle.std.proofs.Common.{◌≡◌, ◌∙◌, ◌+◌, ◌≤◌, ℕ, arith, subst, sym}
 use Rattle.vaultctl_serve.proofs.ReportLemmas.{reports-then}
 use Rattle.vaultctl_serve.proofs.ServingLemmas.{HearsAll-more, Stepped-more, Stepped-reached}
 use Rattle.vaultctl_serve_lines.specs.Doors.{most_of, SteppedWithin}
@@ -13,6 +13,13 @@ returns-then-taken-count-clause-stepped g c = λ h. Stepped-more c.loop-turn.tak
 
 pub returns-then-taken-count-clause-reached : goal.returns-then-taken-count-clause-reached
 returns-then-taken-count-clause-reached g c = λ h before. Stepped-reached _ _ _ (Within-stepped _ _ _ _ _ (c.loop-turn.invariant.timely h)) before
+
+-- who hears lets no more be carried out
+pub returns-then-not-goes_on-clause-stepped : goal.returns-then-not-goes_on-clause-stepped
+returns-then-not-goes_on-clause-stepped g c = λ h. Stepped-more c.loop-turn.taken c.args.count _ _ c.loop-turn.invariant.within (Within-stepped _ _ _ _ _ (c.loop-turn.invariant.timely h))
+
+pub returns-then-not-goes_on-clause-reached : goal.returns-then-not-goes_on-clause-reached
+returns-then-not-goes_on-clause-reached g c = λ h before. Stepped-reached _ _ _ (Within-stepped _ _ _ _ _ (c.loop-turn.invariant.timely h)) before
 
 -- a line ended the server, and one less than were counted was taken before it at most
 pub returns-in-End-clause-timely : goal.returns-in-End-clause-timely
@@ -36,7 +43,7 @@ pub returns-in-End-clause-reached : goal.returns-in-End-clause-reached
 returns-in-End-clause-reached g c = λ h before. Stepped-reached c.args.count _ _ (returns-in-End-clause-stepped g c h) before
 
 pub returns-in-End-clause-heard : goal.returns-in-End-clause-heard
-returns-in-End-clause-heard g c = λ h. HearsAll-more g.H.Hears.going g.H.Hears.hears _ _ _ _ _ _ (c.loop-turn.invariant.heard (c.watch_turn.ensures.leaves.0 h)) ? (c.watch_turn.ensures.heard h)
+returns-in-End-clause-heard g c = λ h. HearsAll-more g.H.Hears.going g.H.Hears.hears _ _ _ _ _ _ (c.loop-turn.invariant.heard (c.watch_turn.ensures.leaves.0 h)) (sym c.goes_on.ensures ∙ c.if-not-goes_on.false) (c.watch_turn.ensures.heard h)
 
 -- the turns so far, and then this one, which took nothing or one
 pub loop-turn-preserved : goal.loop-turn-preserved
@@ -63,7 +70,7 @@ loop-turn-preserved g c =
       counted = omega (arith, c.loop-turn.invariant.counted, c.watch_turn.ensures.leaves.1);
       reported = reports-then g.T.Reporter.fails _ _ _ _ _ _ _ c.faults-since.ensures c.loop-turn.invariant.counted c.watch_turn.ensures.leaves.1 c.loop-turn.invariant.reported c.watch_turn.ensures.reported c.watch_turn.ensures.once;
       timely = λ h. subst P (sym summed) (Within-append taken (most_of c.watch_turn.result) before mid after old between new (c.loop-turn.invariant.timely (c.watch_turn.ensures.leaves.0 h)) (c.watch_turn.ensures.timely h));
-      heard = λ h. HearsAll-more g.H.Hears.going g.H.Hears.hears _ _ _ _ _ _ (c.loop-turn.invariant.heard (c.watch_turn.ensures.leaves.0 h)) ? (c.watch_turn.ensures.heard h);
+      heard = λ h. HearsAll-more g.H.Hears.going g.H.Hears.hears _ _ _ _ _ _ (c.loop-turn.invariant.heard (c.watch_turn.ensures.leaves.0 h)) (sym c.goes_on.ensures ∙ c.if-not-goes_on.false) (c.watch_turn.ensures.heard h);
     }
 
 -- nothing came any more
