@@ -3,7 +3,7 @@ use Rattle.std.proofs.Common.{◌≡◌, ◌+◌, ◌≤◌, ℕ, List, [], ◌�
 use Rattle.vault_core_model.specs.Vault.{Vault}
 use Rattle.vault_http.specs.Left.{AtMostOne}
 use Rattle.vaultctl_serve.specs.Serving.{Missed, Next, ReadsAs, Stepped, SteppedAt, Taken, Tries, Try}
-use Rattle.vaultctl_serve.proofs.ServingLemmas.{OnTime-taken, Stepped-append, Stepped-more, Stepped-none, Stepped-one, SteppedAt-append}
+use Rattle.vaultctl_serve.proofs.ServingLemmas.{OnTime-none, OnTime-taken, Stepped-append, Stepped-more, Stepped-none, Stepped-one, SteppedAt-append}
 use Rattle.vaultctl_replay.specs.declared.fault.ReplayFault.{ReplayFault}
 use Rattle.vaultctl_serve_lines.specs.Doors.{most_of, SteppedWithin, taken_in, turn_after}
 use Rattle.vaultctl_serve_lines_answers.specs.declared.line.Next.{Next as AnyNext}
@@ -40,6 +40,10 @@ pub takes-one : (answered : Result AnyNext ReplayFault) (made : Turn) → made �
 takes-one (Ok next.On) made is = rw is (omega arith)
 takes-one (Ok next.End) made is = rw is (omega arith)
 takes-one (Err fault) made is = rw is (omega arith)
+
+-- nothing was waited for
+pub Within-none : (known : Option (List Try)) (vault : Vault) → SteppedWithin 0 known known vault vault
+Within-none known vault = let timely = OnTime-none known vault in (timely.0, omega (arith, taken-bound timely.0, timely.1), timely.2, timely.3)
 
 -- a request or a line was taken
 pub Within-taken : (before after : Option (List Try)) (shown moment : Option ℕ) (old new : Vault) → Tries before after (Taken shown ∷ []) → ReadsAs after shown moment → AtMostOne moment old new → SteppedWithin 1 before after old new

@@ -1,11 +1,21 @@
-use Rattle.std.proofs.Common.{◌≡◌, ◌∙◌, ◌+◌, ◌≤◌, ℕ, arith, subst, sym}
+use Rattle.std.proofs.Common.{◌≡◌, ◌∙◌, ◌+◌, ◌≤◌, ℕ, arith, inl, refl, subst, sym}
 use Rattle.vaultctl_serve.proofs.ReportLemmas.{reports-then}
-use Rattle.vaultctl_serve.proofs.ServingLemmas.{HearsAll-more, Stepped-more, Stepped-reached}
+use Rattle.vaultctl_serve.proofs.ServingLemmas.{HearsAll-more, HearsAll-none, Stepped-more, Stepped-reached}
 use Rattle.vaultctl_serve_lines.specs.Doors.{most_of, SteppedWithin}
 use Rattle.vaultctl_serve_lines.specs.declared.turns.Turn.{Turn}
-use Rattle.vaultctl_serve_lines.proofs.TurnLemmas.{Within-append, Within-more, Within-stepped}
+use Rattle.vaultctl_serve_lines.proofs.TurnLemmas.{Within-append, Within-more, Within-none, Within-stepped}
 use Rattle.vaultctl_serve_lines.proofs.turns.serve_doors.Goals as goal
 use Rattle.vaultctl_serve_lines.proofs.turns.serve_doors.Goals.{in-Idle, in-Taken}
+
+pub loop-turn-init : goal.loop-turn-init
+loop-turn-init g c = record {
+  within = omega arith;
+  honest = λ h. h;
+  counted = omega arith;
+  reported = inl (refl, refl);
+  timely = λ h. Within-none (g.D.Doors.tries c.args.doors.now) (g.K.Kept.vault c.args.keeper.now);
+  heard = λ h. HearsAll-none g.H.Hears.going g.H.Hears.hears c.args.hears.now (g.K.Kept.vault c.args.keeper.now);
+}
 
 -- as many were taken as were counted
 pub returns-then-taken-count-clause-stepped : goal.returns-then-taken-count-clause-stepped

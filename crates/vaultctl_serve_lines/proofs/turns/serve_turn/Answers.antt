@@ -1,4 +1,4 @@
-use Rattle.std.proofs.Common.{◌≡◌, List, Option, None, inl, refl, subst, sym, ◌∙◌}
+use Rattle.std.proofs.Common.{List, Option, None, inl, refl, subst, sym, ◌∙◌}
 use Rattle.vaultctl_serve.specs.Serving.{Try}
 use Rattle.vaultctl_serve_lines.specs.Doors.{most_of, SteppedWithin}
 use Rattle.vaultctl_serve_lines.proofs.TurnLemmas.{takes-one, Within-more, Within-taken}
