@@ -10,6 +10,7 @@ use Rattle.vault_core_examples.specs.Outcome.{reports_fault}
 use Rattle.vault_core_model.specs.Step.{IsRun, IsStep}
 use Rattle.vault_core_model.specs.Vault.{Vault}
 use Rattle.vault_core_model.specs.declared.command.Timed.{Timed}
+use Rattle.vault_core_model.specs.declared.kept.Kept.{Ghosts}
 use Rattle.vault_core_model.specs.declared.reply.Reply.{Reply}
 use Rattle.vault_core_model.specs.declared.reply.Reply.TheVariants as reply
 use Rattle.vault_http.specs.Left.{AtMostOne}
@@ -66,18 +67,18 @@ asks one AtEnd bytes lines rest asked own (inl none) (inr (at_end, (ls, r, split
 abbrev refusals : List Refusal → List Reply
 refusals xs = map (λ x. reply.Refused x) xs
 
-refused-run : (v w : Vault) (n m : ℕ) (xs : List Refusal) (qs : List Reply) → Runs (Unit {0}) v n (map (λ x. line.Refused x) xs) qs w m → (qs ≡ refusals xs) × (w ≡ v)
-refused-run v w n m [] qs h = (h.0, h.1)
-refused-run v w n m (x ∷ xs) qs (mid, between, first, others, answered, later, is) =
-    let rest = refused-run mid w between m xs others later in
+refused-run : (Honest : Type 0) (v w : Vault) (n m : ℕ) (xs : List Refusal) (qs : List Reply) → Runs Honest v n (map (λ x. line.Refused x) xs) qs w m → (qs ≡ refusals xs) × (w ≡ v)
+refused-run Honest v w n m [] qs h = (h.0, h.1)
+refused-run Honest v w n m (x ∷ xs) qs (mid, between, first, others, answered, later, is) =
+    let rest = refused-run Honest mid w between m xs others later in
     (is ∙ ap₂ (λ a b. a ++ b) answered.0 rest.0, rest.1 ∙ answered.1)
 
-run-of : (v w : Vault) (n m : ℕ) (cs : List Timed) (xs : List Refusal) (qs : List Reply) → Runs (Unit {0}) v n (map (λ c. line.Command c) cs ++ map (λ x. line.Refused x) xs) qs w m
+run-of : (Honest : Type 0) → Honest → (v w : Vault) (n m : ℕ) (cs : List Timed) (xs : List Refusal) (qs : List Reply) → Runs Honest v n (map (λ c. line.Command c) cs ++ map (λ x. line.Refused x) xs) qs w m
     → (ps : List Reply) × (qs ≡ ps ++ refusals xs) × IsRun v cs ps w
-run-of v w n m [] xs qs h = let rest = refused-run v w n m xs qs h in ([], rest.0, rest.1)
-run-of v w n m (c ∷ cs) xs qs (mid, between, first, others, (r, step, one, counted), later, is) =
-    let rest = run-of mid w between m cs xs others later in
-    (r ∷ rest.0, is ∙ ap₂ (λ a b. a ++ b) one rest.1, (mid, step tt, rest.2))
+run-of Honest honest v w n m [] xs qs h = let rest = refused-run Honest v w n m xs qs h in ([], rest.0, rest.1)
+run-of Honest honest v w n m (c ∷ cs) xs qs (mid, between, first, others, (r, step, one, counted), later, is) =
+    let rest = run-of Honest honest mid w between m cs xs others later in
+    (r ∷ rest.0, is ∙ ap₂ (λ a b. a ++ b) one rest.1, (mid, step honest, rest.2))
 
 clear-more : (b : Bool) (ps qs : List Reply) → (list_any reports_fault (ps ++ qs) ≡ false → list_any reports_fault ps ≡ false) → b || list_any reports_fault (ps ++ qs) ≡ false → b || list_any reports_fault ps ≡ false
 clear-more true ps qs later e = e
@@ -106,26 +107,28 @@ NowhereElse = (v v' w : Vault) (cs : List Timed) (rs qs : List Reply) → IsRun 
 abbrev pub IsRefused : Type 0
 IsRefused = line_of end_line ≡ line.Refused MalformedBody
 
-module _ (nowhere : NowhereElse) (one : OneReading) (refused : IsRefused) where
+module _ {K : Type 0} (g : Ghosts K) (nowhere : NowhereElse) (one : OneReading) (refused : IsRefused) where
   -- a line for each change of a run, and then lines that are refused, and a rest
   lead-by : (state : JournalState) (v v' : Vault) (lines after : List ℕ) (cs : List Timed) (rs : List Reply) (more : List (List ℕ)) (rest : List ℕ) (xs : List Refusal)
-      → IsRun v cs rs v' → AreRecords lines cs rs → Splits after more rest → map line_of more ≡ map (λ x. line.Refused x) xs → (rest ≡ []) ⊎ ((state ≢ Lost) → ⊥) → LeadTo state (lines ++ after) v v'
-  lead-by state v v' lines after cs rs more rest xs run (records, whole) others are_refused no_more asked qs w n m ask runs clear =
+      → IsRun v cs rs v' → AreRecords lines cs rs → Splits after more rest → map line_of more ≡ map (λ x. line.Refused x) xs → (rest ≡ []) ⊎ ((state ≢ Lost) → ⊥) → LeadTo g state (lines ++ after) v v'
+  lead-by state v v' lines after cs rs more rest xs run (records, whole) others are_refused no_more copy copy' asked qs honest is_copy ask runs clear =
       let own = split lines (changing cs rs) after more rest records others in
       let is = asks one (state ≢ Lost) (lines ++ after) own.lines rest asked own.splits no_more ask ∙ own.asked ∙ ap (λ l. map (λ c. line.Command c) (changing cs rs) ++ l) are_refused in
-      let made = run-of v w n m (changing cs rs) xs qs (subst (λ l. Runs (Unit {0}) v n l qs w m) is runs) in
-      (nowhere v v' w cs rs made.0 run whole made.2 (clear-front made.0 (refusals xs) (subst (λ l. list_any reports_fault l ≡ false) made.1 clear))).0
+      let given = subst (λ u. Runs (g.is_honest copy') u (g.count copy) asked qs (g.vault copy') (g.count copy')) is_copy runs in
+      let made = run-of (g.is_honest copy') honest v (g.vault copy') (g.count copy) (g.count copy') (changing cs rs) xs qs
+      (subst (λ l. Runs (g.is_honest copy') v (g.count copy) l qs (g.vault copy') (g.count copy')) is given) in
+      (nowhere v v' (g.vault copy') cs rs made.0 run whole made.2 (clear-front made.0 (refusals xs) (subst (λ l. list_any reports_fault l ≡ false) made.1 clear))).0
 
-  lead-on : (state : JournalState) (v v' : Vault) (lines : List ℕ) (cs : List Timed) (rs : List Reply) → IsRun v cs rs v' → AreRecords lines cs rs → LeadTo state (lines ++ []) v v'
+  lead-on : (state : JournalState) (v v' : Vault) (lines : List ℕ) (cs : List Timed) (rs : List Reply) → IsRun v cs rs v' → AreRecords lines cs rs → LeadTo g state (lines ++ []) v v'
   lead-on state v v' lines cs rs run records =
       lead-by state v v' lines [] cs rs [] [] [] run records (record { whole = refl; each = All-nil HasNoLf; last = All-nil (λ b. b ≢ 10) }) refl (inl refl)
 
-  lead-to-end : (state : JournalState) (v v' : Vault) (lines : List ℕ) (cs : List Timed) (rs : List Reply) → IsRun v cs rs v' → AreRecords lines cs rs → LeadTo state (lines ++ ended end_line) v v'
+  lead-to-end : (state : JournalState) (v v' : Vault) (lines : List ℕ) (cs : List Timed) (rs : List Reply) → IsRun v cs rs v' → AreRecords lines cs rs → LeadTo g state (lines ++ ended end_line) v v'
   lead-to-end state v v' lines cs rs run records =
       lead-by state v v' lines (ended end_line) cs rs (end_line ∷ []) [] (MalformedBody ∷ []) run records
       (record { whole = refl; each = All-cons HasNoLf end_line [] no-lf-at-the-end (All-nil HasNoLf); last = All-nil (λ b. b ≢ 10) }) (ap (λ l. l ∷ []) refused) (inl refl)
 
-  lead-to-part : (v v' : Vault) (lines part : List ℕ) (cs : List Timed) (rs : List Reply) → IsRun v cs rs v' → AreRecords lines cs rs → HasNoLf part → LeadTo Lost (lines ++ part) v v'
+  lead-to-part : (v v' : Vault) (lines part : List ℕ) (cs : List Timed) (rs : List Reply) → IsRun v cs rs v' → AreRecords lines cs rs → HasNoLf part → LeadTo g Lost (lines ++ part) v v'
   lead-to-part v v' lines part cs rs run records no_lf =
       lead-by Lost v v' lines part cs rs [] part [] run records (record { whole = refl; each = All-nil HasNoLf; last = no_lf }) refl (inr (λ never. never refl))
 
@@ -145,23 +148,23 @@ module _ (nowhere : NowhereElse) (one : OneReading) (refused : IsRefused) where
   lacking Ended there now rest cs rs ends h = one-step there now cs rs (omega (arith, ends.1)) h
   lacking Lost there now rest cs rs ends h = one-step there now cs rs ends.1 h
 
-  lead-rest : (state : JournalState) (v v' : Vault) (lines rest : List ℕ) (cs unheard : List Timed) (rs : List Reply) → IsRun v cs rs v' → AreRecords lines cs rs → IsRest state rest unheard → LeadTo state (lines ++ rest) v v'
-  lead-rest Open v v' lines rest cs unheard rs run records (none, all) = subst (λ b. LeadTo Open (lines ++ b) v v') (sym none) (lead-on Open v v' lines cs rs run records)
-  lead-rest Ended v v' lines rest cs unheard rs run records (is, one) = subst (λ b. LeadTo Ended (lines ++ b) v v') (sym is) (lead-to-end Ended v v' lines cs rs run records)
+  lead-rest : (state : JournalState) (v v' : Vault) (lines rest : List ℕ) (cs unheard : List Timed) (rs : List Reply) → IsRun v cs rs v' → AreRecords lines cs rs → IsRest state rest unheard → LeadTo g state (lines ++ rest) v v'
+  lead-rest Open v v' lines rest cs unheard rs run records (none, all) = subst (λ b. LeadTo g Open (lines ++ b) v v') (sym none) (lead-on Open v v' lines cs rs run records)
+  lead-rest Ended v v' lines rest cs unheard rs run records (is, one) = subst (λ b. LeadTo g Ended (lines ++ b) v v') (sym is) (lead-to-end Ended v v' lines cs rs run records)
   lead-rest Lost v v' lines rest cs unheard rs run records (inl no_lf, few) = lead-to-part v v' lines rest cs rs run records no_lf
-  lead-rest Lost v v' lines rest cs unheard rs run records (inr is, few) = subst (λ b. LeadTo Lost (lines ++ b) v v') (sym is) (lead-to-end Lost v v' lines cs rs run records)
+  lead-rest Lost v v' lines rest cs unheard rs run records (inr is, few) = subst (λ b. LeadTo g Lost (lines ++ b) v v') (sym is) (lead-to-end Lost v v' lines cs rs run records)
 
-  lead-of : (state : JournalState) (bytes : List ℕ) (v v' : Vault) (cs : List Timed) (rs : List Reply) → IsRun v cs rs v' → IsJournal state bytes cs rs → (there : Vault) × Lacks state there v' × LeadTo state bytes v there
+  lead-of : (state : JournalState) (bytes : List ℕ) (v v' : Vault) (cs : List Timed) (rs : List Reply) → IsRun v cs rs v' → IsJournal state bytes cs rs → (there : Vault) × Lacks state there v' × LeadTo g state bytes v there
   lead-of state bytes v v' cs rs run j =
       let parts = run-split j.n v v' cs rs run in (
         parts.0,
         lacking state parts.0 v' j.rest (drop j.n cs) (drop j.n rs) j.ends parts.2,
-        subst (λ b. LeadTo state b v parts.0) (sym j.whole) (lead-rest state v parts.0 j.lines j.rest (take j.n cs) (drop j.n cs) (take j.n rs) parts.1 j.records j.ends),
+        subst (λ b. LeadTo g state b v parts.0) (sym j.whole) (lead-rest state v parts.0 j.lines j.rest (take j.n cs) (drop j.n cs) (take j.n rs) parts.1 j.records j.ends),
       )
 
-  pub lead : {W : Type 0} (g : Writing W) → (j j' : Journal W) (v v' : Vault) (old new : List ℕ) → j.state ≡ Open → g.contents j.writer ≡ Some old → g.contents j'.writer ≡ Some new → HearsAll (λ h. is_open h.state) (Hears g) j j' v v'
-      → (text : List ℕ) × (new ≡ old ++ text) × (there : Vault) × Lacks j'.state there v' × LeadTo j'.state text v there
-  lead g j j' v v' old new opened before after (cs, rs, run, heard) =
-      let made = journal-of g cs rs j j' old new opened before after heard in
+  pub lead : {W : Type 0} (w : Writing W) → (j j' : Journal W) (v v' : Vault) (old new : List ℕ) → j.state ≡ Open → w.contents j.writer ≡ Some old → w.contents j'.writer ≡ Some new → HearsAll (λ h. is_open h.state) (Hears w) j j' v v'
+      → (text : List ℕ) × (new ≡ old ++ text) × (there : Vault) × Lacks j'.state there v' × LeadTo g j'.state text v there
+  lead w j j' v v' old new opened before after (cs, rs, run, heard) =
+      let made = journal-of w cs rs j j' old new opened before after heard in
       let led = lead-of j'.state made.0 v v' cs rs run made.2 in
       (made.0, made.1, led.0, led.1, led.2)

@@ -5,6 +5,7 @@ use Rattle.std.specs.declared.io.Write.{Ghosts as Writing}
 use Rattle.vault_core_examples.specs.Outcome.{reports_fault}
 use Rattle.vault_core_model.specs.Vault.{Vault}
 use Rattle.vault_core_model.specs.declared.command.Timed.{Timed}
+use Rattle.vault_core_model.specs.declared.kept.Kept.{Ghosts}
 use Rattle.vault_core_model.specs.declared.reply.Reply.{Reply}
 use Rattle.vault_http.specs.Left.{AtMostOne}
 use Rattle.vault_http.specs.Line.{Line}
@@ -54,7 +55,8 @@ Lacks Open there now = now ≡ there
 Lacks Ended there now = (moment : Option ℕ) × AtMostOne moment there now
 Lacks Lost there now = (moment : Option ℕ) × AtMostOne moment there now
 
--- Whoever carries out the lines one after another over v, is left with the other vault, where no reply reports a fault. What comes after the last LF of a lost journal is no line.
-abbrev pub LeadTo : JournalState → List ℕ → Vault → Vault → Type 0
-LeadTo state bytes v there =
-    (asked : List Line) (replies : List Reply) (w : Vault) (n n' : ℕ) → AskSoFar (state ≢ Lost) bytes asked → Runs (Unit {0}) v n asked replies w n' → list_any reports_fault replies ≡ false → w ≡ there
+-- A copy of v that carries out the lines, one after another, keeps the other vault then, where no reply reports a fault. What comes after the last LF of a lost journal is no line.
+abbrev pub LeadTo : {K : Type 0} → Ghosts K → JournalState → List ℕ → Vault → Vault → Type 0
+LeadTo {K} g state bytes v there =
+    (copy copy' : K) (asked : List Line) (replies : List Reply) → g.is_honest copy' → g.vault copy ≡ v → AskSoFar (state ≢ Lost) bytes asked
+    → Runs (g.is_honest copy') (g.vault copy) (g.count copy) asked replies (g.vault copy') (g.count copy') → list_any reports_fault replies ≡ false → g.vault copy' ≡ there

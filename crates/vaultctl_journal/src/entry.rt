@@ -38,7 +38,8 @@ fn last_entry(alloc: Global) -> Result<Entry, AllocError>
     })
 }
 
-/// The line that makes a change again. Where it is longer than a script's line may be, it is the last line.
+/// The line that makes a change again. Where it is longer than a script's line may be, it is the last line; no change
+/// has such a line, as 1,000 rules with the longest ids and prefixes come to 3.3 million bytes, but that isn't proved.
 fn record_of(
     alloc: Global,
     at: Moment,

@@ -19,6 +19,7 @@ ghost use Rattle.vaultctl_journal.specs.declared.state.JournalState.TheVariants.
 
 use std::io::Write;
 use vault_core_examples::answers_are_one;
+use vault_core_model::kept::Kept;
 use vaultctl_replay::laws::input_has_one_reading;
 
 /// A command whose reply reports no change left the vault as it was: a refused one, a reading one, an intake
@@ -55,12 +56,13 @@ pub fn journals_are_of_their_commands<W: Write>()
         → (text : List ℕ) × (new ≡ old ++ text) × IsJournal j'.state text cs rs }
 {}
 
-/// The lines of a journal, carried out one after another over the vault of its beginning, lead to the vault that was
-/// journalled.
-pub fn journals_lead_to_the_vault<W: Write>()
+/// Whoever keeps a copy of the vault of a journal's beginning, and carries out the journal's lines one after another, keeps
+/// the vault that was journalled, where no reply reports a fault; where the journal has ended or was lost, that vault or
+/// the one before the last command.
+pub fn journals_lead_to_the_vault<W: Write, K: Kept>()
     ensures { (j j' : Journal W) (v v' : Vault) (old new : List ℕ)
         → j.state ≡ Open → W.contents j.writer ≡ Some old → W.contents j'.writer ≡ Some new → HearsAll (λ h. is_open h.state) (Hears W.Write) j j' v v'
-        → (text : List ℕ) × (new ≡ old ++ text) × (there : Vault) × Lacks j'.state there v' × LeadTo j'.state text v there }
+        → (text : List ℕ) × (new ≡ old ++ text) × (there : Vault) × Lacks j'.state there v' × LeadTo K.Kept j'.state text v there }
 {
     changes_lead_nowhere_else();
     input_has_one_reading();
