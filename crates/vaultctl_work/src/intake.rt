@@ -38,11 +38,11 @@ struct Delivery<'a> {
 }
 
 /// Takes in a list, whose files are in that folder; on a terminal it says how far it has come, and at last on `err` why rows were refused.
-fn take_in_at<K: Keeper, W: Write, E: Write>(
-    rt: &HostRuntime,
+fn take_in_at<'a, K: Keeper, W: Write, E: Write>(
+    rt: &'a HostRuntime,
     keeper: &mut K,
-    intake: ListedIntake<'_>,
-    folder: &str,
+    intake: ListedIntake<'a>,
+    folder: &'a str,
     out: &mut W,
     err: &mut E,
 ) -> Result<Outcome, JobFault>
@@ -56,14 +56,16 @@ fn take_in_at<K: Keeper, W: Write, E: Write>(
     ensures device { result ≢ Err JobFault.Device }
 {
     let alloc = rt.alloc();
+    let ListedIntake { at, asked, list } = intake;
     let mut files = ProgressFolder::new(DiskFolder::new(alloc, rt, folder), terminal(rt));
-    let (stated, report) = take_in_and_print(alloc, keeper, intake, &mut files, out);
+    let listed = ListedIntake { at, asked, list };
+    let (stated, report) = take_in_and_print(alloc, keeper, listed, &mut files, out);
     let taken = TakenList {
         alloc,
         files: rt,
-        list: intake.list,
+        list,
         folder,
-        at: intake.at,
+        at,
     };
     explain(&taken, &report, files.faults() != 0, err);
     drop(report);

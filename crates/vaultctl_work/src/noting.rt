@@ -84,13 +84,13 @@ fn serve_noted<K: Keeper, W: Write, E: Write>(
     err: &mut E,
 ) -> Result<Outcome, JobFault>
     ensures done { K.is_honest keeper.new → K.is_honest keeper.old × IsServed job.now (K.vault keeper.old) (K.vault keeper.new) }
-    // Over the vault of its beginning the journal's lines lead to the vault, or to the one before its last change.
-    ensures noted { K.is_honest keeper.new → IsNoted W.Write journal.old journal.new (K.vault keeper.old) (K.vault keeper.new) }
+    // By the journal's lines a copy of the vault of its beginning becomes the vault, or the one before the last command.
+    ensures noted { K.is_honest keeper.new → IsNoted W.Write K.Kept journal.old journal.new (K.vault keeper.old) (K.vault keeper.new) }
     // Where the journal doesn't go on, that is reported.
     ensures open { is_open journal.new.state ≡ false → result ≢ Ok Outcome.Done }
 {
     let ended = serve_heard(rt, keeper, journal, job, err);
-    journals_lead_to_the_vault::<W>();
+    journals_lead_to_the_vault::<W, K>();
     say_ended(err, journal.state);
     with_journal(journal.goes_on(), ended)
 }
