@@ -1,4 +1,7 @@
 //! The files of a vault by their names, as they were when they were opened.
+ghost use Rattle.std.specs.Prelude.{◌≡◌, ◌≢◌, ◌↔◌};
+ghost use Rattle.std.specs.IoError.{error_kind};
+
 use crate::watched_keeper::Watch;
 use std::fs;
 use std::io::{self, ErrorKind, Write};
@@ -65,7 +68,10 @@ fn files_at<'a>(rt: &'a HostRuntime, path: &str) -> io::Result<OpenedFiles<'a>> 
 }
 
 /// What it is reported as that one can't see the files.
-fn unseen(error: io::Error) -> Refusal {
+fn unseen(error: io::Error) -> Refusal
+    ensures memory { (result ≡ Refusal.Memory) ↔ (error_kind error ≡ ErrorKind.OutOfMemory) }
+    ensures other { error_kind error ≢ ErrorKind.OutOfMemory → result ≡ Refusal.Device }
+{
     if error.kind() == ErrorKind::OutOfMemory {
         return Refusal::Memory;
     }

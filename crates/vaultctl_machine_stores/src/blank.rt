@@ -6,6 +6,7 @@ ghost use Rattle.sqlite.specs.Steps.{IsFresh};
 ghost use Rattle.sqlite_store.specs.FileStore.{view};
 ghost use Rattle.sqlite_store.specs.Unopened.{files_of, wanted_by};
 ghost use Rattle.sqlite_trees.specs.View.{IsClean};
+ghost use Rattle.vaultctl_machine_stores.specs.Openings as spec;
 
 use sqlite::{Connection, Error, ErrorCode, FileStore, Leftover, Options};
 use sqlite_disk::{Disk, Files};
@@ -19,7 +20,9 @@ const NO_MEMORY: Error = Error::SqliteFailure(ErrorCode::OutOfMemory);
 const IO: Error = Error::SqliteFailure(ErrorCode::SystemIoFailure);
 
 /// What a failure to make the first page is reported as. Files that hold something aren't written over.
-fn unmade(error: OpenError) -> Error {
+fn unmade(error: OpenError) -> Error
+    ensures { result ≡ spec.unmade_of error }
+{
     Error::SqliteFailure(match error {
         OpenError::OutOfMemory => ErrorCode::OutOfMemory,
         OpenError::Io => ErrorCode::SystemIoFailure,
@@ -29,7 +32,9 @@ fn unmade(error: OpenError) -> Error {
 }
 
 /// What a failure to read the first page that was just written is reported as.
-fn unread(error: Error) -> Error {
+fn unread(error: Error) -> Error
+    ensures { result ≡ spec.unread_of error }
+{
     match error {
         Error::SqliteFailure(ErrorCode::OutOfMemory) => NO_MEMORY,
         _ => IO,

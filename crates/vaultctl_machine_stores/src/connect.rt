@@ -1,10 +1,12 @@
 //! Connections to the files at a path.
-ghost use Rattle.std.specs.Prelude.{true, false, IsTrue, IfOk};
+ghost use Rattle.std.specs.Prelude.{◌≡◌, ◌≢◌, ◌↔◌, true, false, IsTrue, IfOk, Err};
+ghost use Rattle.std.specs.IoError.{error_kind};
 ghost use Rattle.sqlite.specs.Files.{file_state, IsOpened};
 ghost use Rattle.sqlite.specs.State.{HasCleanDisk};
 ghost use Rattle.sqlite.specs.Start.{FindsIn};
 ghost use Rattle.sqlite_std_file.specs.File.{file_is_usable, IsFresh};
 ghost use Rattle.sqlite_wal.specs.Files.{image_at};
+ghost use Rattle.vaultctl_machine_stores.specs.Openings as spec;
 
 use crate::before::Before;
 use crate::blank::connect_blank;
@@ -33,6 +35,7 @@ const CANNOT_OPEN: Error = Error::SqliteFailure(ErrorCode::CannotOpen);
 fn open_pair<S: Start>(rt: &HostRuntime, path: &str, start: S) -> Result<Files<FileFrom<S>>, Error>
     ensures usable { IfOk result (λ files. IsTrue (file_is_usable S.Start files.log) × IsTrue (file_is_usable S.Start files.db)) }
     ensures fresh { IfOk result (λ files. IsFresh true files.log × IsFresh false files.db) }
+    ensures named { IsTrue (spec.is_no_path path.now) → result ≡ Err (Error.SqliteFailure ErrorCode.CannotOpen) }
 {
     if is_no_path(path) {
         return Err(CANNOT_OPEN);
@@ -65,7 +68,9 @@ fn open_reported<S: Start>(
 const CHECKPOINT_FRAMES: usize = 4000;
 
 /// What the store keeps in memory and in its log, with a random number for the log.
-fn options(rt: &HostRuntime) -> Result<Options, Error> {
+fn options(rt: &HostRuntime) -> Result<Options, Error>
+    ensures { IfOk result (λ options. options.checkpoint_frames ≡ 4000) }
+{
     match RandomState::new(rt) {
         Ok(state) => {
             let mut options = Options::new(state.hash_one(&0u8));
@@ -77,7 +82,9 @@ fn options(rt: &HostRuntime) -> Result<Options, Error> {
 }
 
 /// What it is reported as that one can't see whether the files hold something.
-fn unprobed(error: sqlite_wal::Error) -> Error {
+fn unprobed(error: sqlite_wal::Error) -> Error
+    ensures { result ≡ spec.unprobed_of error }
+{
     match error {
         sqlite_wal::Error::OutOfMemory => NO_MEMORY,
         sqlite_wal::Error::Io(_) => Error::SqliteFailure(ErrorCode::SystemIoFailure),
@@ -158,7 +165,10 @@ pub struct Opened<S: Alter> {
 }
 
 /// What it is reported as that files can't be read before they are opened, or that one can't be made.
-fn untouched(error: io::Error) -> Error {
+fn untouched(error: io::Error) -> Error
+    ensures memory { (result ≡ Error.SqliteFailure ErrorCode.OutOfMemory) ↔ (error_kind error ≡ ErrorKind.OutOfMemory) }
+    ensures other { error_kind error ≢ ErrorKind.OutOfMemory → result ≡ Error.SqliteFailure ErrorCode.CannotOpen }
+{
     if error.kind() == ErrorKind::OutOfMemory {
         return NO_MEMORY;
     }

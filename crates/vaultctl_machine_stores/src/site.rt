@@ -1,4 +1,7 @@
 //! The files at a path, which a refused command leaves as it found them.
+ghost use Rattle.std.specs.Prelude.{◌≡◌, ◌==◌, ◌&&◌, length, option_map, unwrap_or, is_some, not, false, IsTrue, IfSome};
+ghost use Rattle.sqlite_disk.specs.Disk.{Only};
+ghost use Rattle.vaultctl_machine_stores.specs.Openings as spec;
 
 use crate::before::Before;
 use sqlite_disk::{Disk, Files};
@@ -28,8 +31,10 @@ struct Names {
 }
 
 /// Whether a path stands for something else than a file, as `Connection::open_from` reads it.
-pub fn is_no_path(path: &str) -> bool {
-    path == ":memory:" || path.starts_with("file:")
+pub fn is_no_path(path: &str) -> bool
+    ensures { result ≡ spec.is_no_path path.now }
+{
+    path == ":memory:" || path.as_bytes().starts_with(b"file:")
 }
 
 /// The name of the log of a file. The error is want of memory.
@@ -39,7 +44,10 @@ fn log_of(rt: &HostRuntime, file: &str) -> io::Result<String> {
 
 impl<'a> Site<'a> {
     /// A path, and what stood there.
-    pub fn new(rt: &'a HostRuntime, path: &'a str, place: Place) -> Site<'a> {
+    pub fn new(rt: &'a HostRuntime, path: &'a str, place: Place) -> Site<'a>
+        ensures file { result.lacks_file ≡ not place.is_there }
+        ensures log { result.lacks_log ≡ not (is_some place.log) }
+    {
         Site {
             rt,
             path,
@@ -89,7 +97,11 @@ impl<'a> Site<'a> {
         log: &mut D,
         before: &Before,
         names: &io::Result<Names>,
-    ) -> bool {
+    ) -> bool
+        // One that was there, or held something, isn't removed.
+        ensures back { IsTrue result → (self.now.lacks_log && (length before.now.log.items == 0)) ≡ false → D.Disk.seen log.new ≡ before.now.log.items }
+        ensures durable { IsTrue result → (self.now.lacks_log && (length before.now.log.items == 0)) ≡ false → Only before.now.log.items (D.Disk.may_leave log.new) }
+    {
         let is_back = before.put_back_log(log).is_ok();
         let is_gone = self.lacks_log && before.had_no_log() && self.removes_log(names);
         is_back || is_gone
@@ -101,7 +113,10 @@ impl<'a> Site<'a> {
         file: &mut D,
         before: &Before,
         names: &io::Result<Names>,
-    ) -> bool {
+    ) -> bool
+        ensures back { IsTrue result → self.now.lacks_file ≡ false → IfSome before.now.db (λ bytes. D.Disk.seen file.new ≡ bytes.items) }
+        ensures durable { IsTrue result → self.now.lacks_file ≡ false → IfSome before.now.db (λ bytes. Only bytes.items (D.Disk.may_leave file.new)) }
+    {
         let is_back = before.put_back_file(file).is_ok();
         let is_gone = self.lacks_file && before.had_no_file() && self.removes_file(names);
         is_back || is_gone
