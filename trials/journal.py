@@ -51,7 +51,8 @@ class Server:
         words = [PROGRAM, "serve", self.file, str(self.port), "--lines", self.where, "--journal", journal]
         self.said = folder / "said"
         with self.said.open("wb") as said:
-            self.process = subprocess.Popen([*map(str, front), *map(str, words)], stdout=subprocess.DEVNULL, stderr=said)
+            how: dict[str, Any] = {"stdout": subprocess.DEVNULL, "stderr": said, "start_new_session": True}
+            self.process = subprocess.Popen([*map(str, front), *map(str, words)], **how)
         end = time.monotonic() + LIMIT
         while "lines at" not in self.said.read_text():
             check(self.process.poll() is None and time.monotonic() < end, f"no server: {self.said.read_text()}")
@@ -90,8 +91,9 @@ class Server:
         check(self.ended() == 0, f"the server has the status {self.process.returncode}: {self.said.read_text()}")
 
     def stop(self) -> None:
-        """Ends it in any case."""
-        self.process.kill()
+        """Ends it in any case, and the words before it."""
+        with contextlib.suppress(ProcessLookupError):
+            os.killpg(self.process.pid, signal.SIGKILL)
         self.process.wait()
 
 
