@@ -407,4 +407,3 @@ class Followed(Both):
         while self.ran("verify", copy).out != "sound\n":
             check(time.monotonic() < end, "the copy stays open")
         self.are_equal(copy)
-

@@ -185,8 +185,9 @@ class Wrong(StandbyTest):
 
     def test_what_comes_in_is_no_copy(self) -> None:
         files = ({"other.vault": 1}, {"records.vault": 1, "x": 1}, {"records.vault-wal": 1})
-        heads = [{"journal": "20240115T090000Z", "lines": 0, "files": it} for it in files]
-        for head in (*heads, {**heads[0], "journal": "../up", "files": {"records.vault": 1}}, [], {}):
+        heads: list[dict[str, object]] = [{"journal": "20240115T090000Z", "lines": 0, "files": it} for it in files]
+        up: dict[str, object] = {"journal": "../up", "lines": 0, "files": {"records.vault": 1}}
+        for head in (*heads, up, [], {}):
             given = (json.dumps(head) + "\nx").encode()
             words = ["vaultdesk", "standby", "take", "records"]
             done = subprocess.run(words, input=given, capture_output=True, check=False)

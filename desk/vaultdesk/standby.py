@@ -140,7 +140,7 @@ class Following:
         self.to.flush()
 
     def send_lines(self, journal: BinaryIO) -> None:
-        """Sends what is appended, up to the connection's end, or where another journal began and all of this was sent."""
+        """Sends what is appended until the connection ends, or another journal began and all of this was sent."""
         while not self.wrong and self.there.poll() is None:
             is_last = _newest(self.made.parent) != self.made
             if part := journal.read(PIECE):

@@ -340,12 +340,12 @@ const FIRST_TENURES: &str = "INSERT INTO tenures SELECT id, 0, 'records', 160000
 
 const LATER_TENURES: &str = "INSERT INTO tenures SELECT id, 1, 'records', 1700000000 FROM entries";
 
-/// Whether so many steps are enough to sum the grown bucket, whose versions its department has from a day.
+/// Whether `steps` are enough to sum the grown bucket, whose versions its department has from a day.
 fn sums_within<S: Alter>(conn: &mut Connection<S>, names: &Names, steps: u64, day: u64) -> bool {
     limit(conn, Some(steps));
     let read = read_bucket_held(conn, &names.bucket);
     limit(conn, None);
-    read.is_ok_and(|held| held.0 == MANY && held.1 == MANY * day)
+    read.is_ok_and(|held| held.0 == MANY && MANY.checked_mul(day) == Some(held.1))
 }
 
 #[test]
