@@ -1,5 +1,5 @@
 -- The tables in their order, and those that are right by themselves.
-use Rattle.std.proofs.Common.{◌≡◌, ◌≢◌, ◌↔◌, ℕ, zero, suc, ◌+◌, ◌<◌, ◌≤◌, List, [], ◌∷◌, get_or, map, take, Bool, Option, None, Some, IfSome, Result, Ok, Err, IfOk, OnOk, IsTrue, true, false, true≢false, refl, sym, ap, subst, ◌∙◌, inl, inr, arith, MatchOption}
+use Rattle.std.proofs.Common.{◌≡◌, ◌≢◌, ◌↔◌, ℕ, zero, suc, ◌+◌, ◌<◌, ◌≤◌, List, [], ◌∷◌, get_or, map, take, Bool, Option, None, Some, IfSome, Result, Ok, Err, IfOk, OnOk, IsTrue, true, false, true≢false, refl, sym, ap, subst, ◌∙◌, inl, inr, arith}
 use Rattle.std.proofs.lemmas.Bool.{cases_order}
 use Rattle.std.proofs.lemmas.List.Sorted.{IsPermutation-sym, IsPermutation-trans}
 use Rattle.sqlite.specs.Effect.{Database}
@@ -25,6 +25,7 @@ use Rattle.vault_audit_records.specs.Entries.{IsEntryBy}
 use Rattle.vault_audit_records.specs.Meta.{IsMetaOf}
 use Rattle.vault_audit_walk.specs.Records.{AreRecords}
 use Rattle.vault_audit.specs.InOrder.{AreRowsRight, IsRight, IsReportedInOrder, ReportedInOrder}
+use Rattle.vault_audit.specs.Looks.{Differs}
 
 -- ---- places
 
@@ -78,28 +79,25 @@ from_next (Some d) t place here from other = elim (cases_order (place_of d) plac
 ]
 
 module _ (n : Edition) (s : Schema) where
-  abbrev pub Differs : Option Table → Type 0
-  Differs difference = MatchOption difference (s ≡ schema_of n) (IsReportedIn n s)
-
-  pub begin_at : (difference : Option Table) (t : Table) (place : ℕ) → place_of t ≡ place → Differs difference → IsFrom (place + 1) difference → BeginTo n s.tables t
+  pub begin_at : (difference : Option Table) (t : Table) (place : ℕ) → place_of t ≡ place → Differs n s difference → IsFrom (place + 1) difference → BeginTo n s.tables t
   begin_at None t place here is from = ap (λ (x : Schema). take (place_of t + 1) x.tables) is
   begin_at (Some d) t place here it from = it.begin t (omega (arith, here, from))
 
-  pub no_difference : (difference : Option Table) → Differs difference → IsFrom 11 difference → s ≡ schema_of n
+  pub no_difference : (difference : Option Table) → Differs n s difference → IsFrom 11 difference → s ≡ schema_of n
   no_difference None is from = is
   no_difference (Some d) it from = let below = place_below d in absurd (omega (arith, below, from))
 
-  pub differs_as : (difference : Option Table) → ((difference ≡ None) ↔ (s ≡ schema_of n)) → IfSome difference (IsReportedIn n s) → Differs difference
+  pub differs_as : (difference : Option Table) → ((difference ≡ None) ↔ (s ≡ schema_of n)) → IfSome difference (IsReportedIn n s) → Differs n s difference
   differs_as None found stated = found.0 refl
   differs_as (Some d) found stated = stated
 
   -- it isn't at meta
-  pub begin_meta : (difference : Option Table) → Differs difference → difference ≢ Some Meta → BeginTo n s.tables Meta
+  pub begin_meta : (difference : Option Table) → Differs n s difference → difference ≢ Some Meta → BeginTo n s.tables Meta
   begin_meta difference it other = begin_at difference Meta 0 refl it (from_behind difference other)
 
   -- it is at this table
-  pub at_table : (difference : Option Table) (t : Table) → difference ≡ Some t → Differs difference → IsReportedIn n s t
-  at_table difference t e it = subst Differs e it
+  pub at_table : (difference : Option Table) (t : Table) → difference ≡ Some t → Differs n s difference → IsReportedIn n s t
+  at_table difference t e it = subst (Differs n s) e it
 
 -- ---- tables that are right
 

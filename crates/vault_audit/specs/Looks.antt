@@ -1,7 +1,8 @@
 -- What looks at several tables say.
-use Rattle.std.specs.Prelude.{◌≡◌, ℕ, ◌+◌, true, List, length, map, Option, None, Some}
+use Rattle.std.specs.Prelude.{◌≡◌, ℕ, ◌+◌, true, List, length, map, Option, None, Some, MatchOption}
 use Rattle.std.specs.List.{AllByRecursion}
 use Rattle.sqlite.specs.Effect.{Database}
+use Rattle.sqlite.specs.Schema.{Schema}
 use Rattle.vault_base.specs.declared.refusal.Table.{Table}
 use Rattle.vault_core_model.specs.declared.records.Bucket.{Bucket}
 use Rattle.vault_core_model.specs.declared.records.Caller.{Caller}
@@ -16,11 +17,16 @@ use Rattle.vault_audit_model.specs.declared.rows.MetaRow.{MetaRow}
 use Rattle.vault_audit_model.specs.Relations.{AreCallers, AreBuckets, AreContents, AreEntries, AreNotes, AreSettings, AreSums, AreTenuresOf, AreTenuresWith, IsPast}
 use Rattle.vault_audit_model.specs.Rows.{entry_row, entry_columns}
 use Rattle.vault_audit_model.specs.Spells.{AreSoundAs, entries_in}
-use Rattle.vault_audit_model.specs.Tables.{entries_tree}
+use Rattle.vault_audit_model.specs.Tables.{entries_tree, schema_of}
+use Rattle.vault_audit_schema.specs.Places.{IsReportedIn}
 use Rattle.vault_audit_walk.specs.Records.{AreRecords}
 use Rattle.vault_audit_records.specs.Entries.{IsEntryBy}
 use Rattle.vault_audit_records.specs.Meta.{IsMetaOf}
 use Rattle.vault_audit_records.specs.ByName.{AreDepartmentsByName}
+
+-- where the schema differs from the edition's, if it does
+abbrev pub Differs : Edition → Schema → Option Table → Type 0
+Differs n s difference = MatchOption difference (s ≡ schema_of n) (IsReportedIn n s)
 
 -- no table is damaged, and this is found; or one is, and the tables are sound for no vault
 abbrev pub Reported : Edition → Database → Type 0 → Option Table → Type 0

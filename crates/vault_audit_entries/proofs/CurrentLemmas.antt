@@ -22,13 +22,12 @@ use Rattle.vault_core_laws.proofs.NameOrder.{then_first, then_second}
 use Rattle.vault_core_laws.proofs.Tests.{none_is}
 use Rattle.vault_audit_model.specs.declared.rows.HeadRow.{HeadRow}
 use Rattle.vault_audit_model.specs.Limits.{IsHeadRow, IsHistory}
-use Rattle.vault_audit_model.specs.Relations.{AreEntries}
 use Rattle.vault_audit_model.specs.Rows.{head_row}
 use Rattle.vault_audit_model.specs.Spells.{AreSoundAs, head_in, heads_in, entries_in}
 use Rattle.vault_audit_model.proofs.ListLemmas.{all_both}
 use Rattle.vault_audit_entries.proofs.ContentMergeLemmas.{itself, same_if}
 use Rattle.vault_audit_entries.proofs.ContentSoundLemmas.{sound_entries}
-use Rattle.vault_audit_entries.specs.Heads.{head_cmp, IsHeldFor, NamesHeld, AreHeadsByKey, DecidesHeadsByKey}
+use Rattle.vault_audit_entries.specs.Heads.{head_cmp, IsHeldFor, NamesHeld, AreHeadsByKey, DecidesHeadRows}
 use Rattle.vault_audit_entries.proofs.SortLemmas.{in_order, same_in_order, all_in_order, AreApart, ascending_in_order}
 use Rattle.vault_audit_model.specs.declared.schema.Edition.{Edition}
 
@@ -153,5 +152,5 @@ sound_heads n db v it =
       all_in_order head_cmp (NamesHeld (entries_in v.histories)) hs (heads_name v ids),
     )
 
-pub unsound : (n : Edition) → (db : Database) → ((es : List Entry) → AreEntries db es → DecidesHeadsByKey db es None) → (v : Vault) → ¬ AreSoundAs n db v
+pub unsound : (n : Edition) → (db : Database) → DecidesHeadRows db None → (v : Vault) → ¬ AreSoundAs n db v
 unsound n db stated v it = stated (entries_in v.histories) (sound_entries n db v it) (in_order head_cmp (heads_in v)) ((sound_heads n) db v it)

@@ -28,7 +28,7 @@ use Rattle.vault_audit_entries.specs.HeadCounts.{is_under, IsCounted, DecidesCou
 use Rattle.vault_audit_entries.proofs.HeadCountLemmas.{mapped_many, few_entries, no_more}
 use Rattle.vault_audit_entries.proofs.HeadSumLemmas.{alike_among, none_removed, held_parts, parts_held, under_parts, parts_under, under_all, tie_of, is_covered, counted_once, all_covered, whole_counts, same_sum}
 use Rattle.vault_core_laws.proofs.Tests.{none_is}
-use Rattle.vault_audit_entries.specs.Keys.{entries_of}
+use Rattle.vault_audit_entries.specs.Keys.{DecidesHeadsOf, entries_of}
 use Rattle.vault_audit_entries.proofs.MemberLemmas.{In, at_in, all_of, none_in, no_length, one_in, filter_in, in_filter, any_in, in_any, map_in, in_map, one_of, same_rising}
 use Rattle.vault_audit_model.specs.declared.schema.Edition.{Edition}
 
@@ -321,5 +321,5 @@ module _ (db : Database) (v : Vault) (are : AreEntries db (entries_of v)) where
     decided = decided_as (held == total) refl
 
 -- heads that are none of any vault are those of no sound vault
-pub unsound : (n : Edition) → (db : Database) → ((v : Vault) → AreEntries db (entries_of v) → DecidesHeads db v false) → (v : Vault) → ¬ AreSoundAs n db v
+pub unsound : (n : Edition) → (db : Database) → DecidesHeadsOf db false → (v : Vault) → ¬ AreSoundAs n db v
 unsound n db stated v it = stated v (sound_entries n db v it) it.heads

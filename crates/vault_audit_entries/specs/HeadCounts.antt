@@ -1,11 +1,15 @@
 -- Heads and the held entries of their keys.
-use Rattle.std.specs.Prelude.{◌≡◌, ℕ, ◌&&◌, Bool, true, false, List, length, filter, is_none}
+use Rattle.std.specs.Prelude.{◌≡◌, ℕ, ◌&&◌, Bool, true, false, List, length, map, filter, is_none, IsPermutation}
 use Rattle.std.specs.List.{AllByRecursion}
 use Rattle.std.specs.Ordering.{nat_cmp, is_le}
 use Rattle.sqlite_value.specs.Order.{Row, column}
+use Rattle.sqlite.specs.Effect.{Database}
 use Rattle.vault_core_model.specs.declared.records.Entry.{Entry}
 use Rattle.vault_core_model.specs.Places.{is_held_at}
 use Rattle.vault_audit_model.specs.declared.rows.HeadRow.{HeadRow}
+use Rattle.vault_audit_model.specs.Relations.{AreEntries}
+use Rattle.vault_audit_model.specs.Rows.{head_row, head_columns}
+use Rattle.vault_audit_model.specs.Tables.{heads_tree}
 use Rattle.vault_audit_model.specs.Values.{number}
 
 -- a held entry of the head's bucket and key, no newer than the one that the head names
@@ -20,6 +24,11 @@ IsCounted es h = h.head.count ≡ length (filter (is_under h) es)
 abbrev pub DecidesCounts : List Entry → List HeadRow → Bool → Type 0
 DecidesCounts es hs true = AllByRecursion (IsCounted es) hs
 DecidesCounts es hs false = ¬ AllByRecursion (IsCounted es) hs
+
+-- the same, of whichever entries and heads the rows are
+abbrev pub DecidesCountRows : Database → Bool → Type 0
+DecidesCountRows db found =
+    (es : List Entry) (hs : List HeadRow) → AreEntries db es → IsPermutation (map head_row hs) (map head_columns (db.trees heads_tree)) → DecidesCounts es hs found
 
 -- the row shows one number twice
 abbrev pub ShowsCount : Row → Type 0

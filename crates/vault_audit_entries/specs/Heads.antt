@@ -11,6 +11,7 @@ use Rattle.vault_core_model.specs.declared.records.Entry.{Entry}
 use Rattle.vault_core_model.specs.Order.{IsAscending, name_cmp}
 use Rattle.vault_audit_model.specs.declared.rows.HeadRow.{HeadRow}
 use Rattle.vault_audit_model.specs.Limits.{IsHeadRow}
+use Rattle.vault_audit_model.specs.Relations.{AreEntries}
 use Rattle.vault_audit_model.specs.Rows.{head_row, head_columns}
 use Rattle.vault_audit_model.specs.Tables.{heads_tree}
 use Rattle.vault_audit_model.specs.Values.{number}
@@ -57,3 +58,7 @@ up_to_most n = min n (2 ^ 64 - 1)
 abbrev pub DecidesHeadsByKey : Database → List Entry → Option ℕ → Type 0
 DecidesHeadsByKey db es (Some total) = (hs : List HeadRow) × AreHeadsByKey db es hs × (total ≡ up_to_most (sum_of_counts hs))
 DecidesHeadsByKey db es None = (hs : List HeadRow) → ¬ AreHeadsByKey db es hs
+
+-- the same, of whichever entries the rows are
+abbrev pub DecidesHeadRows : Database → Option ℕ → Type 0
+DecidesHeadRows db total = (es : List Entry) → AreEntries db es → DecidesHeadsByKey db es total

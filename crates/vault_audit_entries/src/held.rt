@@ -1,15 +1,11 @@
 //! The counts of the held entries, and of the versions among them.
-ghost use Rattle.std.specs.Prelude.{◌≡◌, ◌+◌, List, IfOk, IfErr};
+ghost use Rattle.std.specs.Prelude.{◌≡◌, ◌+◌, IfOk, IfErr};
 ghost use Rattle.sqlite_value.specs.Order.{column};
 ghost use Rattle.sqlite_sql.specs.Ops.{is_null};
 ghost use Rattle.sqlite.specs.State.{HasCleanDisk};
 ghost use Rattle.sqlite.specs.Held.{state};
-ghost use Rattle.vault_core_model.specs.declared.records.Entry.{Entry};
-ghost use Rattle.vault_audit_model.specs.Relations.{AreEntries};
 ghost use Rattle.vault_audit_model.specs.Rows.{bit};
-ghost use Rattle.vault_audit_entries.specs.Contents.{held_count};
-ghost use Rattle.vault_audit_entries.specs.HeadCounts.{held_entry_count};
-ghost use Rattle.vault_audit_entries.specs.HeldPasses.{is_zero, is_held_row, is_version_row};
+ghost use Rattle.vault_audit_entries.specs.HeldPasses.{CountsRows, is_zero, is_held_row, is_version_row};
 ghost use Rattle.vault_audit_walk.specs.Health.{IsHealthy, IsMemory, IsOfEdition, OnlyLooks};
 
 use sqlite::types::ValueRef;
@@ -94,7 +90,7 @@ impl Pass for HeldCount {
 /// How many of `entries` are held, and how many of these are versions.
 pub fn count_held<S: Alter>(conn: &mut Connection<S>, edition: Edition) -> Result<HeldCount, Error>
     requires { IsOfEdition S.Store conn.old edition }
-    ensures reported { HasCleanDisk (state S.Store conn.new) → IfOk result (λ count. (es : List Entry) → AreEntries (state S.Store conn.new).now es → (count.entries ≡ held_entry_count es) × (count.versions ≡ held_count es)) }
+    ensures reported { HasCleanDisk (state S.Store conn.new) → IfOk result (CountsRows (state S.Store conn.new).now) }
     ensures look { OnlyLooks S.Store conn.old conn.new result }
     ensures err { IsHealthy (state S.Store conn.new) → IfErr result IsMemory }
 {

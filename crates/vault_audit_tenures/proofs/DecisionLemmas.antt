@@ -22,6 +22,7 @@ use Rattle.vault_audit_walk.specs.Walk.{Walked}
 use Rattle.vault_audit_walk.proofs.PairLemmas.{pair_cmp, pair_cmp_total}
 use Rattle.vault_audit_walk.proofs.PassLemmas.{pass_yes, pass_no}
 use Rattle.vault_audit_walk.specs.Beside.{ReportsAbsence}
+use Rattle.vault_audit_tenures.specs.Decided.{DecidesTenuresBy}
 use Rattle.vault_audit_tenures.specs.declared.owned_tenures.OwnedTenure.{OwnedTenure}
 use Rattle.vault_audit_tenures.specs.declared.chain.TenurePass.{TenurePass}
 use Rattle.vault_audit_tenures.specs.OwnedTenures.{owned_row}
@@ -109,17 +110,13 @@ module _ (old new : State) (has : old.now.schema ≡ schema_of Third) where
   presence_if_ok (Ok b) same h = presence old new has same b h
   presence_if_ok (Err e) same h = tt
 
-abbrev pub IsStated : ℕ → ℕ → Database → Bool → Type 0
-IsStated moves last db found =
-    (v : Vault) → v.last ≡ last → v.moves ≡ moves → AreBuckets Third db v.buckets → AreEntries db (entries_in v.histories) → DecidesTenures Third db v found
-
 with_numbers : (moves last : ℕ) (db : Database) (b : Bool) (v : Vault) → v.last ≡ last → v.moves ≡ moves → DecidesChains moves last db b → DecidesChains v.moves v.last db b
 with_numbers moves last db b v at_last many stated = subst (λ m. DecidesChains m v.last db b) (sym many) (subst (λ t. DecidesChains moves t db b) (sym at_last) stated)
 
-pub none_stated : (moves last : ℕ) (db : Database) → DecidesPresence db false → IsStated moves last db false
+pub none_stated : (moves last : ℕ) (db : Database) → DecidesPresence db false → DecidesTenuresBy moves last db false
 none_stated moves last db none v at_last many buckets entries = not_present db v buckets entries none
 
-pub last_stated : (moves last : ℕ) (a s : State) → DecidesPresence a.now true → (answer : Result Bool Error) → OnOk answer (IsUnchanged a s) → IfOk answer (DecidesChains moves last s.now) → IfOk answer (IsStated moves last s.now)
+pub last_stated : (moves last : ℕ) (a s : State) → DecidesPresence a.now true → (answer : Result Bool Error) → OnOk answer (IsUnchanged a s) → IfOk answer (DecidesChains moves last s.now) → IfOk answer (DecidesTenuresBy moves last s.now)
 last_stated moves last a s present (Err e) same stated = tt
 last_stated moves last a s present (Ok true) same stated =
     λ v at_last many buckets entries. all_hold s.now v buckets entries (subst (λ (d : Database). DecidesPresence d true) (sym same.0.now_is) present) (with_numbers moves last s.now true v at_last many stated)

@@ -20,9 +20,8 @@ use Rattle.vault_audit_model.specs.Spells.{AreSoundAs, entries_in, sums_over}
 use Rattle.vault_audit_model.specs.Tables.{departments_tree}
 use Rattle.vault_audit_entries.proofs.ContentSoundLemmas.{sound_entries}
 use Rattle.vault_audit_records.proofs.TenureLemmas.{sound_tenures}
-use Rattle.vault_audit_walk.specs.Records.{AreRecords}
 use Rattle.vault_audit_tenures.specs.declared.sums.totals.Totals.{Totals}
-use Rattle.vault_audit_tenures.specs.DepartmentSums.{HasTotal}
+use Rattle.vault_audit_tenures.specs.DepartmentSums.{HasTotal, HaveTotals}
 use Rattle.vault_audit_tenures.specs.Totals.{total_of, IsTotal, AreTotals}
 use Rattle.vault_audit_tenures.proofs.TotalLemmas.{sums_are}
 
@@ -79,7 +78,7 @@ module _ (hs : List History) where
     all_total (n ∷ ns) named low = (has_total n named.0 low.0, all_total ns named.1 low.1)
 
     -- what the rows hold beside the totals is said of the table
-    pub table_stated : (n : Edition) (db : Database) (hold : Bool) → AreRecords department_row (HasTotal t) (map (department_columns_as n) (db.trees departments_tree)) hold → DecidesSums n db hs hold
+    pub table_stated : (n : Edition) (db : Database) (hold : Bool) → HaveTotals t n db hold → DecidesSums n db hs hold
     table_stated n db true (ds, are, all) =
         let each = each_has ds all in
         (names ds, (subst (λ rows. IsPermutation rows (map (department_columns_as n) (db.trees departments_tree))) (rows_same ds each) are, named ds all, within ds each))

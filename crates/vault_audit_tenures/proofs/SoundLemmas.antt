@@ -5,19 +5,19 @@ use Rattle.sqlite.specs.Effect.{Database}
 use Rattle.sqlite.specs.declared.error.Error.{Error}
 use Rattle.sqlite.proofs.Callers.{one_permutation}
 use Rattle.vault_core_model.specs.declared.records.History.{History}
-use Rattle.vault_core_model.specs.Sound.{AreInOrder, IsInTime, IsPlaced}
+use Rattle.vault_core_model.specs.Sound.{AreInOrder, IsInTime}
 use Rattle.vault_core_model.specs.Vault.{Vault}
 use Rattle.vault_audit_model.specs.declared.rows.MetaRow.{MetaRow}
 use Rattle.vault_audit_model.specs.declared.schema.Edition.{Edition}
 use Rattle.vault_audit_model.specs.declared.schema.Edition.TheVariants.{First, Second, Third}
-use Rattle.vault_audit_model.specs.Relations.{AreBuckets, AreEntries, AreTenuresWith, IsPast, DecidesTenures}
+use Rattle.vault_audit_model.specs.Relations.{AreTenuresWith, IsPast}
 use Rattle.vault_audit_model.specs.Rows.{meta_row}
 use Rattle.vault_audit_model.specs.Spells.{AreSoundAs, entries_in, meta_stated}
 use Rattle.vault_audit_model.proofs.SameRows.{same_meta}
 use Rattle.vault_audit_records.specs.Meta.{IsMetaOf}
 use Rattle.vault_audit_records.proofs.TenureLemmas.{sound_tenures}
 use Rattle.vault_audit_entries.proofs.ContentSoundLemmas.{sound_entries}
-use Rattle.vault_audit_tenures.proofs.DecisionLemmas.{IsStated}
+use Rattle.vault_audit_tenures.specs.Decided.{DamagedUnless, DecidesTenuresBy, DecidesTenuresOf}
 use Rattle.vault_audit_tenures.proofs.UnmovedLemmas.{no_moves_of_first, no_moves_of_second, stated_of_first, stated_of_second}
 
 no_later : (low last : ℕ) (hs : List History) → AreInOrder low last hs → low ≤ last
@@ -28,28 +28,23 @@ are_past : (low last : ℕ) (hs : List History) → AreInOrder low last hs → A
 are_past low last [] order in_time = tt
 are_past low last (h ∷ hs) order in_time = ((no_later h.entry.admitted last hs order.1, in_time.0), are_past h.entry.admitted last hs order.1 in_time.1)
 
-abbrev pub IsStatedOf : Edition → Database → MetaRow → Bool → Type 0
-IsStatedOf n db m found =
-    IsMetaOf n db (Some m) → (v : Vault) → v.last ≡ m.last → v.moves ≡ m.moves → AreBuckets n db v.buckets → AreEntries db (entries_in v.histories)
-    → AllByRecursion (IsPast v.last) (entries_in v.histories) → AllByRecursion (IsPlaced v) v.histories → DecidesTenures n db v found
-
-stated_in_first : (db : Database) (m : MetaRow) → IsStatedOf First db m true
+stated_in_first : (db : Database) (m : MetaRow) → DecidesTenuresOf First db m true
 stated_in_first db m meta v at_last many buckets entries past placed = stated_of_first v db (many ∙ no_moves_of_first db m meta) buckets.3 entries.1 past placed
 
-stated_in_second : (db : Database) (m : MetaRow) → IsStatedOf Second db m true
+stated_in_second : (db : Database) (m : MetaRow) → DecidesTenuresOf Second db m true
 stated_in_second db m meta v at_last many buckets entries past placed = stated_of_second v db (many ∙ no_moves_of_second db m meta) buckets.3 entries.1 past placed
 
-stated_in_third : (db : Database) (m : MetaRow) (answer : Result Bool Error) → IfOk answer (IsStated m.moves m.last db) → IfOk answer (IsStatedOf Third db m)
+stated_in_third : (db : Database) (m : MetaRow) (answer : Result Bool Error) → IfOk answer (DecidesTenuresBy m.moves m.last db) → IfOk answer (DecidesTenuresOf Third db m)
 stated_in_third db m (Err e) stated = tt
 stated_in_third db m (Ok b) stated = λ meta v at_last many buckets entries past placed. stated v at_last many buckets entries
 
 module _ (n : Edition) (db : Database) (m : MetaRow) where
-  pub if_older : (n ≡ First) ⊎ (n ≡ Second) → IsStatedOf n db m true
-  if_older (inl is) = subst (λ e. IsStatedOf e db m true) (sym is) (stated_in_first db m)
-  if_older (inr is) = subst (λ e. IsStatedOf e db m true) (sym is) (stated_in_second db m)
+  pub if_older : (n ≡ First) ⊎ (n ≡ Second) → DecidesTenuresOf n db m true
+  if_older (inl is) = subst (λ e. DecidesTenuresOf e db m true) (sym is) (stated_in_first db m)
+  if_older (inr is) = subst (λ e. DecidesTenuresOf e db m true) (sym is) (stated_in_second db m)
 
-  pub if_third : n ≡ Third → (answer : Result Bool Error) → IfOk answer (IsStated m.moves m.last db) → IfOk answer (IsStatedOf n db m)
-  if_third is answer stated = subst (λ e. IfOk answer (IsStatedOf e db m)) (sym is) (stated_in_third db m answer stated)
+  pub if_third : n ≡ Third → (answer : Result Bool Error) → IfOk answer (DecidesTenuresBy m.moves m.last db) → IfOk answer (DecidesTenuresOf n db m)
+  if_third is answer stated = subst (λ e. IfOk answer (DecidesTenuresOf e db m)) (sym is) (stated_in_third db m answer stated)
 
   -- the row of meta is that of the vault
   same_numbers : IsMetaOf n db (Some m) → (v : Vault) → AreSoundAs n db v → meta_stated n v ≡ m
@@ -61,13 +56,13 @@ module _ (n : Edition) (db : Database) (m : MetaRow) where
   its_tenures : (v : Vault) → AreSoundAs n db v → AreTenuresWith n db v v.histories
   its_tenures v it = (refl, sound_tenures n db v it)
 
-  unsound : IsStatedOf n db m false → IsMetaOf n db (Some m) → (v : Vault) → ¬ AreSoundAs n db v
+  unsound : DecidesTenuresOf n db m false → IsMetaOf n db (Some m) → (v : Vault) → ¬ AreSoundAs n db v
   unsound none is v it =
       let kept = it.spells.kept in
       let same = same_numbers is v it in
       none is v (ap (λ (x : MetaRow). x.last) same) (ap (λ (x : MetaRow). x.moves) same) (it.spells.buckets, it.spells.rules, kept.sound.ordered.buckets, kept.limits.buckets) (sound_entries n db v it)
       (are_past 0 v.last v.histories kept.sound.order kept.sound.in_time) kept.sound.placed v.histories (its_tenures v it)
 
-  pub damaged_if_ok : (answer : Result Bool Error) → IfOk answer (IsStatedOf n db m) → IfOk answer (λ found. found ≡ false → IsMetaOf n db (Some m) → (v : Vault) → ¬ AreSoundAs n db v)
+  pub damaged_if_ok : (answer : Result Bool Error) → IfOk answer (DecidesTenuresOf n db m) → IfOk answer (DamagedUnless n db m)
   damaged_if_ok (Err e) stated = tt
-  damaged_if_ok (Ok b) stated = λ no. unsound (subst (IsStatedOf n db m) no stated)
+  damaged_if_ok (Ok b) stated = λ no. unsound (subst (DecidesTenuresOf n db m) no stated)

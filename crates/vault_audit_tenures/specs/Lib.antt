@@ -1,3 +1,4 @@
+pub mod Decided
 pub mod Chain
 pub mod Presence
 pub mod OwnedTenures

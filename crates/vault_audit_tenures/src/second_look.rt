@@ -1,14 +1,9 @@
 //! The second look at `tenures`.
-ghost use Rattle.std.specs.Prelude.{◌≡◌, false, Some, IsTrue, IfOk, IfErr};
-ghost use Rattle.std.specs.List.{AllByRecursion};
+ghost use Rattle.std.specs.Prelude.{IsTrue, IfOk, IfErr};
 ghost use Rattle.sqlite.specs.State.{HasCleanDisk};
 ghost use Rattle.sqlite.specs.Held.{state};
-ghost use Rattle.vault_core_model.specs.Sound.{IsPlaced};
-ghost use Rattle.vault_core_model.specs.Vault.{Vault};
-ghost use Rattle.vault_audit_model.specs.Spells.{AreSoundAs, entries_in};
 ghost use Rattle.vault_audit_model.specs.declared.schema.Edition.TheVariants.{Third};
-ghost use Rattle.vault_audit_model.specs.Relations.{AreBuckets, AreEntries, IsPast, DecidesTenures};
-ghost use Rattle.vault_audit_records.specs.Meta.{IsMetaOf};
+ghost use Rattle.vault_audit_tenures.specs.Decided.{DamagedUnless, DecidesTenuresBy, DecidesTenuresOf};
 ghost use Rattle.vault_audit_walk.specs.Health.{IsHealthy, IsMemory, IsOfEdition, OnlyLooks};
 
 use crate::chain::are_chains;
@@ -27,8 +22,7 @@ fn check_rows_of_tenures<S: Alter>(
     last: Moment,
 ) -> Result<bool, Error>
     requires { IsOfEdition S.Store conn.old Third }
-    ensures reported { HasCleanDisk (state S.Store conn.new) → IfOk result (λ found. (v : Vault) → v.last ≡ last → v.moves ≡ moves →
-        AreBuckets Third (state S.Store conn.new).now v.buckets → AreEntries (state S.Store conn.new).now (entries_in v.histories) → DecidesTenures Third (state S.Store conn.new).now v found) }
+    ensures reported { HasCleanDisk (state S.Store conn.new) → IfOk result (DecidesTenuresBy moves last (state S.Store conn.new).now) }
     ensures look { OnlyLooks S.Store conn.old conn.new result }
     ensures err { IsHealthy (state S.Store conn.new) → IfErr result IsMemory }
 {
@@ -48,11 +42,8 @@ pub fn check_tenures<S: Alter>(
 ) -> Result<bool, Error>
     requires schema { IsOfEdition S.Store conn.old edition }
     requires open { HasCleanDisk (state S.Store conn.old) → IsTrue (state S.Store conn.old).is_open }
-    ensures reported { HasCleanDisk (state S.Store conn.new) → IfOk result (λ found. IsMetaOf edition (state S.Store conn.new).now (Some meta) →
-        (v : Vault) → v.last ≡ meta.last → v.moves ≡ meta.moves →
-        AreBuckets edition (state S.Store conn.new).now v.buckets → AreEntries (state S.Store conn.new).now (entries_in v.histories) →
-        AllByRecursion (IsPast v.last) (entries_in v.histories) → AllByRecursion (IsPlaced v) v.histories → DecidesTenures edition (state S.Store conn.new).now v found) }
-    ensures damaged { HasCleanDisk (state S.Store conn.new) → IfOk result (λ found. found ≡ false → IsMetaOf edition (state S.Store conn.new).now (Some meta) → (v : Vault) → ¬ AreSoundAs edition (state S.Store conn.new).now v) }
+    ensures reported { HasCleanDisk (state S.Store conn.new) → IfOk result (DecidesTenuresOf edition (state S.Store conn.new).now meta) }
+    ensures damaged { HasCleanDisk (state S.Store conn.new) → IfOk result (DamagedUnless edition (state S.Store conn.new).now meta) }
     ensures look { OnlyLooks S.Store conn.old conn.new result }
     ensures err { IsHealthy (state S.Store conn.new) → IfErr result IsMemory }
 {

@@ -66,30 +66,38 @@ pub(crate) fn find_lock_to_admit<K: Keeper>(
     Ok(lock)
 }
 
+/// What a new version gets beside what its put says: its id, when and by whom it is admitted, its bucket's department,
+/// and its lock.
+#[derive(Clone, Copy)]
+pub(crate) struct NewVersion<'a> {
+    pub(crate) id: VersionId,
+    pub(crate) at: Moment,
+    pub(crate) who: &'a CallerName,
+    pub(crate) dept: &'a DeptName,
+    pub(crate) lock: Lock,
+}
+
 /// The version that a put admits, with its first setting and its bucket's department.
 pub(crate) fn new_version(
     alloc: Global,
-    id: VersionId,
-    at: Moment,
-    who: &CallerName,
-    dept: &DeptName,
+    version: &NewVersion<'_>,
     command: &Put,
-    lock: Lock,
 ) -> Result<History, AllocError>
-    ensures { IfOk result (λ history. history ≡ outcome.new_version id at who.now dept.now command.now lock) }
+    ensures { IfOk result (λ history. history ≡ outcome.new_version version.now.id version.now.at version.now.who.now version.now.dept.now command.now version.now.lock) }
 {
-    let settings = first_settings(alloc, at, who, lock)?;
-    let tenures = first_tenures(alloc, at, dept)?;
+    let at = version.at;
+    let settings = first_settings(alloc, at, version.who, version.lock)?;
+    let tenures = first_tenures(alloc, at, version.dept)?;
     let content = command.content.clone()?;
     let entry = Entry {
-        id,
+        id: version.id,
         bucket: command.bucket.clone()?,
         key: command.key.clone()?,
         marker: false,
         size: command.content.len() as u64,
         digest: Some(command.content.digest()),
         admitted: at,
-        by: Author::Caller(who.clone()?),
+        by: Author::Caller(version.who.clone()?),
         removal: None,
     };
     Ok(History {

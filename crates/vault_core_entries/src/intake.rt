@@ -8,7 +8,7 @@ ghost use Rattle.vault_core_model.specs.IntakeOutcome as outcome;
 ghost use Rattle.vault_core_model.specs.Vault.{config_of, note_of};
 ghost use Rattle.vault_core_entries.specs.Entries.{Fits, intake_as_noted};
 
-use crate::admission::{find_access_to_put, find_lock_to_admit, new_version};
+use crate::admission::{NewVersion, find_access_to_put, find_lock_to_admit, new_version};
 use std::alloc::{AllocError, Global};
 use vault_base::content::{Content, Digest};
 use vault_base::moment::Moment;
@@ -83,8 +83,14 @@ fn take_in<K: Keeper>(
 {
     let lock = find_lock_to_take_in(keeper, at, command, access)?;
     let id = find_id(keeper)?;
-    let dept = &access.bucket.dept;
-    let admission = new_admission(alloc, id, at, who, dept, command, lock)?;
+    let version = NewVersion {
+        id,
+        at,
+        who,
+        dept: &access.bucket.dept,
+        lock,
+    };
+    let admission = new_admission(alloc, &version, command)?;
     make_change(keeper, at, Change::Admit(admission))?;
     Ok(Answer::TakenIn(TakenIn { id, again: false }))
 }
@@ -92,19 +98,15 @@ fn take_in<K: Keeper>(
 /// The version of an accepted line, and its note.
 fn new_admission(
     alloc: Global,
-    id: VersionId,
-    at: Moment,
-    who: &CallerName,
-    dept: &DeptName,
+    version: &NewVersion<'_>,
     command: &Intake,
-    lock: Lock,
 ) -> Result<Admission, AllocError>
-    ensures history { IfOk result (λ admission. admission.history ≡ new_version id at who.now dept.now command.now.put lock) }
-    ensures note { IfOk result (λ admission. admission.note ≡ Some (outcome.new_note id command.now)) }
+    ensures history { IfOk result (λ admission. admission.history ≡ new_version version.now.id version.now.at version.now.who.now version.now.dept.now command.now.put version.now.lock) }
+    ensures note { IfOk result (λ admission. admission.note ≡ Some (outcome.new_note version.now.id command.now)) }
 {
-    let history = new_version(alloc, id, at, who, dept, &command.put, lock)?;
+    let history = new_version(alloc, version, &command.put)?;
     let digest = digest_of(&history.entry, &command.put.content);
-    match new_note(id, command, digest) {
+    match new_note(version.id, command, digest) {
         Ok(note) => Ok(Admission {
             history,
             note: Some(note),

@@ -6,7 +6,7 @@ ghost use Rattle.vault_core_model.specs.Halts.{ChecksAs, AnswersAs, is_device};
 ghost use Rattle.vault_core_model.specs.EntryOutcomes as outcome;
 ghost use Rattle.vault_core_model.specs.Vault.{config_of};
 
-use crate::admission::{find_access_to_put, find_lock_to_admit, new_version};
+use crate::admission::{NewVersion, find_access_to_put, find_lock_to_admit, new_version};
 use std::alloc::Global;
 use vault_base::moment::Moment;
 use vault_base::name::{CallerName, VersionId};
@@ -58,9 +58,14 @@ fn find_version_to_admit<K: Keeper>(
     ensures leaves { LeavesSame K.Kept keeper.old keeper.new (is_device result) }
 {
     let lock = find_lock_to_admit(keeper, at, command, access)?;
-    let id = find_id(keeper)?;
-    let dept = &access.bucket.dept;
-    Ok(new_version(alloc, id, at, who, dept, command, lock)?)
+    let version = NewVersion {
+        id: find_id(keeper)?,
+        at,
+        who,
+        dept: &access.bucket.dept,
+        lock,
+    };
+    Ok(new_version(alloc, &version, command)?)
 }
 
 /// The id of a version, read before the version is handed on.

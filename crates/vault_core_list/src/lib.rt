@@ -10,6 +10,7 @@ mod find;
 mod ids;
 mod keys;
 pub mod list_keeper;
+mod lists;
 mod place;
 mod removed;
 mod sums;

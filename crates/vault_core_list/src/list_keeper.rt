@@ -1,9 +1,9 @@
 //! The keeper that keeps one list of histories.
 ghost use Rattle.std.specs.Prelude.{◌≡◌, IfOk};
-ghost use Rattle.vault_core_model.specs.Change.{new_bucket};
 ghost use Rattle.vault_core_model.specs.Vault as vaults;
 
-use crate::{bucket, change, find, ids, keys, place, removed, sums};
+use crate::lists::{self, Lists};
+use crate::{bucket, find, ids, keys, removed, sums};
 use std::alloc::{AllocError, Global};
 use std::marker::Model;
 use vault_base::content::Content;
@@ -17,8 +17,7 @@ use vault_core_model::halt::Fault;
 use vault_core_model::keeper::{Keeper, Sink};
 use vault_core_model::kept::Kept;
 use vault_core_model::records::{
-    Bucket, BucketConfig, Caller, Entry, Head, History, LastSetting, Note, Settings, Tenure,
-    Tenures,
+    BucketConfig, Caller, Entry, Head, LastSetting, Note, Settings, Tenures,
 };
 use vault_core_model::rights::Rights;
 use vault_rules::plan::Held;
@@ -32,24 +31,19 @@ use vault_tally::row::Row;
 #[derive(Drop)]
 pub struct ListKeeper {
     alloc: Global,
-    last: Moment,
-    departments: Vec<DeptName>,
-    callers: Vec<Caller>,
-    buckets: Vec<Bucket>,
-    notes: Vec<Note>,
-    histories: Vec<History>,
-    moves: u32,
+    lists: Lists,
 }
 
 impl Model for ListKeeper {
     ghost use Rattle.vault_core_model.specs.Vault.{Vault};
     ghost use Rattle.vault_core_model.specs.Sound.{Sound};
+    ghost use Rattle.vault_core_list.specs.Lists.{vault_of};
 
     ghost Value = { Vault };
 
-    ghost view = { λ k. record { last = k.last; departments = k.departments.items; callers = k.callers.items; buckets = k.buckets.items; notes = k.notes.items; histories = k.histories.items; moves = k.moves } };
+    ghost view = { λ k. vault_of k.lists };
 
-    ghost invariant = { λ k. Sound (record { last = k.last; departments = k.departments.items; callers = k.callers.items; buckets = k.buckets.items; notes = k.notes.items; histories = k.histories.items; moves = k.moves }) };
+    ghost invariant = { λ k. Sound (vault_of k.lists) };
 }
 
 /// The caller of a new vault, who may administer it.
@@ -76,13 +70,15 @@ impl ListKeeper {
         callers.push(registrar(alloc)?)?;
         Ok(ListKeeper {
             alloc,
-            last: Moment::from_secs(0).unwrap(),
-            departments: Vec::new(alloc),
-            callers,
-            buckets: Vec::new(alloc),
-            notes: Vec::new(alloc),
-            histories: Vec::new(alloc),
-            moves: 0,
+            lists: Lists {
+                last: Moment::from_secs(0).unwrap(),
+                departments: Vec::new(alloc),
+                callers,
+                buckets: Vec::new(alloc),
+                notes: Vec::new(alloc),
+                histories: Vec::new(alloc),
+                moves: 0,
+            },
         })
     }
 }
@@ -116,63 +112,63 @@ impl Keeper for ListKeeper {
         ensures value { result ≡ Ok self.old.last }
         ensures same { self.new ≡ self.old }
     {
-        Ok(self.last)
+        Ok(self.lists.last)
     }
 
     fn next_id(&mut self) -> Result<u64, Fault>
         ensures value { result ≡ Ok (next_id self.old) }
         ensures same { self.new ≡ self.old }
     {
-        Ok(self.histories.len() as u64 + 1)
+        Ok(self.lists.histories.len() as u64 + 1)
     }
 
     fn caller(&mut self, name: &CallerName) -> Result<Option<Caller>, Fault> {
-        Ok(find::caller(&self.callers, name)?)
+        Ok(find::caller(&self.lists.callers, name)?)
     }
 
     fn dept(&mut self, name: &DeptName) -> Result<bool, Fault>
         ensures value { result ≡ Ok (has_department self.old name.now) }
         ensures same { self.new ≡ self.old }
     {
-        Ok(find::has_department(&self.departments, name))
+        Ok(find::has_department(&self.lists.departments, name))
     }
 
     fn bucket(&mut self, name: &BucketName) -> Result<Option<BucketConfig>, Fault> {
-        Ok(find::config(&self.buckets, name)?)
+        Ok(find::config(&self.lists.buckets, name)?)
     }
 
     fn rules(&mut self, bucket: &BucketName) -> Result<Option<RuleSet>, Fault> {
-        Ok(find::rules(&self.buckets, bucket)?)
+        Ok(find::rules(&self.lists.buckets, bucket)?)
     }
 
     fn head(&mut self, bucket: &BucketName, key: &ObjectKey) -> Result<Option<Head>, Fault>
         ensures value { result ≡ Ok (head_of self.old bucket.now key.now) }
         ensures same { self.new ≡ self.old }
     {
-        Ok(find::head(&self.histories, bucket, key))
+        Ok(find::head(&self.lists.histories, bucket, key))
     }
 
     fn entries(&mut self, bucket: &BucketName, key: &ObjectKey) -> Result<Vec<Held>, Fault> {
-        Ok(find::entries(self.alloc, &self.histories, bucket, key)?)
+        Ok(find::entries(self.alloc, &self.lists.histories, bucket, key)?)
     }
 
     fn entry(&mut self, id: VersionId) -> Result<Option<Entry>, Fault> {
-        Ok(find::entry(&self.histories, id)?)
+        Ok(find::entry(&self.lists.histories, id)?)
     }
 
     fn setting(&mut self, id: VersionId) -> Result<Option<LastSetting>, Fault>
         ensures value { result ≡ Ok (setting_of self.old id) }
         ensures same { self.new ≡ self.old }
     {
-        Ok(find::setting(&self.histories, id))
+        Ok(find::setting(&self.lists.histories, id))
     }
 
     fn settings(&mut self, id: VersionId) -> Result<Settings, Fault> {
-        Ok(find::settings(self.alloc, &self.histories, id)?)
+        Ok(find::settings(self.alloc, &self.lists.histories, id)?)
     }
 
     fn content(&mut self, id: VersionId) -> Result<Option<Content>, Fault> {
-        Ok(find::content(&self.histories, id)?)
+        Ok(find::content(&self.lists.histories, id)?)
     }
 
     fn keys(
@@ -181,7 +177,7 @@ impl Keeper for ListKeeper {
         after: &KeyPrefix,
         most: u32,
     ) -> Result<Vec<ObjectKey>, Fault> {
-        Ok(keys::behind(self.alloc, &self.histories, bucket, after, most)?)
+        Ok(keys::behind(self.alloc, &self.lists.histories, bucket, after, most)?)
     }
 
     fn ids(
@@ -191,11 +187,11 @@ impl Keeper for ListKeeper {
         than: Option<VersionId>,
         most: u32,
     ) -> Result<Vec<VersionId>, Fault> {
-        Ok(ids::older(self.alloc, &self.histories, bucket, key, than, most)?)
+        Ok(ids::older(self.alloc, &self.lists.histories, bucket, key, than, most)?)
     }
 
     fn buckets(&mut self, after: &str, most: u32) -> Result<Vec<BucketName>, Fault> {
-        Ok(find::bucket_names(self.alloc, &self.buckets, after, most)?)
+        Ok(find::bucket_names(self.alloc, &self.lists.buckets, after, most)?)
     }
 
     fn note(
@@ -204,25 +200,25 @@ impl Keeper for ListKeeper {
         batch: &BatchName,
         line: u32,
     ) -> Result<Option<Note>, Fault> {
-        Ok(find::note(&self.notes, bucket, batch, line)?)
+        Ok(find::note(&self.lists.notes, bucket, batch, line)?)
     }
 
     fn walk_removed<S: Sink>(&mut self, sink: &mut S) -> Result<bool, Fault>
         ensures value { IsOkAnd result (λ all. Hands S.takes sink.old (removed_entries self.old) (Ok all) sink.new) }
         ensures same { self.new ≡ self.old }
     {
-        Ok(removed::walk(&self.histories, sink))
+        Ok(removed::walk(&self.lists.histories, sink))
     }
 
     fn moves(&mut self) -> Result<u32, Fault>
         ensures value { result ≡ Ok self.old.moves }
         ensures same { self.new ≡ self.old }
     {
-        Ok(self.moves)
+        Ok(self.lists.moves)
     }
 
     fn tenures(&mut self, id: VersionId) -> Result<Tenures, Fault> {
-        Ok(find::tenures(self.alloc, &self.histories, id)?)
+        Ok(find::tenures(self.alloc, &self.lists.histories, id)?)
     }
 
     fn bucket_held(&mut self, bucket: &BucketName) -> Result<(u64, u64), Fault>
@@ -230,8 +226,8 @@ impl Keeper for ListKeeper {
         ensures same { self.new ≡ self.old }
     {
         // Only the proof reads this: no day is past that of the last moment, so the weight fits.
-        let _seconds = self.last.secs();
-        Ok(bucket::held(&self.histories, bucket))
+        let _seconds = self.lists.last.secs();
+        Ok(bucket::held(&self.lists.histories, bucket))
     }
 
     fn totals(&mut self, dept: &DeptName) -> Result<Row, Fault>
@@ -240,96 +236,13 @@ impl Keeper for ListKeeper {
     {
         // Only the proof reads this: it gives that the last moment is within the range of moments. No day is
         // past that of the last moment, and no department is past its quota: so the sums fit.
-        let _seconds = self.last.secs();
-        Ok(sums::row(&self.histories, dept))
+        let _seconds = self.lists.last.secs();
+        Ok(sums::row(&self.lists.histories, dept))
     }
 
     fn apply(&mut self, at: Moment, change: &Change) -> Result<(), Fault> {
-        match change {
-            Change::AddDept(dept) => {
-                place::place(&mut self.departments, dept.clone()?)?;
-                self.last = at;
-                Ok(())
-            }
-            Change::AddCaller(caller) => {
-                place::place(&mut self.callers, caller.clone()?)?;
-                self.last = at;
-                Ok(())
-            }
-            Change::CloseCaller(name) => {
-                self.callers = change::closed(self.alloc, &self.callers, name)?;
-                self.last = at;
-                Ok(())
-            }
-            Change::AddBucket(bucket, dept) => {
-                place::place(&mut self.buckets, new_bucket(bucket, dept)?)?;
-                self.last = at;
-                Ok(())
-            }
-            Change::MoveBucket(bucket, dept) => {
-                let number = self.moves + 1;
-                let tenure = new_tenure(dept, at, number)?;
-                change::move_bucket(
-                    self.alloc,
-                    &mut self.buckets,
-                    &mut self.histories,
-                    bucket,
-                    tenure,
-                )?;
-                self.moves = number;
-                self.last = at;
-                Ok(())
-            }
-            Change::SetDefault(bucket, default) => {
-                self.buckets = change::with_default(self.alloc, &self.buckets, bucket, *default)?;
-                self.last = at;
-                Ok(())
-            }
-            Change::SetRules(bucket, rules) => {
-                self.buckets = change::with_rules(self.alloc, &self.buckets, bucket, rules)?;
-                self.last = at;
-                Ok(())
-            }
-            Change::Admit(admission) => {
-                change::admit(&mut self.histories, &mut self.notes, admission)?;
-                self.last = at;
-                Ok(())
-            }
-            Change::AddSetting(id, setting) => {
-                change::add_setting(&mut self.histories, *id, setting)?;
-                self.last = at;
-                Ok(())
-            }
-            Change::Remove(id, removal) => {
-                change::remove(&mut self.histories, *id, removal.clone()?);
-                self.last = at;
-                Ok(())
-            }
-        }
+        lists::make(self.alloc, &mut self.lists, at, change)?;
+        self.lists.last = at;
+        Ok(())
     }
-}
-
-/// A bucket of that department, without default retention and rules.
-fn new_bucket(name: &BucketName, dept: &DeptName) -> Result<Bucket, AllocError>
-    ensures { IfOk result (λ bucket. bucket ≡ new_bucket name.now dept.now) }
-{
-    Ok(Bucket {
-        name: name.clone()?,
-        config: BucketConfig {
-            dept: dept.clone()?,
-            default: None,
-        },
-        rules: None,
-    })
-}
-
-/// The tenure that the move of that number begins.
-fn new_tenure(dept: &DeptName, from: Moment, number: u32) -> Result<Tenure, AllocError>
-    ensures { IfOk result (λ tenure. tenure ≡ record { dept = dept.now; from = from; number = number }) }
-{
-    Ok(Tenure {
-        dept: dept.clone()?,
-        from,
-        number,
-    })
 }

@@ -7,7 +7,7 @@
 //! 1,moved,2024-03-01T00:00:00Z,,docs,a,version,5,(64 hex digits),,,,,,court,1
 //! 1,removed,2024-04-01T00:00:00Z,gov,docs,a,version,5,(64 hex digits),,,,,bypass,,
 //! ```
-ghost use Rattle.std.specs.Prelude.{◌≡◌, ◌≢◌, IfOk, OnErr, Err, false};
+ghost use Rattle.std.specs.Prelude.{◌≡◌, ◌≢◌, IfOk, OnOk, OnErr, Err, false};
 ghost use Rattle.std.specs.Io.KnownBytes.{Appends, Keeps};
 ghost use Rattle.vault_core_evidence.specs.Events.{events_asked};
 ghost use Rattle.vault_files_events.specs.Counts.{counts};
@@ -43,7 +43,8 @@ fn write_events<K: Keeper, W: Write>(
     writer: &mut W,
     before: Option<Moment>,
 ) -> Result<Counted, ExportFault>
-    ensures ok { K.is_honest keeper.new → IfOk result (λ n. Appends (W.contents writer.old) (W.contents writer.new) (events_text (events_asked before (K.vault keeper.old))) × (n ≡ counts (events_asked before (K.vault keeper.old)))) }
+    ensures ok { K.is_honest keeper.new → OnOk result (Appends (W.contents writer.old) (W.contents writer.new) (events_text (events_asked before (K.vault keeper.old)))) }
+    ensures tally { K.is_honest keeper.new → IfOk result (λ n. n ≡ counts (events_asked before (K.vault keeper.old))) }
     ensures err { K.is_honest keeper.new → OnErr result (Begins (W.contents writer.old) (W.contents writer.new) (events_text (events_asked before (K.vault keeper.old)))) }
     ensures leaves { LeavesSame K.Kept keeper.old keeper.new (is_device_met result) }
 {
@@ -65,7 +66,8 @@ pub fn export_events<K: Keeper, W: Write>(
     writer: &mut W,
     before: Option<Moment>,
 ) -> Result<Counted, ExportFault>
-    ensures ok { K.is_honest keeper.new → IfOk result (λ n. Appends (W.contents writer.old) (W.contents writer.new) (events_text (events_asked before (K.vault keeper.old))) × (n ≡ counts (events_asked before (K.vault keeper.old)))) }
+    ensures ok { K.is_honest keeper.new → OnOk result (Appends (W.contents writer.old) (W.contents writer.new) (events_text (events_asked before (K.vault keeper.old)))) }
+    ensures tally { K.is_honest keeper.new → IfOk result (λ n. n ≡ counts (events_asked before (K.vault keeper.old))) }
     ensures err { K.is_honest keeper.new → OnErr result (Begins (W.contents writer.old) (W.contents writer.new) (events_text (events_asked before (K.vault keeper.old)))) }
     ensures leaves { LeavesSame K.Kept keeper.old keeper.new (is_device_met result) }
 {

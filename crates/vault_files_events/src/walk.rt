@@ -3,10 +3,9 @@ ghost use Rattle.std.specs.Prelude.{◌≡◌, ◌+◌, IfOk, OnErr, Err, false,
 ghost use Rattle.vault_core_evidence.specs.Events.{events_asked};
 ghost use Rattle.vault_core_model.specs.Leaves.{LeavesSame};
 ghost use Rattle.vault_core_model.specs.Vault.{history_of};
-ghost use Rattle.vault_files_events.specs.Counts.{counts};
 ghost use Rattle.vault_files_events.specs.EventsText.{asked_found, event_rows, events_text};
 ghost use Rattle.vault_files_events.specs.Past.{asked_past};
-ghost use Rattle.vault_files_events.specs.Taking.{TookSome};
+ghost use Rattle.vault_files_events.specs.Taking.{TookCounted, TookSome};
 ghost use Rattle.vault_files_texts.specs.Faults.{is_device_met};
 
 use crate::counted::Counted;
@@ -31,7 +30,7 @@ fn take_past<T: Taker>(
     before: &Option<Moment>,
     past: Past,
 ) -> Result<Counted, ExportFault>
-    ensures ok { IfOk result (λ n. T.took taker.old (event_rows (asked_past before.now past)) taker.new × (n ≡ counts (asked_past before.now past))) }
+    ensures ok { IfOk result (TookCounted T.took taker.old taker.new event_rows (asked_past before.now past)) }
     ensures err { OnErr result (TookSome T.took taker.old (event_rows (asked_past before.now past)) taker.new) }
     ensures kind { is_device_met result ≡ false }
 {
@@ -59,7 +58,7 @@ fn take_entry<K: Keeper, T: Taker>(
     before: &Option<Moment>,
     id: VersionId,
 ) -> Result<Counted, ExportFault>
-    ensures ok { K.is_honest keeper.new → IfOk result (λ n. T.took taker.old (event_rows (asked_found before.now (history_of (K.vault keeper.old) id))) taker.new × (n ≡ counts (asked_found before.now (history_of (K.vault keeper.old) id)))) }
+    ensures ok { K.is_honest keeper.new → IfOk result (TookCounted T.took taker.old taker.new event_rows (asked_found before.now (history_of (K.vault keeper.old) id))) }
     ensures err { K.is_honest keeper.new → OnErr result (TookSome T.took taker.old (event_rows (asked_found before.now (history_of (K.vault keeper.old) id))) taker.new) }
     ensures leaves { LeavesSame K.Kept keeper.old keeper.new (is_device_met result) }
 {
@@ -78,7 +77,7 @@ fn take_each<K: Keeper, T: Taker>(
     entries: u32,
 ) -> Result<Counted, ExportFault>
     requires entries { K.is_honest keeper.old → entries ≡ length (K.vault keeper.old).histories }
-    ensures ok { K.is_honest keeper.new → IfOk result (λ n. T.took taker.old (event_rows (events_asked before.now (K.vault keeper.old))) taker.new × (n ≡ counts (events_asked before.now (K.vault keeper.old)))) }
+    ensures ok { K.is_honest keeper.new → IfOk result (TookCounted T.took taker.old taker.new event_rows (events_asked before.now (K.vault keeper.old))) }
     ensures err { K.is_honest keeper.new → OnErr result (TookSome T.took taker.old (event_rows (events_asked before.now (K.vault keeper.old))) taker.new) }
     ensures leaves { LeavesSame K.Kept keeper.old keeper.new (is_device_met result) }
 {
@@ -103,7 +102,7 @@ pub(crate) fn take_events<K: Keeper, T: Taker>(
     taker: &mut T,
     before: &Option<Moment>,
 ) -> Result<Counted, ExportFault>
-    ensures ok { K.is_honest keeper.new → IfOk result (λ n. T.took taker.old (events_text (events_asked before.now (K.vault keeper.old))) taker.new × (n ≡ counts (events_asked before.now (K.vault keeper.old)))) }
+    ensures ok { K.is_honest keeper.new → IfOk result (TookCounted T.took taker.old taker.new events_text (events_asked before.now (K.vault keeper.old))) }
     ensures err { K.is_honest keeper.new → OnErr result (TookSome T.took taker.old (events_text (events_asked before.now (K.vault keeper.old))) taker.new) }
     ensures leaves { LeavesSame K.Kept keeper.old keeper.new (is_device_met result) }
 {

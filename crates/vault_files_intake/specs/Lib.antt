@@ -1,3 +1,4 @@
+pub mod Batches
 pub mod TakenIn
 pub mod Lines
 pub mod List

@@ -4,9 +4,10 @@ ghost use Rattle.std.specs.List.{list_any};
 ghost use Rattle.csv.specs.Records.{fields_of};
 ghost use Rattle.vault_core_model.specs.Leaves.{RoseOrIsFull};
 ghost use Rattle.vault_core_model.specs.Step.{Reached};
+ghost use Rattle.vault_files_intake.specs.Batches.{TakesLine, TakesLines, TakesRecords};
 ghost use Rattle.vault_files_intake.specs.TakenIn as spec;
-ghost use Rattle.vault_files_intake.specs.List.{below_header};
 
+use crate::batch::{Batch, Line};
 use crate::folder::Folder;
 use crate::list::{MOST_LIST, is_header, records};
 use crate::report::{IntakeReport, RowReply};
@@ -34,17 +35,13 @@ fn refusal_of(fault: Fault) -> Refusal
 fn take_next<K: Keeper, F: Folder>(
     alloc: Global,
     keeper: &mut K,
-    at: Moment,
-    who: &CallerName,
-    bucket: &BucketName,
-    batch: &BatchName,
-    line: u32,
-    cells: &ByteRecord,
+    batch: &Batch<'_>,
+    line: &Line<'_>,
     folder: &mut F,
     rows: &mut Vec<RowReply>,
 ) -> Result<(), Refusal>
-    ensures ok { K.is_honest keeper.new → OnOk result (spec.TakesOne (F.files folder.old) at who.now bucket.now batch.now line (fields_of cells.now) (K.vault keeper.old) rows.old.items rows.new.items (K.vault keeper.new)) }
-    ensures err { K.is_honest keeper.new → IfErr result (λ r. spec.StopsBefore (fields_of cells.now) r × (rows.new.items ≡ rows.old.items) × (K.vault keeper.new ≡ K.vault keeper.old)) }
+    ensures ok { K.is_honest keeper.new → OnOk result (TakesLine (F.files folder.old) batch.now line.now (K.vault keeper.old) rows.old.items rows.new.items (K.vault keeper.new)) }
+    ensures err { K.is_honest keeper.new → IfErr result (λ r. spec.StopsBefore (fields_of line.now.cells.now) r × (rows.new.items ≡ rows.old.items) × (K.vault keeper.new ≡ K.vault keeper.old)) }
     ensures reached { K.is_honest keeper.new → Reached (K.vault keeper.old) → Reached (K.vault keeper.new) }
     ensures honest { K.is_honest keeper.new → K.is_honest keeper.old }
     ensures files { F.files folder.new ≡ F.files folder.old }
@@ -53,14 +50,15 @@ fn take_next<K: Keeper, F: Folder>(
     ensures device { result ≡ Err Refusal.Device → RoseOrIsFull (K.count keeper.old) (K.count keeper.new) ⊎ RoseOrIsFull (F.count folder.old) (F.count folder.new) }
     ensures steady { spec.report_names_device rows.new.items (spec.stop_of result) ≡ false → (list_any spec.is_device_row rows.old.items ≡ false) × (K.count keeper.new ≡ K.count keeper.old) }
 {
-    if cells.len() != 5 {
+    if line.cells.len() != 5 {
         return Err(Refusal::MalformedBody);
     }
     if rows.reserve(1).is_err() {
         return Err(Refusal::Memory);
     }
-    match take_row(alloc, keeper, at, who, bucket, batch, line, cells, folder) {
+    match take_row(alloc, keeper, batch, line, folder) {
         Ok(reply) => {
+            let line = line.number;
             rows.push(RowReply { line, reply }).unwrap();
             Ok(())
         }
@@ -72,14 +70,11 @@ fn take_next<K: Keeper, F: Folder>(
 fn take_rows<K: Keeper, F: Folder>(
     alloc: Global,
     keeper: &mut K,
-    at: Moment,
-    who: &CallerName,
-    bucket: &BucketName,
-    batch: &BatchName,
+    batch: &Batch<'_>,
     below: &[ByteRecord],
     folder: &mut F,
 ) -> IntakeReport
-    ensures taken { K.is_honest keeper.new → spec.TakesRows (F.files folder.old) at who.now bucket.now batch.now 0 (map fields_of below.now) (K.vault keeper.old) result.rows.items result.stopped (K.vault keeper.new) }
+    ensures taken { K.is_honest keeper.new → TakesLines (F.files folder.old) batch.now below.now (K.vault keeper.old) result (K.vault keeper.new) }
     ensures reached { K.is_honest keeper.new → Reached (K.vault keeper.old) → Reached (K.vault keeper.new) }
     ensures honest { K.is_honest keeper.new → K.is_honest keeper.old }
     ensures files { F.files folder.new ≡ F.files folder.old }
@@ -97,16 +92,17 @@ fn take_rows<K: Keeper, F: Folder>(
                 stopped: Some(Refusal::EntityTooLarge),
             };
         }
-        let line = above + 1;
-        if let Err(refusal) = take_next(
-            alloc, keeper, at, who, bucket, batch, line, cells, folder, &mut rows,
-        ) {
+        let line = Line {
+            number: above + 1,
+            cells,
+        };
+        if let Err(refusal) = take_next(alloc, keeper, batch, &line, folder, &mut rows) {
             return IntakeReport {
                 rows,
                 stopped: Some(refusal),
             };
         }
-        above = line;
+        above = line.number;
     }
     IntakeReport {
         rows,
@@ -129,14 +125,11 @@ fn stopped_at_once(alloc: Global, refusal: Refusal) -> IntakeReport
 fn take_below<K: Keeper, F: Folder>(
     alloc: Global,
     keeper: &mut K,
-    at: Moment,
-    who: &CallerName,
-    bucket: &BucketName,
-    batch: &BatchName,
+    batch: &Batch<'_>,
     records: &[ByteRecord],
     folder: &mut F,
 ) -> IntakeReport
-    ensures taken { K.is_honest keeper.new → spec.TakesBelow (F.files folder.old) at who.now bucket.now batch.now (below_header (map fields_of records.now)) (K.vault keeper.old) result.rows.items result.stopped (K.vault keeper.new) }
+    ensures taken { K.is_honest keeper.new → TakesRecords (F.files folder.old) batch.now records.now (K.vault keeper.old) result (K.vault keeper.new) }
     ensures reached { K.is_honest keeper.new → Reached (K.vault keeper.old) → Reached (K.vault keeper.new) }
     ensures honest { K.is_honest keeper.new → K.is_honest keeper.old }
     ensures files { F.files folder.new ≡ F.files folder.old }
@@ -151,7 +144,7 @@ fn take_below<K: Keeper, F: Folder>(
     if !is_header(first) {
         return stopped_at_once(alloc, Refusal::MalformedBody);
     }
-    take_rows(alloc, keeper, at, who, bucket, batch, below, folder)
+    take_rows(alloc, keeper, batch, below, folder)
 }
 
 /// Takes in files of a folder by a list, each row as a line of an intake batch of that bucket.
@@ -188,16 +181,15 @@ pub fn take_in<K: Keeper, F: Folder>(
         return stopped_at_once(alloc, Refusal::EntityTooLarge);
     }
     match records(alloc, list) {
-        Ok(records) => take_below(
-            alloc,
-            keeper,
-            at,
-            who,
-            bucket,
-            batch,
-            records.as_slice(),
-            folder,
-        ),
+        Ok(records) => {
+            let batch = Batch {
+                at,
+                who,
+                bucket,
+                name: batch,
+            };
+            take_below(alloc, keeper, &batch, records.as_slice(), folder)
+        }
         Err(_) => stopped_at_once(alloc, Refusal::Memory),
     }
 }

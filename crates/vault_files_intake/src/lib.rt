@@ -1,6 +1,7 @@
 //! A list and the files of a folder taken in, each as a version, and the lines that are printed of it.
 #![tactic(auto)]
 
+mod batch;
 pub mod file_name;
 pub mod folder;
 pub mod intake;

@@ -7,9 +7,11 @@ ghost use Rattle.vault_core_model.specs.declared.command.Command.TheVariants.{In
 ghost use Rattle.vault_core_model.specs.declared.halt.Fault.TheVariants as faults;
 ghost use Rattle.vault_core_model.specs.declared.halt.Halt.TheVariants as halts;
 ghost use Rattle.vault_core_model.specs.Step.{IsStep, Reached};
+ghost use Rattle.vault_files_intake.specs.Batches.{AnswersLine};
 ghost use Rattle.vault_files_intake.specs.TakenIn as spec;
 ghost use Rattle.vault_files_intake.specs.Row.{row_of};
 
+use crate::batch::{Batch, Line};
 use crate::folder::Folder;
 use crate::row::{Row, read_row};
 use csv::ByteRecord;
@@ -142,15 +144,11 @@ fn carried_out<K: Keeper>(
 pub(crate) fn take_row<K: Keeper, F: Folder>(
     alloc: Global,
     keeper: &mut K,
-    at: Moment,
-    who: &CallerName,
-    bucket: &BucketName,
-    batch: &BatchName,
-    line: u32,
-    cells: &ByteRecord,
+    batch: &Batch<'_>,
+    line: &Line<'_>,
     folder: &mut F,
 ) -> Result<Reply, Fault>
-    ensures ok { K.is_honest keeper.new → IfOk result (λ reply. spec.AnswersRow (F.files folder.old) at who.now bucket.now batch.now line (fields_of cells.now) (K.vault keeper.old) reply (K.vault keeper.new)) }
+    ensures ok { K.is_honest keeper.new → IfOk result (λ reply. AnswersLine (F.files folder.old) batch.now line.now (K.vault keeper.old) reply (K.vault keeper.new)) }
     ensures err { K.is_honest keeper.new → OnErr result (K.vault keeper.new ≡ K.vault keeper.old) }
     ensures reached { K.is_honest keeper.new → Reached (K.vault keeper.old) → Reached (K.vault keeper.new) }
     ensures honest { K.is_honest keeper.new → K.is_honest keeper.old }
@@ -160,8 +158,15 @@ pub(crate) fn take_row<K: Keeper, F: Folder>(
     ensures device { result ≡ Err Fault.Device → RoseOrIsFull (K.count keeper.old) (K.count keeper.new) ⊎ RoseOrIsFull (F.count folder.old) (F.count folder.new) }
     ensures steady { spec.reports_device result ≡ false → K.count keeper.new ≡ K.count keeper.old }
 {
-    match command(alloc, bucket, batch, line, cells, folder) {
-        Ok(intake) => carried_out(alloc, keeper, at, who, intake),
+    match command(
+        alloc,
+        batch.bucket,
+        batch.name,
+        line.number,
+        line.cells,
+        folder,
+    ) {
+        Ok(intake) => carried_out(alloc, keeper, batch.at, batch.who, intake),
         Err(Halt::Refused(refusal)) => Ok(Reply::Refused(refusal)),
         Err(Halt::Fault(fault)) => Err(fault),
     }

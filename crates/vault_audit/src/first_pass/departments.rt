@@ -1,16 +1,13 @@
 //! The first look at `departments`: its rows hold records, with values in their limits.
-ghost use Rattle.std.specs.Prelude.{◌≡◌, false, map, IfOk, IfErr};
+ghost use Rattle.std.specs.Prelude.{◌≡◌, false, IfOk, IfErr};
 ghost use Rattle.sqlite.specs.State.{HasCleanDisk};
 ghost use Rattle.sqlite.specs.Held.{state};
 ghost use Rattle.vault_base.specs.declared.refusal.Table.TheVariants as table;
 ghost use Rattle.vault_core_model.specs.Vault.{Vault};
-ghost use Rattle.vault_audit_model.specs.Limits.{IsDepartmentRow};
-ghost use Rattle.vault_audit_model.specs.Rows.{department_row, department_columns_as};
 ghost use Rattle.vault_audit_model.specs.Spells.{AreSoundAs};
-ghost use Rattle.vault_audit_model.specs.Tables.{departments_tree};
 ghost use Rattle.vault_audit_schema.specs.Places.{BeginTo};
+ghost use Rattle.vault_audit.specs.InOrder.{AreRowsRight};
 ghost use Rattle.vault_audit_walk.specs.Health.{IsHealthy, IsMemory, OnlyLooks};
-ghost use Rattle.vault_audit_walk.specs.Records.{AreRecords};
 
 use crate::first_pass::record::{Record, check_table};
 use sqlite::{Alter, Connection, Error, Row};
@@ -64,7 +61,7 @@ pub fn check_departments<S: Alter>(
     edition: Edition,
 ) -> Result<bool, Error>
     requires { HasCleanDisk (state S.Store conn.old) → BeginTo edition (state S.Store conn.old).now.schema.tables table.Departments }
-    ensures reported { HasCleanDisk (state S.Store conn.new) → IfOk result (AreRecords department_row IsDepartmentRow (map (department_columns_as edition) ((state S.Store conn.new).now.trees departments_tree))) }
+    ensures reported { HasCleanDisk (state S.Store conn.new) → IfOk result (AreRowsRight edition (state S.Store conn.new).now table.Departments) }
     ensures damaged { HasCleanDisk (state S.Store conn.new) → IfOk result (λ stated. stated ≡ false → (v : Vault) → ¬ AreSoundAs edition (state S.Store conn.new).now v) }
     ensures look { OnlyLooks S.Store conn.old conn.new result }
     ensures err { IsHealthy (state S.Store conn.new) → IfErr result IsMemory }

@@ -1,14 +1,14 @@
 //! All tables, one after the other.
-ghost use Rattle.std.specs.Prelude.{◌≡◌, ◌≢◌, ◌↔◌, false, Some, IsTrue, IfOk, IfErr, MatchOption};
+ghost use Rattle.std.specs.Prelude.{◌≡◌, ◌≢◌, ◌↔◌, false, Some, IsTrue, IfOk, IfErr};
 ghost use Rattle.sqlite.specs.State.{HasCleanDisk};
 ghost use Rattle.sqlite.specs.Held.{state};
 ghost use Rattle.vault_base.specs.declared.refusal.Table.TheVariants as table;
 ghost use Rattle.vault_core_model.specs.Vault.{Vault};
 ghost use Rattle.vault_audit_model.specs.Spells.{AreSoundAs};
-ghost use Rattle.vault_audit_model.specs.Tables.{schema_of};
-ghost use Rattle.vault_audit_schema.specs.Places.{BeginTo, IsReportedIn};
+ghost use Rattle.vault_audit_schema.specs.Places.{BeginTo};
 ghost use Rattle.vault_audit_records.specs.Meta.{IsMetaOf};
 ghost use Rattle.vault_audit.specs.InOrder.{AreRowsRight, ReportedInOrder};
+ghost use Rattle.vault_audit.specs.Looks.{Differs};
 ghost use Rattle.vault_audit_walk.specs.Health.{IsHealthy, IsMemory, OnlyLooks};
 
 use crate::first_pass::buckets::check_buckets;
@@ -89,7 +89,7 @@ pub fn look_at_tables<S: Alter>(
     difference: Option<Table>,
     meta: &MetaRow,
 ) -> Result<Option<Table>, Error>
-    requires difference { HasCleanDisk (state S.Store conn.old) → MatchOption difference ((state S.Store conn.old).now.schema ≡ schema_of edition) (IsReportedIn edition (state S.Store conn.old).now.schema) }
+    requires difference { HasCleanDisk (state S.Store conn.old) → Differs edition (state S.Store conn.old).now.schema difference }
     requires behind { difference ≢ Some table.Meta }
     requires meta { HasCleanDisk (state S.Store conn.old) → IsMetaOf edition (state S.Store conn.old).now (Some meta.now) }
     requires open { HasCleanDisk (state S.Store conn.old) → IsTrue (state S.Store conn.old).is_open }

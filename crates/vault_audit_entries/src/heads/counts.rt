@@ -1,14 +1,9 @@
 //! A part of the second look at `heads`: each counts the held entries of its key, up to the one that it names.
 
-ghost use Rattle.std.specs.Prelude.{List, map, IsPermutation, IfOk, IfErr};
+ghost use Rattle.std.specs.Prelude.{IfOk, IfErr};
 ghost use Rattle.sqlite.specs.State.{HasCleanDisk};
 ghost use Rattle.sqlite.specs.Held.{state};
-ghost use Rattle.vault_core_model.specs.declared.records.Entry.{Entry};
-ghost use Rattle.vault_audit_model.specs.declared.rows.HeadRow.{HeadRow};
-ghost use Rattle.vault_audit_model.specs.Relations.{AreEntries};
-ghost use Rattle.vault_audit_model.specs.Rows.{head_row, head_columns};
-ghost use Rattle.vault_audit_model.specs.Tables.{heads_tree};
-ghost use Rattle.vault_audit_entries.specs.HeadCounts.{DecidesCounts};
+ghost use Rattle.vault_audit_entries.specs.HeadCounts.{DecidesCountRows};
 ghost use Rattle.vault_audit_walk.specs.Health.{IsHealthy, IsMemory, IsOfEdition, OnlyLooks};
 
 use sqlite::{Alter, Connection, Error, Row};
@@ -40,7 +35,7 @@ impl Check for CountCheck {
 /// it names. It is meant for entries whose ids are 1, 2, 3 and so on, and of heads that the rows hold.
 pub fn check_counts<S: Alter>(conn: &mut Connection<S>, edition: Edition) -> Result<bool, Error>
     requires { IsOfEdition S.Store conn.old edition }
-    ensures reported { HasCleanDisk (state S.Store conn.new) → IfOk result (λ found. (es : List Entry) (hs : List HeadRow) → AreEntries (state S.Store conn.new).now es → IsPermutation (map head_row hs) (map head_columns ((state S.Store conn.new).now.trees heads_tree)) → DecidesCounts es hs found) }
+    ensures reported { HasCleanDisk (state S.Store conn.new) → IfOk result (DecidesCountRows (state S.Store conn.new).now) }
     ensures look { OnlyLooks S.Store conn.old conn.new result }
     ensures err { IsHealthy (state S.Store conn.new) → IfErr result IsMemory }
 {

@@ -4,9 +4,8 @@ ghost use Rattle.std.specs.Prelude.{◌≡◌, false, IfOk, IfErr};
 ghost use Rattle.sqlite.specs.State.{HasCleanDisk};
 ghost use Rattle.sqlite.specs.Held.{state};
 ghost use Rattle.vault_core_model.specs.Vault.{Vault};
-ghost use Rattle.vault_audit_model.specs.Relations.{AreEntries, DecidesHeads};
 ghost use Rattle.vault_audit_model.specs.Spells.{AreSoundAs};
-ghost use Rattle.vault_audit_entries.specs.Keys.{entries_of};
+ghost use Rattle.vault_audit_entries.specs.Keys.{DecidesHeadsOf};
 ghost use Rattle.vault_audit_walk.specs.Health.{IsHealthy, IsMemory, IsOfEdition, OnlyLooks};
 
 use crate::heads::by_key::check_heads_by_key;
@@ -19,7 +18,7 @@ use vault_audit_model::schema::Edition;
 /// holds. It is meant for a vault with the entries of the rows, whose ids are 1, 2, 3 and so on.
 pub fn check_heads<S: Alter>(conn: &mut Connection<S>, edition: Edition) -> Result<bool, Error>
     requires { IsOfEdition S.Store conn.old edition }
-    ensures reported { HasCleanDisk (state S.Store conn.new) → IfOk result (λ found. (v : Vault) → AreEntries (state S.Store conn.new).now (entries_of v) → DecidesHeads (state S.Store conn.new).now v found) }
+    ensures reported { HasCleanDisk (state S.Store conn.new) → IfOk result (DecidesHeadsOf (state S.Store conn.new).now) }
     ensures damaged { HasCleanDisk (state S.Store conn.new) → IfOk result (λ found. found ≡ false → (v : Vault) → ¬ AreSoundAs edition (state S.Store conn.new).now v) }
     ensures look { OnlyLooks S.Store conn.old conn.new result }
     ensures err { IsHealthy (state S.Store conn.new) → IfErr result IsMemory }

@@ -1,13 +1,10 @@
 //! The rows of the departments beside the sums that were taken.
-ghost use Rattle.std.specs.Prelude.{◌≡◌, ◌↔◌, map, Some, IsTrue, IfOk, IfErr};
+ghost use Rattle.std.specs.Prelude.{◌≡◌, ◌↔◌, Some, IsTrue, IfOk, IfErr};
 ghost use Rattle.sqlite.specs.State.{HasCleanDisk};
 ghost use Rattle.sqlite.specs.Held.{state};
-ghost use Rattle.vault_audit_model.specs.Rows.{department_row, department_columns_as};
-ghost use Rattle.vault_audit_model.specs.Tables.{departments_tree};
-ghost use Rattle.vault_audit_tenures.specs.DepartmentSums.{HasTotal};
+ghost use Rattle.vault_audit_tenures.specs.DepartmentSums.{HaveTotals};
 ghost use Rattle.vault_audit_tenures.specs.Totals.{total_of};
 ghost use Rattle.vault_audit_walk.specs.Health.{IsHealthy, IsMemory, IsOfEdition, OnlyLooks};
-ghost use Rattle.vault_audit_walk.specs.Records.{AreRecords};
 
 use crate::sums::totals::Totals;
 use sqlite::{Alter, Connection, Error, Row};
@@ -57,7 +54,7 @@ pub fn check_totals<S: Alter>(
     check: &SumsCheck,
 ) -> Result<bool, Error>
     requires { IsOfEdition S.Store conn.old edition }
-    ensures reported { HasCleanDisk (state S.Store conn.new) → IfOk result (AreRecords department_row (HasTotal check.now.totals) (map (department_columns_as edition) ((state S.Store conn.new).now.trees departments_tree))) }
+    ensures reported { HasCleanDisk (state S.Store conn.new) → IfOk result (HaveTotals check.now.totals edition (state S.Store conn.new).now) }
     ensures look { OnlyLooks S.Store conn.old conn.new result }
     ensures err { IsHealthy (state S.Store conn.new) → IfErr result IsMemory }
 {

@@ -5,7 +5,8 @@ use Rattle.sqlite.specs.Held.{state}
 use Rattle.vault_base.specs.declared.refusal.Table.TheVariants.{Meta, Entries}
 use Rattle.vault_audit_records.specs.Meta.{IsMetaOf}
 use Rattle.vault_audit.specs.InOrder.{ReportedInOrder}
-use Rattle.vault_audit.proofs.OrderLemmas.{Differs, at_table, begin_meta, differs_as, is_not, meta_by_form, meta_by_rows, stated_beside_others}
+use Rattle.vault_audit.specs.Looks.{Differs}
+use Rattle.vault_audit.proofs.OrderLemmas.{at_table, begin_meta, differs_as, is_not, meta_by_form, meta_by_rows, stated_beside_others}
 use Rattle.vault_audit.proofs.SoundLemmas.{sound_vault}
 use Rattle.vault_audit.proofs.whole.find_damage.Goals as goal
 

@@ -15,5 +15,5 @@ invariant-loop-cells g l = record {
   counted_there : g.F.Folder.count l.fn.folder ≤ g.F.Folder.count l.folder;
   steady : list_any is_device_row l.rows.items ≡ false → g.K.Kept.count l.keeper ≡ g.K.Kept.count l.fn.keeper;
   above : l.above ≡ l.cells-index;
-  so_far : g.K.Kept.is_honest l.keeper → TakesRows (g.F.Folder.files l.fn.folder) l.fn.at l.fn.who l.fn.bucket l.fn.batch 0 (map fields_of (take l.cells-index l.below)) (g.K.Kept.vault l.fn.keeper) l.rows.items None (g.K.Kept.vault l.keeper);
+  so_far : g.K.Kept.is_honest l.keeper → TakesRows (g.F.Folder.files l.fn.folder) l.fn.batch.at l.fn.batch.who.now l.fn.batch.bucket.now l.fn.batch.name.now 0 (map fields_of (take l.cells-index l.below)) (g.K.Kept.vault l.fn.keeper) l.rows.items None (g.K.Kept.vault l.keeper);
 }

@@ -1,17 +1,14 @@
-use Rattle.std.proofs.Common.{rules, ◌≡◌, None, Result, Ok, Err, Bool, IfOk, OnOk, map, subst, arith}
+use Rattle.std.proofs.Common.{rules, ◌≡◌, None, Result, Ok, Err, Bool, IfOk, OnOk, subst, arith}
 use Rattle.std.specs.List.{AllByRecursion}
 use Rattle.sqlite.specs.State.{State, HasCleanDisk, IsUnchanged}
 use Rattle.sqlite.specs.Held.{state}
 use Rattle.vault_core_model.specs.Vault.{Vault}
 use Rattle.vault_audit_model.specs.declared.schema.Edition.{Edition}
 use Rattle.vault_audit_model.specs.Relations.{AreBuckets, AreEntries, AreTenuresOf, IsPast, DecidesSums}
-use Rattle.vault_audit_model.specs.Rows.{department_row, department_columns_as}
 use Rattle.vault_audit_model.specs.Spells.{AreSoundAs, entries_in}
-use Rattle.vault_audit_model.specs.Tables.{departments_tree}
 use Rattle.vault_audit_records.proofs.DamageLemmas.{refused_if_ok}
-use Rattle.vault_audit_walk.specs.Records.{AreRecords}
 use Rattle.vault_audit_tenures.specs.declared.sums.totals.Totals.{Totals}
-use Rattle.vault_audit_tenures.specs.DepartmentSums.{HasTotal}
+use Rattle.vault_audit_tenures.specs.DepartmentSums.{HaveTotals}
 use Rattle.vault_audit_tenures.specs.Totals.{AreTotals}
 use Rattle.vault_audit_tenures.proofs.DepartmentSumLemmas.{table_stated, no_sums}
 use Rattle.vault_audit_tenures.proofs.sums.second_look.check_sums.Goals as goal
@@ -19,7 +16,7 @@ use Rattle.vault_audit_tenures.proofs.sums.second_look.check_sums.Goals as goal
 -- what is reported beside the totals is said of the table
 of_table : {E : Type 0} (n : Edition) (r : Result Bool E) (a b : State) (t : Totals) → OnOk r (IsUnchanged a b)
     → ((v : Vault) → AreBuckets n a.now v.buckets → AreEntries a.now (entries_in v.histories) → AllByRecursion (IsPast v.last) (entries_in v.histories) → AreTenuresOf n a.now v → AreTotals v.histories t)
-    → IfOk r (AreRecords department_row (HasTotal t) (map (department_columns_as n) (b.now.trees departments_tree)))
+    → IfOk r (HaveTotals t n b.now)
     → IfOk r (λ hold. (v : Vault) → AreBuckets n b.now v.buckets → AreEntries b.now (entries_in v.histories) → AllByRecursion (IsPast v.last) (entries_in v.histories) → AreTenuresOf n b.now v → DecidesSums n b.now v.histories hold)
 of_table n (Ok hold) a b t same totals stated = λ v buckets entries past tenures.
     let before = subst (λ db. AreBuckets n db v.buckets × AreEntries db (entries_in v.histories) × AreTenuresOf n db v) same.0.now_is (buckets, entries, tenures) in
