@@ -6,7 +6,7 @@ the copy by `replay`; then both have the same rows in each table and the same se
   - after mixed commands at both doors, also refused ones and such that change nothing
   - while the server goes on, behind `tail -F`; and where the copy's program is killed, by a copy that is made anew
   - after kills of the server: before writes of the journal, when the vault may have one change more, which is the one that
-    wasn't answered; and at any moment
+    wasn't answered; and at any moment, when it may also have a part of a lifecycle run
   - by the desk, which sends the copy and the lines to another folder in place of another machine
 
 A lifecycle run that a failing device cuts ends the journal and the server, and so does a journal that can't be written; one
@@ -191,13 +191,16 @@ class Both(Case):
         self.assertEqual(self.printed("events", self.file), self.printed("events", copy))
 
     def are_equal_but_for(self, copy: pathlib.Path, line: dict[str, Any]) -> None:
-        """The same, or the vault has one change more, which is that of this line."""
+        """The same, or the vault has the change of this line more; of a lifecycle run a part, which the same run at its
+        reading completes."""
         self.is_sound(self.file)
         if rows(self.file) != rows(copy):
             with contextlib.closing(sqlite3.connect(self.file)) as base:
                 [(last,)] = base.execute("SELECT last FROM meta")
             at = time.strftime("%Y-%m-%dT%H:%M:%SZ", time.gmtime(last))
-            self.printed("replay", copy, given=json.dumps({"at": at, "as": "ann", **line}) + "\n")
+            given = json.dumps({"at": at, "as": "ann", **line}) + "\n"
+            for it in (copy, self.file) if line["do"] == "run" else (copy,):
+                self.printed("replay", it, given=given)
         self.are_equal(copy)
 
     def says(self, server: Server, *wanted: str) -> None:
@@ -259,7 +262,8 @@ class Commands(Both):
         self.are_equal(self.carried_out(server.journal))
 
     def test_the_server_is_killed(self) -> None:
-        """Where the server is killed at any moment, the copy has each change that was answered, and lacks one at most."""
+        """Where the server is killed at any moment, the copy has each change that was answered, and lacks at most those of
+        the command that was under way."""
         for number in range(TIMES):
             with self.subTest(number):
                 server = self.serve()

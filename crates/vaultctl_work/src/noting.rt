@@ -21,8 +21,8 @@ use vaultctl_journal::{Journal, JournalState};
 /// A journal has what is put into the vault: so its owner alone may read and write it.
 const OWNERS_ALONE: u32 = 0o600;
 
-/// The file of a new journal. One that is there is refused: after a crash the vault may have one change of which that one
-/// has no line.
+/// The file of a new journal. One that is there is refused: after a crash the vault may have what the last command changed,
+/// or a part of it, of which that one has no line.
 fn open_new(rt: &HostRuntime, path: &str) -> io::Result<File> {
     OpenOptions::new()
         .append(true)
