@@ -11,9 +11,11 @@ The kills come by `strace`, before calls that change the vault's file or its log
     after an untroubled night, and each copy with the name of one is sound.
 
 An `init` and a `migrate` are killed before each such call in `faults.py` and `migrate.py`, a server under load in `serve.py`.
+And without a kill a hundred clients go on during a night's work: none is refused for it.
 """
 
 import collections
+import concurrent.futures
 import contextlib
 import http.client
 import json
@@ -22,6 +24,7 @@ import pathlib
 import shutil
 import socket
 import subprocess
+import threading
 import time
 import unittest
 from typing import Any, Iterator, NamedTuple
@@ -36,6 +39,8 @@ KEYS = [f"2024/{number:02}" for number in range(12)]
 NEW = range(40)
 # How many puts come before a kill, and after each third of them a removal.
 WORKED = 30
+# How many clients ask a server at once during a night's work.
+CLIENTS = 100
 RULE = {
     "ID": "old", "Status": "Enabled", "Prefix": "2024/", "Expiration": {"Days": 30},
     "NoncurrentVersionExpiration": {"NoncurrentDays": 1},
@@ -303,3 +308,29 @@ class AtNight(Kills):
                 self.is_sound(self.place / "records.vault")
                 for copy in (self.place / "copies").glob("*.vault"):
                     self.is_sound(copy)
+
+    def test_clients(self) -> None:
+        """A hundred clients go on while the desk does a night's work over the door: each request is answered as by day."""
+        server, is_over = self.begin(), threading.Event()
+
+        def client(number: int) -> list[int | None]:
+            found: list[int | None] = []
+            while not found or not is_over.is_set():
+                key = f"night/{number}-{len(found)}"
+                found += [server.request("PUT", key, "by night"), server.request("GET", key)]
+            return found
+
+        with concurrent.futures.ThreadPoolExecutor(CLIENTS) as pool:
+            asked = [pool.submit(client, number) for number in range(CLIENTS)]
+            try:
+                night = self.night()
+            finally:
+                is_over.set()
+            found = collections.Counter(status for it in asked for status in it.result())
+        self.assertEqual((night.status, night.err), (0, ""))
+        self.assertEqual(list(found), [200])
+        self.assertGreaterEqual(found[200], 2 * CLIENTS)
+        done = json.loads(night.out)["rules"]
+        self.assertEqual(done, [{"bucket": "docs", "marked": len(KEYS), "removed": len(KEYS), "lone": 0}])
+        server.close()
+        self.is_sound(self.place / "records.vault")
