@@ -16,7 +16,6 @@ Forty commands and two kills of each kind are tried; by `--long` a thousand comm
 """
 
 import contextlib
-import http.client
 import json
 import os
 import pathlib
@@ -32,7 +31,7 @@ from typing import Any
 
 from trials.calls import KILLED, needs_strace
 from trials.program import DESK, IS_LONG, OPENED_AT, PROGRAM, Case, check, make_office
-from trials.servers import LIMIT, free_port
+from trials.servers import LIMIT, free_port, reply_to, status_of
 
 COMMANDS, TIMES = (1_000, 10) if IS_LONG else (40, 2)
 END = "# The journal ends here: no line makes the next change again."
@@ -59,27 +58,12 @@ class Server:
             time.sleep(0.02)
 
     def ask(self, do: str, who: str = "ann", **members: Any) -> Any:
-        """The reply to a line; none where the server ends before it answers."""
-        line = json.dumps({"as": who, "do": do, **members}).encode() + b"\n"
-        with socket.socket(socket.AF_UNIX) as peer:
-            peer.settimeout(LIMIT)
-            try:
-                peer.connect(str(self.where))
-                peer.sendall(line)
-                peer.shutdown(socket.SHUT_WR)
-                with peer.makefile("rb") as file:
-                    found = file.read()
-            except (ConnectionError, FileNotFoundError):
-                return None
-        return json.loads(found) if found.endswith(b"\n") else None
+        """The reply to a line; None where the server ends before it answers."""
+        return reply_to(self.where, {"as": who, "do": do, **members})
 
     def request(self, method: str, target: str, content: str | None = None) -> int | None:
-        """The status of the answer to a request; none where the server ends before it answers."""
-        peer = http.client.HTTPConnection("127.0.0.1", self.port, timeout=LIMIT)
-        with contextlib.closing(peer), contextlib.suppress(ConnectionError, http.client.HTTPException):
-            peer.request(method, target, content, {"x-vault-caller": "ann"})
-            return peer.getresponse().status
-        return None
+        """The status of the answer to a request; None where the server ends before it answers."""
+        return status_of(self.port, method, target, content)
 
     def ended(self) -> int:
         """The status with which it ends by itself."""

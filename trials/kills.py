@@ -16,13 +16,10 @@ And without a kill a hundred clients go on during a night's work: none is refuse
 
 import collections
 import concurrent.futures
-import contextlib
-import http.client
 import json
 import os
 import pathlib
 import shutil
-import socket
 import subprocess
 import threading
 import time
@@ -31,7 +28,7 @@ from typing import Any, Iterator, NamedTuple
 
 from trials.calls import CHANGING, KILLED, needs_strace
 from trials.program import DESK, IS_LONG, OPENED_AT, PROGRAM, Case, Ran, check, make_office, ran_words
-from trials.servers import LIMIT, free_port
+from trials.servers import LIMIT, free_port, reply_to, status_of
 
 POINTS = int(os.environ.get("TRIALS_KILLS", 50 if IS_LONG else 5))
 CALLS = (*CHANGING, "unlink")
@@ -93,27 +90,12 @@ class Server:
             time.sleep(0.02)
 
     def ask(self, do: str, who: str = "ann", **members: Any) -> Any:
-        """The reply to a line; none where the server is killed before it answers."""
-        line = json.dumps({"as": who, "do": do, **members})
-        with socket.socket(socket.AF_UNIX) as peer:
-            peer.settimeout(LIMIT)
-            try:
-                peer.connect(str(self.where))
-                peer.sendall(line.encode() + b"\n")
-                peer.shutdown(socket.SHUT_WR)
-                with peer.makefile("rb") as file:
-                    found = file.read()
-            except (ConnectionError, FileNotFoundError):
-                return None
-        return json.loads(found) if found.endswith(b"\n") else None
+        """The reply to a line; None where the server is killed before it answers."""
+        return reply_to(self.where, {"as": who, "do": do, **members})
 
     def request(self, method: str, what: str, content: str | None = None) -> int | None:
-        """The status of the answer to a request; none where the server is killed before it answers."""
-        peer = http.client.HTTPConnection("127.0.0.1", self.port, timeout=LIMIT)
-        with contextlib.closing(peer), contextlib.suppress(ConnectionError, http.client.HTTPException):
-            peer.request(method, f"/docs/{what}", content, {"x-vault-caller": "ann"})
-            return peer.getresponse().status
-        return None
+        """The status of the answer to a request; None where the server is killed before it answers."""
+        return status_of(self.port, method, f"/docs/{what}", content)
 
     def done(self, do: str, **members: Any) -> Any:
         """What is answered to a line that is carried out."""

@@ -1,6 +1,8 @@
 """Servers of a vault that the program starts, their ports, and connections to them."""
 
 import contextlib
+import http.client
+import json
 import os
 import pathlib
 import select
@@ -8,7 +10,7 @@ import socket
 import struct
 import subprocess
 import time
-from typing import Iterator
+from typing import Any, Iterator
 
 from trials import program
 from trials.program import PROGRAM, check
@@ -109,3 +111,27 @@ def reset(peer: socket.socket) -> None:
     """Closes the connection at once, and has what is under way thrown away."""
     peer.setsockopt(socket.SOL_SOCKET, socket.SO_LINGER, struct.pack("ii", 1, 0))
     peer.close()
+
+
+def reply_to(where: pathlib.Path, line: dict[str, Any]) -> Any:
+    """The reply to a line at the door of lines; None where the server ends before it answers."""
+    with socket.socket(socket.AF_UNIX) as peer:
+        peer.settimeout(LIMIT)
+        try:
+            peer.connect(str(where))
+            peer.sendall(json.dumps(line).encode() + b"\n")
+            peer.shutdown(socket.SHUT_WR)
+            with peer.makefile("rb") as file:
+                found = file.read()
+        except (ConnectionError, FileNotFoundError):
+            return None
+    return json.loads(found) if found.endswith(b"\n") else None
+
+
+def status_of(port: int, method: str, target: str, content: str | None = None) -> int | None:
+    """The status of the answer to a request by `ann`; None where the server ends before it answers."""
+    peer = http.client.HTTPConnection(HOST, port, timeout=LIMIT)
+    with contextlib.closing(peer), contextlib.suppress(ConnectionError, http.client.HTTPException):
+        peer.request(method, target, content, {"x-vault-caller": "ann"})
+        return peer.getresponse().status
+    return None

@@ -44,8 +44,8 @@ class StandbyTest(MachineTest):
 
     def begin(self) -> Path:
         """Begins a journal, and returns its path; a server would make the file."""
-        told: dict[str, str] = json.loads(self.done("standby", "begin", "records", "--json", at=None))
-        return Path(told["journal"])
+        begun: dict[str, str] = json.loads(self.done("standby", "begin", "records", "--json", at=None))
+        return Path(begun["journal"])
 
     def append(self, journal: Path, *lines: dict[str, Any]) -> None:
         """Carries these lines out over the vault, and notes them as its server would."""
@@ -81,15 +81,15 @@ class StandbyTest(MachineTest):
 
     def events(self, file: Path) -> str:
         """What the engine prints of all that ever was there, once nobody has the file any more."""
-        told: list[str] = []
+        printed: list[str] = []
 
         def is_printed() -> bool:
             done = subprocess.run([PROGRAM, "events", str(file)], capture_output=True, encoding="utf-8", check=False)
-            told[:] = [done.stdout]
+            printed[:] = [done.stdout]
             return done.returncode == 0
 
         self.assertTrue(wait_until(is_printed))
-        return told[0]
+        return printed[0]
 
 
 PUT = {"do": "put", "bucket": "docs", "text": "hello"}

@@ -88,7 +88,7 @@ module _ (r : Rule) where
   abbrev after_larger : Members
   after_larger = if_there (codes "ObjectSizeLessThan") (option_map whole r.smaller) (named_members r)
 
-  -- a name that is none of the last four optional ones is looked for among the others
+  -- a name other than the last four optional ones is looked for among the first ones
   past : (k : List ℕ) → is_eq (slice_cmp nat_cmp k (codes "NoncurrentVersionExpiration")) ≡ false → is_eq (slice_cmp nat_cmp k (codes "ObjectSizeGreaterThan")) ≡ false → is_eq (slice_cmp nat_cmp k (codes "ObjectSizeLessThan")) ≡ false → get_member k after_id ≡ get_member k (named_members r)
   past k e f g =
       skip k (codes "NoncurrentVersionExpiration") (option_map noncurrent_value r.noncurrent) (bounded_members r) e

@@ -1,4 +1,4 @@
-//! Who hears of a number of commands, and then lets no more be carried out.
+//! Who hears of up to `most` commands, and then lets no more be carried out.
 ghost use Rattle.std.specs.Prelude.{◌≡◌, nat_lt};
 
 use std::alloc::Global;
@@ -8,7 +8,7 @@ use vault_core_model::command::Command;
 use vault_core_model::reply::Reply;
 use vault_http::Hears;
 
-/// Counts the commands of which it hears, and lets no more be carried out once these are so many.
+/// Counts the commands of which it hears, and lets no more be carried out once it has heard of `most`.
 #[derive(Drop)]
 pub struct Counting {
     pub most: u32,
