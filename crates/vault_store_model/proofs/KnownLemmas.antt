@@ -54,9 +54,9 @@ sums_unmarked v t a (Some d) is marker stated =
 
 -- without a tenure an entry is a marker
 no_tenure : (marker : Bool) (t : ℕ) (dept : List ℕ) (ts : List Tenure) → HasFirstTenure marker t dept ts → slice_get ts 0 ≡ None → marker ≡ true
-no_tenure true t dept ts is none = refl
-no_tenure false t dept ts is none =
-    let both : Some (record { dept = dept; from = t; number = 0 }) ≡ None = sym (ap (λ (xs : List Tenure). slice_get xs 0) is) ∙ none in
+no_tenure true t dept ts is absent = refl
+no_tenure false t dept ts is absent =
+    let both : Some (record { dept = dept; from = t; number = 0 }) ≡ None = sym (ap (λ (xs : List Tenure). slice_get xs 0) is) ∙ absent in
     absurd (cc both)
 
 -- with one it is a version, and that is its bucket's department's
@@ -71,7 +71,7 @@ with_tenure false t dept ts x is one =
 
 pub marker_known : (v : Vault) (t : ℕ) (a : Admission) (sums : Option DepartmentRow) → IsAdmission v t a → slice_get a.history.tenures 0 ≡ None
     → IfSome sums (λ d. IsRowFor v d.name d.sums) → IfSome sums (λ d. IsRowFor (changed v t (change.Admit a)) d.name d.sums)
-marker_known v t a sums is none stated = sums_unmarked v t a sums is (no_tenure a.history.entry.marker t is.bucket.dept a.history.tenures is.tenured none) stated
+marker_known v t a sums is absent stated = sums_unmarked v t a sums is (no_tenure a.history.entry.marker t is.bucket.dept a.history.tenures is.tenured absent) stated
 
 -- the sums of its department after a version's admission
 pub version_known : (v : Vault) (t : ℕ) (a : Admission) (x : Tenure) (sums new : Option DepartmentRow) → Sound v → v.last ≤ t → t ≤ last_moment → IsAdmission v t a → slice_get a.history.tenures 0 ≡ Some x
