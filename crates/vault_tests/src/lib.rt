@@ -1,6 +1,5 @@
 //! Tests that cross crates: what faults of a reader, a writer or a device leave, and growths that are refused in a run;
-//! limits, also those that no vault can be filled up to; what runs and listings ask of their keeper, a run in full
-//! vaults too; and journals that a fault ends.
+//! limits, also those that no vault can be filled up to; runs in full vaults; and journals that a fault ends.
 #![tactic(auto)]
 
 #[cfg(test)]
@@ -13,9 +12,3 @@ mod growths;
 mod journals;
 #[cfg(test)]
 mod limits;
-#[cfg(test)]
-mod pages;
-#[cfg(test)]
-mod ranges;
-#[cfg(test)]
-mod versions;
