@@ -5,6 +5,7 @@ ghost use Rattle.sqlite_value.specs.Order.{column};
 ghost use Rattle.vault_base.specs.Days.{last_moment};
 ghost use Rattle.vault_base.specs.Name.{is_version_id};
 ghost use Rattle.vault_audit_model.specs.Values.{number, number_or_null, bytes_or_null, flag, flag_or_null};
+ghost use Rattle.vault_audit_rows.specs.Cells.{Shows};
 
 use crate::misread::Misread;
 use sqlite::Row;
@@ -136,7 +137,7 @@ pub fn flag_or_null(row: &Row, at: usize) -> Option<Option<bool>>
 
 /// The moment in a column.
 pub fn moment(row: &Row, at: usize) -> Option<Moment>
-    ensures { MatchOption result ((t : ℕ) → t ≤ last_moment → column row.now at ≢ number t) (λ t. (column row.now at ≡ number t) × (t ≤ last_moment)) }
+    ensures { Shows number (λ t. t ≤ last_moment) (column row.now at) result }
 {
     match row.get_ref(at) {
         Ok(ValueRef::Int(n)) => Moment::from_secs(n),
@@ -146,7 +147,7 @@ pub fn moment(row: &Row, at: usize) -> Option<Moment>
 
 /// The same, or NULL.
 pub fn moment_or_null(row: &Row, at: usize) -> Option<Option<Moment>>
-    ensures { MatchOption result ((o : Option ℕ) → IfSome o (λ t. t ≤ last_moment) → column row.now at ≢ number_or_null o) (λ o. (column row.now at ≡ number_or_null o) × IfSome o (λ t. t ≤ last_moment)) }
+    ensures { Shows number_or_null (λ o. IfSome o (λ t. t ≤ last_moment)) (column row.now at) result }
 {
     if is_null(row, at) {
         return Some(None);
@@ -157,21 +158,21 @@ pub fn moment_or_null(row: &Row, at: usize) -> Option<Option<Moment>>
 
 /// The version id in a column.
 pub fn version_id(row: &Row, at: usize) -> Option<VersionId>
-    ensures { MatchOption result ((n : ℕ) → IsTrue (is_version_id n) → column row.now at ≢ number n) (λ n. (column row.now at ≡ number n) × IsTrue (is_version_id n)) }
+    ensures { Shows number (λ n. IsTrue (is_version_id n)) (column row.now at) result }
 {
     VersionId::new(small_number(row, at)?)
 }
 
 /// The digest in a column.
 pub fn digest(row: &Row, at: usize) -> Option<Digest>
-    ensures { MatchOption result ((b : List ℕ) → length b ≡ 32 → column row.now at ≢ Blob b) (λ d. (column row.now at ≡ Blob d) × (length d ≡ 32)) }
+    ensures { Shows Blob (λ b. length b ≡ 32) (column row.now at) result }
 {
     Digest::from_slice(bytes(row, at)?)
 }
 
 /// The same, or NULL.
 pub fn digest_or_null(row: &Row, at: usize) -> Option<Option<Digest>>
-    ensures { MatchOption result ((o : Option (List ℕ)) → IfSome o (λ b. length b ≡ 32) → column row.now at ≢ bytes_or_null o) (λ o. (column row.now at ≡ bytes_or_null o) × IfSome o (λ b. length b ≡ 32)) }
+    ensures { Shows bytes_or_null (λ o. IfSome o (λ b. length b ≡ 32)) (column row.now at) result }
 {
     if is_null(row, at) {
         return Some(None);

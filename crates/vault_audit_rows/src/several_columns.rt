@@ -12,11 +12,11 @@ ghost use Rattle.vault_rules.specs.declared.rule.Noncurrent.{Noncurrent};
 ghost use Rattle.vault_core_model.specs.declared.rights.Rights.{Rights};
 ghost use Rattle.vault_core_model.specs.declared.records.Author.{Author};
 ghost use Rattle.vault_core_model.specs.declared.records.Cause.{Cause};
-ghost use Rattle.vault_core_model.specs.declared.records.Removal.{Removal};
 ghost use Rattle.vault_core_model.specs.Checks.{most_content};
 ghost use Rattle.vault_audit_model.specs.Limits.{IsSizedAs, IsRetention, IsAuthor, IsCause, IsRemoval};
 ghost use Rattle.vault_audit_model.specs.Rows.{mode_number, days_of, years_of, cause_number, cause_text, rights_number, default_mode, default_days, default_years, retention_mode, retention_until, noncurrent_days, noncurrent_newer, author_kind, author_name, removal_at, removal_cause, removal_by};
 ghost use Rattle.vault_audit_model.specs.Values.{number, number_or_null, bytes_or_null, flag};
+ghost use Rattle.vault_audit_rows.specs.Cells.{ShowNoRemoval};
 
 use crate::cell::{
     digest_or_null, flag, is_null, moment, number, number_within, small_number,
@@ -214,7 +214,7 @@ pub fn removal(
     name_at: usize,
 ) -> Result<Option<Removal>, Misread>
     ensures ok { IfOk result (λ r. (column row.now at ≡ removal_at r) × (column row.now kind_at ≡ removal_cause r) × (column row.now name_at ≡ removal_by r) × IfSome r IsRemoval) }
-    ensures wrong { IfErr result (λ e. e ≡ Misread.Wrong → (r : Option Removal) → IfSome r IsRemoval → column row.now at ≡ removal_at r → column row.now kind_at ≡ removal_cause r → column row.now name_at ≢ removal_by r) }
+    ensures wrong { IfErr result (λ e. e ≡ Misread.Wrong → ShowNoRemoval (column row.now at) (column row.now kind_at) (column row.now name_at)) }
 {
     if are_null(row, at, kind_at, name_at) {
         return Ok(None);

@@ -1,6 +1,6 @@
 //! A run of the history machine.
 ghost use Rattle.std.specs.Prelude.{◌≡◌, ◌≤◌, ◌+◌, ℕ, List, IfOk, OnErr};
-ghost use Rattle.vault_core_model.specs.Leaves.{count_after_all};
+ghost use Rattle.vault_core_model.specs.LeavesMany.{LeavesByAll};
 ghost use Rattle.vault_core_model.specs.Step.{IsRun, Reached};
 ghost use Rattle.vault_core_worm_laws.specs.Once.{Extends};
 ghost use Rattle.vault_core_worm_laws.specs.Removals.{RemovalsWerePermitted};
@@ -54,9 +54,8 @@ pub fn run<K: Keeper>(
     ensures conserved { (dept : List ℕ) →
         admitted_bytes (K.vault keeper.new) dept + received_bytes (K.vault keeper.new) dept
         ≡ held_bytes (K.vault keeper.new) dept + (removed_bytes (K.vault keeper.new) dept + handed_bytes (K.vault keeper.new) dept) }
-    ensures honest { K.is_honest keeper.new → K.is_honest keeper.old }
     // The count of failures rises by one for each reply that reports that the device failed, up to its greatest value.
-    ensures counted { IfOk result (λ replies. K.count keeper.new ≡ count_after_all (K.count keeper.old) replies.items) }
+    ensures leaves { LeavesByAll K.Kept keeper.old keeper.new result }
 {
     let mut replies = Vec::with_capacity(alloc, commands.len())?;
     for timed in commands {

@@ -6,6 +6,7 @@ pub mod Halts
 pub mod Handing
 pub mod IntakeOutcome
 pub mod Leaves
+pub mod LeavesMany
 pub mod ListingOutcome
 pub mod LockOutcomes
 pub mod Order

@@ -5,6 +5,7 @@ pub mod List
 pub mod Row
 pub mod FileName
 pub mod Folder
+pub mod Left
 pub use Rattle.csv.specs.Records
 pub use Rattle.vault_values.specs.Fault
 pub use Rattle.vault_values.specs.declared.fault.LineFault

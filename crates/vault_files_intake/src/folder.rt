@@ -32,7 +32,7 @@ pub trait Folder {
     /// The bytes of the file of that name; none where there is no such file.
     fn read(&mut self, name: &FileName) -> Result<Option<Vec<u8>>, Fault>
         ensures value { IfOk result (λ found. Holds (files self.old) name.now (option_map (λ f. f.items) found)) }
-        ensures same { files self.new ≡ files self.old }
-        ensures counted { count self.old ≤ count self.new }
+        ensures files { files self.new ≡ files self.old }
+        ensures counted_there { count self.old ≤ count self.new }
         ensures device { result ≡ Err Fault.Device → RoseOrIsFull (count self.old) (count self.new) };
 }

@@ -1,10 +1,10 @@
 //! Intake of a list.
-ghost use Rattle.std.specs.Prelude.{◌≡◌, ◌≤◌, ◌⊎◌, ◌+◌, ◌<◌, [], false, map, IfErr, OnOk, Some};
+ghost use Rattle.std.specs.Prelude.{◌≡◌, ◌+◌, ◌<◌, [], false, IfErr, OnOk, Some};
 ghost use Rattle.std.specs.List.{list_any};
 ghost use Rattle.csv.specs.Records.{fields_of};
-ghost use Rattle.vault_core_model.specs.Leaves.{RoseOrIsFull};
 ghost use Rattle.vault_core_model.specs.Step.{Reached};
 ghost use Rattle.vault_files_intake.specs.Batches.{TakesLine, TakesLines, TakesRecords};
+ghost use Rattle.vault_files_intake.specs.Left.{LeavesBoth};
 ghost use Rattle.vault_files_intake.specs.TakenIn as spec;
 
 use crate::batch::{Batch, Line};
@@ -43,12 +43,9 @@ fn take_next<K: Keeper, F: Folder>(
     ensures ok { K.is_honest keeper.new → OnOk result (TakesLine (F.files folder.old) batch.now line.now (K.vault keeper.old) rows.old.items rows.new.items (K.vault keeper.new)) }
     ensures err { K.is_honest keeper.new → IfErr result (λ r. spec.StopsBefore (fields_of line.now.cells.now) r × (rows.new.items ≡ rows.old.items) × (K.vault keeper.new ≡ K.vault keeper.old)) }
     ensures reached { K.is_honest keeper.new → Reached (K.vault keeper.old) → Reached (K.vault keeper.new) }
-    ensures honest { K.is_honest keeper.new → K.is_honest keeper.old }
     ensures files { F.files folder.new ≡ F.files folder.old }
-    ensures counted { K.count keeper.old ≤ K.count keeper.new }
-    ensures counted_there { F.count folder.old ≤ F.count folder.new }
-    ensures device { result ≡ Err Refusal.Device → RoseOrIsFull (K.count keeper.old) (K.count keeper.new) ⊎ RoseOrIsFull (F.count folder.old) (F.count folder.new) }
-    ensures steady { spec.report_names_device rows.new.items (spec.stop_of result) ≡ false → (list_any spec.is_device_row rows.old.items ≡ false) × (K.count keeper.new ≡ K.count keeper.old) }
+    ensures above { spec.report_names_device rows.new.items (spec.stop_of result) ≡ false → list_any spec.is_device_row rows.old.items ≡ false }
+    ensures leaves { LeavesBoth K.Kept keeper.old keeper.new F.Folder folder.old folder.new (result ≡ Err Refusal.Device) (spec.report_names_device rows.new.items (spec.stop_of result)) }
 {
     if line.cells.len() != 5 {
         return Err(Refusal::MalformedBody);
@@ -76,12 +73,8 @@ fn take_rows<K: Keeper, F: Folder>(
 ) -> IntakeReport
     ensures taken { K.is_honest keeper.new → TakesLines (F.files folder.old) batch.now below.now (K.vault keeper.old) result (K.vault keeper.new) }
     ensures reached { K.is_honest keeper.new → Reached (K.vault keeper.old) → Reached (K.vault keeper.new) }
-    ensures honest { K.is_honest keeper.new → K.is_honest keeper.old }
     ensures files { F.files folder.new ≡ F.files folder.old }
-    ensures counted { K.count keeper.old ≤ K.count keeper.new }
-    ensures counted_there { F.count folder.old ≤ F.count folder.new }
-    ensures device { result.stopped ≡ Some Refusal.Device → RoseOrIsFull (K.count keeper.old) (K.count keeper.new) ⊎ RoseOrIsFull (F.count folder.old) (F.count folder.new) }
-    ensures steady { spec.report_names_device result.rows.items result.stopped ≡ false → K.count keeper.new ≡ K.count keeper.old }
+    ensures leaves { LeavesBoth K.Kept keeper.old keeper.new F.Folder folder.old folder.new (result.stopped ≡ Some Refusal.Device) (spec.report_names_device result.rows.items result.stopped) }
 {
     let mut rows = Vec::new(alloc);
     let mut above: u32 = 0;
@@ -131,12 +124,8 @@ fn take_below<K: Keeper, F: Folder>(
 ) -> IntakeReport
     ensures taken { K.is_honest keeper.new → TakesRecords (F.files folder.old) batch.now records.now (K.vault keeper.old) result (K.vault keeper.new) }
     ensures reached { K.is_honest keeper.new → Reached (K.vault keeper.old) → Reached (K.vault keeper.new) }
-    ensures honest { K.is_honest keeper.new → K.is_honest keeper.old }
     ensures files { F.files folder.new ≡ F.files folder.old }
-    ensures counted { K.count keeper.old ≤ K.count keeper.new }
-    ensures counted_there { F.count folder.old ≤ F.count folder.new }
-    ensures device { result.stopped ≡ Some Refusal.Device → RoseOrIsFull (K.count keeper.old) (K.count keeper.new) ⊎ RoseOrIsFull (F.count folder.old) (F.count folder.new) }
-    ensures steady { spec.report_names_device result.rows.items result.stopped ≡ false → K.count keeper.new ≡ K.count keeper.old }
+    ensures leaves { LeavesBoth K.Kept keeper.old keeper.new F.Folder folder.old folder.new (result.stopped ≡ Some Refusal.Device) (spec.report_names_device result.rows.items result.stopped) }
 {
     let Some((first, below)) = records.split_first() else {
         return stopped_at_once(alloc, Refusal::MalformedBody);
@@ -168,14 +157,10 @@ pub fn take_in<K: Keeper, F: Folder>(
 ) -> IntakeReport
     ensures taken { K.is_honest keeper.new → spec.TakesIn (F.files folder.old) at who.now bucket.now batch.now list.now (K.vault keeper.old) result.rows.items result.stopped (K.vault keeper.new) }
     ensures reached { K.is_honest keeper.new → Reached (K.vault keeper.old) → Reached (K.vault keeper.new) }
-    ensures honest { K.is_honest keeper.new → K.is_honest keeper.old }
     ensures files { F.files folder.new ≡ F.files folder.old }
-    ensures counted { K.count keeper.old ≤ K.count keeper.new }
-    ensures counted_there { F.count folder.old ≤ F.count folder.new }
-    // `Device` comes only where the vault's device or the folder's failed.
-    ensures device { result.stopped ≡ Some Refusal.Device → RoseOrIsFull (K.count keeper.old) (K.count keeper.new) ⊎ RoseOrIsFull (F.count folder.old) (F.count folder.new) }
-    // Where neither a reply nor the stop states it, the vault's count of failures is as it was; a folder that failed adds nothing to it.
-    ensures steady { spec.report_names_device result.rows.items result.stopped ≡ false → K.count keeper.new ≡ K.count keeper.old }
+    // `Device` comes only where the vault's device or the folder's failed. Where neither a reply nor the stop states it,
+    // the vault's count of failures is as it was; a folder that failed adds nothing to it.
+    ensures leaves { LeavesBoth K.Kept keeper.old keeper.new F.Folder folder.old folder.new (result.stopped ≡ Some Refusal.Device) (spec.report_names_device result.rows.items result.stopped) }
 {
     if list.len() > MOST_LIST {
         return stopped_at_once(alloc, Refusal::EntityTooLarge);

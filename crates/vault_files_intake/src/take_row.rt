@@ -1,5 +1,5 @@
 //! One row of a list.
-ghost use Rattle.std.specs.Prelude.{◌≡◌, ◌≢◌, ◌≤◌, ◌⊎◌, false, IfOk, IfErr, OnErr, option_map};
+ghost use Rattle.std.specs.Prelude.{◌≡◌, ◌≢◌, ◌≤◌, false, IfOk, IfErr, OnErr, option_map};
 ghost use Rattle.csv.specs.Records.{fields_of};
 ghost use Rattle.vault_core_model.specs.Leaves.{Leaves, RoseOrIsFull};
 ghost use Rattle.vault_core_model.specs.Halts.{ChecksAs, is_device_reply};
@@ -8,6 +8,7 @@ ghost use Rattle.vault_core_model.specs.declared.halt.Fault.TheVariants as fault
 ghost use Rattle.vault_core_model.specs.declared.halt.Halt.TheVariants as halts;
 ghost use Rattle.vault_core_model.specs.Step.{IsStep, Reached};
 ghost use Rattle.vault_files_intake.specs.Batches.{AnswersLine};
+ghost use Rattle.vault_files_intake.specs.Left.{LeavesBoth};
 ghost use Rattle.vault_files_intake.specs.TakenIn as spec;
 ghost use Rattle.vault_files_intake.specs.Row.{row_of};
 
@@ -96,7 +97,7 @@ fn command<F: Folder>(
 ) -> Result<Intake, Halt>
     ensures asked { spec.Asks (F.files folder.old) bucket.now batch.now line (fields_of cells.now) result }
     ensures files { F.files folder.new ≡ F.files folder.old }
-    ensures counted { F.count folder.old ≤ F.count folder.new }
+    ensures counted_there { F.count folder.old ≤ F.count folder.new }
     ensures device { result ≡ Err (halts.Fault faults.Device) → RoseOrIsFull (F.count folder.old) (F.count folder.new) }
 {
     let row = row(alloc, cells)?;
@@ -151,12 +152,8 @@ pub(crate) fn take_row<K: Keeper, F: Folder>(
     ensures ok { K.is_honest keeper.new → IfOk result (λ reply. AnswersLine (F.files folder.old) batch.now line.now (K.vault keeper.old) reply (K.vault keeper.new)) }
     ensures err { K.is_honest keeper.new → OnErr result (K.vault keeper.new ≡ K.vault keeper.old) }
     ensures reached { K.is_honest keeper.new → Reached (K.vault keeper.old) → Reached (K.vault keeper.new) }
-    ensures honest { K.is_honest keeper.new → K.is_honest keeper.old }
     ensures files { F.files folder.new ≡ F.files folder.old }
-    ensures counted { K.count keeper.old ≤ K.count keeper.new }
-    ensures counted_there { F.count folder.old ≤ F.count folder.new }
-    ensures device { result ≡ Err Fault.Device → RoseOrIsFull (K.count keeper.old) (K.count keeper.new) ⊎ RoseOrIsFull (F.count folder.old) (F.count folder.new) }
-    ensures steady { spec.reports_device result ≡ false → K.count keeper.new ≡ K.count keeper.old }
+    ensures leaves { LeavesBoth K.Kept keeper.old keeper.new F.Folder folder.old folder.new (result ≡ Err Fault.Device) (spec.reports_device result) }
 {
     match command(
         alloc,

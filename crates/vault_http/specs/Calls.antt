@@ -5,6 +5,7 @@ use Rattle.std.specs.declared.io.Read.{Ghosts as Reading}
 use Rattle.std.specs.declared.io.Write.{Ghosts as Writing}
 use Rattle.vault_base.specs.declared.refusal.Refusal.{Refusal}
 use Rattle.vault_core_model.specs.Leaves.{RoseOrIsFull}
+use Rattle.vault_core_model.specs.LeavesMany.{LeavesSteady}
 use Rattle.vault_core_model.specs.declared.command.Command.{Command}
 use Rattle.vault_core_model.specs.declared.kept.Kept.{Ghosts}
 use Rattle.vault_http.specs.Exchange.{Answered, Done, Judged, PlanServed}
@@ -30,15 +31,15 @@ module _ {K : Type 0} (g : Ghosts K) (old new : K) {W : Type 0} (w : Writing W) 
   JudgedLeftBy context judged =
       g.is_honest new → IfErr result (λ e. JudgedLeft (RoseOrIsFull (g.count old) (g.count new)) e context.at context.shown context.caller judged (g.vault old) (g.vault new) (w.contents before) (w.contents after))
 
-  -- what was answered where the count of failures rose
-  abbrev pub JudgedSteadyBy : RequestContext → Result Command Refusal → Type 0
-  JudgedSteadyBy context judged =
-      JudgedSteady (g.is_honest new) result context.at context.shown context.caller judged (g.vault old) (g.vault new) (g.count old) (g.count new) (w.contents before) (w.contents after)
+  -- what the keeper is left as, and what was answered where its count of failures rose
+  abbrev pub JudgedLeavesBy : RequestContext → Result Command Refusal → Type 0
+  JudgedLeavesBy context judged =
+      LeavesSteady g old new (JudgedSteady (g.is_honest new) result context.at context.shown context.caller judged (g.vault old) (g.vault new) (g.count old) (g.count new) (w.contents before) (w.contents after))
 
   -- the same of a request
-  abbrev pub SteadyBy : Option ℕ → Type 0
-  SteadyBy moment =
-      Steady (g.is_honest new) result moment (g.vault old) (g.vault new) (g.count old) (g.count new) (w.contents before) (w.contents after)
+  abbrev pub LeavesBy : Option ℕ → Type 0
+  LeavesBy moment =
+      LeavesSteady g old new (Steady (g.is_honest new) result moment (g.vault old) (g.vault new) (g.count old) (g.count new) (w.contents before) (w.contents after))
 
 module _ {K : Type 0} (g : Ghosts K) (old new : K) {R : Type 0} (r : Reading R) (input unread : R) {W : Type 0} (w : Writing W) (before after : W) (result : Result (Unit {0}) ServeFault) where
   -- a plan was served with what comes after its head, where that is known, and the answer was written

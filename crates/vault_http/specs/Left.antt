@@ -7,7 +7,6 @@ use Rattle.vault_base.specs.declared.refusal.Refusal.TheVariants as refusal
 use Rattle.vault_core_model.specs.Step.{IsStep}
 use Rattle.vault_core_model.specs.Vault.{Vault}
 use Rattle.vault_core_model.specs.declared.command.Command.{Command}
-use Rattle.vault_core_model.specs.declared.kept.Kept.{Ghosts}
 use Rattle.vault_core_model.specs.declared.reply.Reply.{Reply}
 use Rattle.vault_http.specs.Reply.{AnswersRefusal}
 use Rattle.vault_http.specs.declared.answer.head.Allow.{Allow}
@@ -26,10 +25,6 @@ use Rattle.vault_http.specs.declared.fault.ServeFault.TheVariants as faults
 abbrev pub FromRead : ReadFault → ServeFault → Type 0
 FromRead reads.Read e = e ≡ faults.Read
 FromRead reads.Memory e = e ≡ faults.Memory
-
--- after a call, or several, a keeper is honest only if it was before, and its count of failures is no less
-abbrev pub LeavesNoLess : {K : Type 0} → Ghosts K → K → K → Type 0
-LeavesNoLess g old new = (g.is_honest new → g.is_honest old) × (g.count old ≤ g.count new)
 
 -- at most one step was made, at the reading
 abbrev pub AtMostOne : Option ℕ → Vault → Vault → Type 0

@@ -1,7 +1,7 @@
 //! Commands carried out, and refusals, with their answers written.
-ghost use Rattle.std.specs.Prelude.{◌≡◌, ◌≤◌, ℕ, List, IfErr, OnOk, Ok, Err, Some};
+ghost use Rattle.std.specs.Prelude.{◌≡◌, ℕ, List, IfErr, OnOk, Ok, Err, Some};
 ghost use Rattle.std.specs.Io.KnownBytes.{Appends};
-ghost use Rattle.vault_http.specs.Calls.{DoneBy, JudgedBy, JudgedLeftBy, JudgedSteadyBy};
+ghost use Rattle.vault_http.specs.Calls.{DoneBy, JudgedBy, JudgedLeftBy, JudgedLeavesBy};
 ghost use Rattle.vault_http.specs.Reply.{AnswersRefusal};
 ghost use Rattle.vault_http.specs.Exchange as spec;
 ghost use Rattle.vault_http.specs.Hearing.{HearsOnce};
@@ -60,9 +60,7 @@ fn answer<W: Write, K: Keeper, H: Hears>(
     ensures kind { ¬ (result ≡ Err faults.Read) }
     ensures once { K.is_honest keeper.new → left.AtMostOne (Some context.now.at) (K.vault keeper.old) (K.vault keeper.new) }
     ensures heard { K.is_honest keeper.new → HearsOnce H.hears hears.old hears.new (Some context.now.at) (K.vault keeper.old) (K.vault keeper.new) }
-    ensures honest { K.is_honest keeper.new → K.is_honest keeper.old }
-    ensures counted { K.count keeper.old ≤ K.count keeper.new }
-    ensures steady { JudgedSteadyBy K.Kept keeper.old keeper.new W.Write writer.old writer.new result context.now (Ok command.now) }
+    ensures leaves { JudgedLeavesBy K.Kept keeper.old keeper.new W.Write writer.old writer.new result context.now (Ok command.now) }
 {
     let at = context.at;
     let reply = step(alloc, keeper, at, &context.caller, command);
@@ -87,9 +85,7 @@ fn finish<W: Write, K: Keeper, H: Hears>(
     ensures kind { ¬ (result ≡ Err faults.Read) }
     ensures once { K.is_honest keeper.new → left.AtMostOne (Some context.now.at) (K.vault keeper.old) (K.vault keeper.new) }
     ensures heard { K.is_honest keeper.new → HearsOnce H.hears hears.old hears.new (Some context.now.at) (K.vault keeper.old) (K.vault keeper.new) }
-    ensures honest { K.is_honest keeper.new → K.is_honest keeper.old }
-    ensures counted { K.count keeper.old ≤ K.count keeper.new }
-    ensures steady { JudgedSteadyBy K.Kept keeper.old keeper.new W.Write writer.old writer.new result context.now (Ok command) }
+    ensures leaves { JudgedLeavesBy K.Kept keeper.old keeper.new W.Write writer.old writer.new result context.now (Ok command) }
 {
     let written = answer(alloc, writer, keeper, hears, context, &command);
     drop(command);
@@ -127,9 +123,7 @@ pub fn conclude<W: Write, K: Keeper, H: Hears>(
     ensures once { K.is_honest keeper.new → left.AtMostOne (Some context.now.at) (K.vault keeper.old) (K.vault keeper.new) }
     ensures heard { K.is_honest keeper.new → HearsOnce H.hears hears.old hears.new (Some context.now.at) (K.vault keeper.old) (K.vault keeper.new) }
     ensures kind { ¬ (result ≡ Err faults.Read) }
-    ensures honest { K.is_honest keeper.new → K.is_honest keeper.old }
-    ensures counted { K.count keeper.old ≤ K.count keeper.new }
-    ensures steady { JudgedSteadyBy K.Kept keeper.old keeper.new W.Write writer.old writer.new result context.now judged }
+    ensures leaves { JudgedLeavesBy K.Kept keeper.old keeper.new W.Write writer.old writer.new result context.now judged }
 {
     match judged {
         Ok(command) => finish(alloc, writer, keeper, hears, context, command),

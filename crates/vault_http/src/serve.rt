@@ -1,8 +1,8 @@
 //! One request, served.
-ghost use Rattle.std.specs.Prelude.{◌≡◌, ◌≤◌, [], ℕ, List, OnOk, Err, Some};
+ghost use Rattle.std.specs.Prelude.{◌≡◌, [], ℕ, List, OnOk, Err, Some};
 ghost use Rattle.std.specs.Io.KnownBytes.{Consumes};
 ghost use Rattle.vault_base.specs.Days.{moment_at};
-ghost use Rattle.vault_http.specs.Calls.{AnsweredBy, PlanLeftBy, PlanServedBy, SteadyBy, UnansweredBy};
+ghost use Rattle.vault_http.specs.Calls.{AnsweredBy, LeavesBy, PlanLeftBy, PlanServedBy, UnansweredBy};
 ghost use Rattle.vault_http.specs.Command.{IsWithinLength};
 ghost use Rattle.vault_http.specs.Hearing.{HearsOnce};
 ghost use Rattle.vault_http.specs.Left as left;
@@ -53,9 +53,7 @@ fn serve_plan<R: Read, W: Write, K: Keeper, H: Hears>(
     ensures heard { K.is_honest keeper.new → HearsOnce H.hears hears.old hears.new (Some planned.plan.at) (K.vault keeper.old) (K.vault keeper.new) }
     ensures unread { result ≡ Err faults.Read → K.vault keeper.new ≡ K.vault keeper.old }
     ensures taken { OnOk result ((taken : List ℕ) × Consumes (R.remaining reader.old) (R.remaining reader.new) taken × IsWithinLength planned.plan.headers.length taken) }
-    ensures honest { K.is_honest keeper.new → K.is_honest keeper.old }
-    ensures counted { K.count keeper.old ≤ K.count keeper.new }
-    ensures steady { SteadyBy K.Kept keeper.old keeper.new W.Write writer.old writer.new result (Some planned.plan.at) }
+    ensures leaves { LeavesBy K.Kept keeper.old keeper.new W.Write writer.old writer.new result (Some planned.plan.at) }
 {
     let Planned { plan, shown } = planned;
     let Plan {
@@ -102,11 +100,9 @@ pub fn serve_one<R: Read, W: Write, K: Keeper>(
     ensures once { K.is_honest keeper.new → left.AtMostOne (moment_at reading) (K.vault keeper.old) (K.vault keeper.new) }
     ensures unread { result ≡ Err faults.Read → K.vault keeper.new ≡ K.vault keeper.old }
     ensures taken { OnOk result (left.Taken [] (moment_at reading) (R.remaining reader.old) (R.remaining reader.new)) }
-    ensures honest { K.is_honest keeper.new → K.is_honest keeper.old }
-    ensures counted { K.count keeper.old ≤ K.count keeper.new }
     // Where the count rose, the reply of the one step says that the device failed, and what is written is its
     // answer, or a beginning of that.
-    ensures steady { SteadyBy K.Kept keeper.old keeper.new W.Write writer.old writer.new result (moment_at reading) }
+    ensures leaves { LeavesBy K.Kept keeper.old keeper.new W.Write writer.old writer.new result (moment_at reading) }
 {
     let hosts = Hosts::any(alloc);
     let moment = Moment::from_secs(reading);
@@ -136,8 +132,7 @@ pub fn serve_for<R: Read, W: Write, K: Keeper, H: Hears>(
     ensures heard { K.is_honest keeper.new → HearsOnce H.hears hears.old hears.new occasion.now.moment (K.vault keeper.old) (K.vault keeper.new) }
     ensures unread { result ≡ Err faults.Read → K.vault keeper.new ≡ K.vault keeper.old }
     ensures taken { OnOk result (left.Taken occasion.now.hosts.now occasion.now.moment (R.remaining reader.old) (R.remaining reader.new)) }
-    ensures leaves { left.LeavesNoLess K.Kept keeper.old keeper.new }
-    ensures steady { SteadyBy K.Kept keeper.old keeper.new W.Write writer.old writer.new result occasion.now.moment }
+    ensures leaves { LeavesBy K.Kept keeper.old keeper.new W.Write writer.old writer.new result occasion.now.moment }
 {
     match judge_request(alloc, reader, occasion.hosts, &occasion.moment)? {
         Judgement::Nothing => Ok(()),

@@ -1,10 +1,9 @@
 //! Whether a failure has shut a connection.
 ghost use Rattle.std.specs.Prelude.{◌≡◌, false};
 ghost use Rattle.sqlite.specs.Held.{state};
-ghost use Rattle.sqlite.specs.State.{HasCleanDisk, Survives};
-ghost use Rattle.vault_core_model.specs.Vault.{Vault};
-ghost use Rattle.vault_store_model.specs.Keeping.{Keeps};
+ghost use Rattle.sqlite.specs.State.{Survives};
 ghost use Rattle.vault_store_reads.specs.Quiet.{IsOpenIfOk};
+ghost use Rattle.vault_store_reads.specs.Staying.{LeavesKept};
 ghost use Rattle.vault_store_reads.specs.Wants.{WantsMemoryIfErr};
 
 use sqlite::{Alter, Connection, Error};
@@ -13,8 +12,7 @@ use sqlite::{Alter, Connection, Error};
 pub(crate) fn refuse_shut<S: Alter>(conn: &mut Connection<S>) -> Result<(), Error>
     ensures open { IsOpenIfOk S.Store conn.new result }
     ensures memory { WantsMemoryIfErr S.Store conn.old conn.new result }
-    ensures same { HasCleanDisk (state S.Store conn.new) → (v : Vault) → Keeps (state S.Store conn.old) v → Keeps (state S.Store conn.new) v }
-    ensures honest { HasCleanDisk (state S.Store conn.new) → HasCleanDisk (state S.Store conn.old) }
+    ensures leaves { LeavesKept S.Store conn.old conn.new }
     ensures mode { conn.old.in_transaction ≡ false → conn.new.in_transaction ≡ false }
     ensures survives { Survives (state S.Store conn.old) (state S.Store conn.new) (λ _. ⊥) }
 {

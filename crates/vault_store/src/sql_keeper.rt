@@ -11,7 +11,7 @@ ghost use Rattle.vault_core_model.specs.Vault.{Vault, opening};
 ghost use Rattle.vault_core_model.specs.Allowed.{Allows};
 ghost use Rattle.vault_core_model.specs.Change.{changed};
 ghost use Rattle.vault_core_model.specs.Halts.{is_device_given};
-ghost use Rattle.vault_core_model.specs.Leaves.{count_after};
+ghost use Rattle.vault_core_model.specs.Leaves.{IsLeft};
 ghost use Rattle.vault_store_model.specs.Known.{AreKnown};
 ghost use Rattle.vault_store_apply.specs.Left.{IsFoundIn, LeavesAlone, MayLeave};
 ghost use Rattle.vault_audit_model.specs.Spells.{AreSound};
@@ -81,6 +81,7 @@ pub struct SqlKeeper<S: Alter> {
 }
 
 impl<S: Alter> SqlKeeper<S> {
+    ghost use Rattle.vault_store.specs.ReadsAs.{ReadsAs};
     ghost use Rattle.vault_store.specs.VaultOf.{vault_of};
 
     /// A keeper over a connection, outside any transaction, whose tables are sound.
@@ -208,11 +209,7 @@ impl<S: Alter> SqlKeeper<S> {
     /// `Memory` where the store wanted memory. `Device` where it refused for another cause.
     fn check_open(&mut self) -> Result<(), Fault>
         ensures open { HasCleanDisk (state S.Store self.new.conn) → OnOk result (IsTrue (state S.Store self.new.conn).is_open) }
-        ensures same { vault_of S.Store self.new ≡ vault_of S.Store self.old }
-        ensures refused { self.new.refused.items ≡ self.old.refused.items }
-        ensures honest { HasCleanDisk (state S.Store self.new.conn) → HasCleanDisk (state S.Store self.old.conn) }
-        ensures counted { self.new.blamed.faults ≡ count_after self.old.blamed.faults (is_device_given result) }
-        ensures healthy { IsHealthy (state S.Store self.new.conn) → is_device_given result ≡ false }
+        ensures read { ReadsAs S.Store self.old self.new result }
         ensures crash { Survives (state S.Store self.old.conn) (state S.Store self.new.conn) (λ _. ⊥) }
     {
         if !self.blamed.is_doubted() {
@@ -248,7 +245,7 @@ impl<S: Alter> Keeper for SqlKeeper<S> {
     ghost use Rattle.vault_core_model.specs.Reads.{buckets_after, content_of, entries_of, entry_of, head_of, ids_before, keys_after, removed_entries, setting_of, settings_of, tenures_of};
     ghost use Rattle.vault_core_model.specs.Totals.{IsRowFor, bucket_bytes, bucket_weight};
     ghost use Rattle.vault_core_model.specs.Vault.{caller_of, config_of, has_department, next_id, note_of, rules_of};
-    ghost use Rattle.vault_store.specs.ReadsAs.{ReadsAs};
+    ghost use Rattle.vault_store.specs.ReadsAs.{ReadsAs, stands};
     ghost use Rattle.vault_store.specs.VaultOf.{vault_of};
 
     fn faults(&self) -> u64 {
@@ -508,8 +505,7 @@ impl<S: Alter> Keeper for SqlKeeper<S> {
         requires allowed { HasCleanDisk (state S.Store self.old.conn) → Allows (vault_of S.Store self.old) at change.now }
         ensures ok { OnOk result (vault_of S.Store self.new ≡ changed (vault_of S.Store self.old) at change.now) }
         ensures err { OnErr result (vault_of S.Store self.new ≡ vault_of S.Store self.old) }
-        ensures honest { HasCleanDisk (state S.Store self.new.conn) → HasCleanDisk (state S.Store self.old.conn) }
-        ensures counted { self.new.blamed.faults ≡ count_after self.old.blamed.faults (is_device_given result) }
+        ensures leaves { IsLeft (stands S.Store self.old) (stands S.Store self.new) (is_device_given result) }
         // Which changes were refused since the last one that was made.
         ensures forgotten { OnOk result (self.new.refused.items ≡ []) }
         ensures refused { OnErr result (self.new.refused.items ≡ self.old.refused.items ++ (at, change.now) ∷ []) }

@@ -1,4 +1,5 @@
 pub mod Quiet
+pub mod Staying
 pub mod Shown
 pub mod Queries
 pub mod Wants

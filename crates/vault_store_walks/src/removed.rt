@@ -12,6 +12,7 @@ ghost use Rattle.vault_audit_walk.specs.Health.{IsMemory};
 ghost use Rattle.vault_audit_walk.specs.Records.{ReportsOne};
 ghost use Rattle.vault_store_model.specs.Keeping.{Keeps};
 ghost use Rattle.vault_store_reads.specs.Quiet.{IsOpenIfOk, IsQuiet, OnlyReads};
+ghost use Rattle.vault_store_reads.specs.Staying.{LeavesKept};
 ghost use Rattle.vault_store_reads.specs.Wants.{WantsMemoryIfErr};
 ghost use Rattle.vault_store_walks.specs.Handed.{as_fault};
 
@@ -37,8 +38,7 @@ fn hand<T: Sink>(row: &Row, sink: &mut T) -> Result<bool, Error>
 fn hand_each<S: Alter, T: Sink>(conn: &mut Connection<S>, sink: &mut T) -> Result<bool, Error>
     ensures done { HasCleanDisk (state S.Store conn.new) → IfOk result (λ done. (v : Vault) → ∥ Keeps (state S.Store conn.old) v ∥₁ → Hands T.takes sink.old (removed_entries v) (Ok done) sink.new) }
     ensures some { HasCleanDisk (state S.Store conn.new) → OnErr result ((v : Vault) → ∥ Keeps (state S.Store conn.old) v ∥₁ → TakesSome T.takes sink.old (removed_entries v) sink.new) }
-    ensures same { HasCleanDisk (state S.Store conn.new) → (v : Vault) → Keeps (state S.Store conn.old) v → Keeps (state S.Store conn.new) v }
-    ensures honest { HasCleanDisk (state S.Store conn.new) → HasCleanDisk (state S.Store conn.old) }
+    ensures leaves { LeavesKept S.Store conn.old conn.new }
     ensures mode { conn.old.in_transaction ≡ false → conn.new.in_transaction ≡ false }
     ensures open { IsOpenIfOk S.Store conn.new result }
     ensures memory { WantsMemoryIfErr S.Store conn.old conn.new result }

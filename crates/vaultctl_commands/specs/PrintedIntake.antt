@@ -5,6 +5,7 @@ use Rattle.std.specs.declared.io.Write.{Ghosts as Writing}
 use Rattle.vault_base.specs.declared.refusal.Refusal.{Refusal}
 use Rattle.vault_base.specs.declared.refusal.Refusal.TheVariants.{Device}
 use Rattle.vault_core_model.specs.Leaves.{RoseOrIsFull}
+use Rattle.vault_core_model.specs.LeavesMany.{LeavesSteady}
 use Rattle.vault_core_model.specs.Vault.{Vault}
 use Rattle.vault_core_model.specs.declared.kept.Kept.{Ghosts}
 use Rattle.vault_files.specs.TakenIn.{report_names_device, TakesIn}
@@ -63,7 +64,7 @@ module _ {K : Type 0} (g : Ghosts K) (old new : K) {W : Type 0} (w : Writing W) 
   IntakePrintedBy at asked list stated =
       IntakePrinted files at asked.who asked.bucket asked.batch list (g.vault old) (g.vault new) stated (w.contents before) (w.contents after)
 
-  -- it was taken in once, and that a device failed is reported where it did
-  abbrev pub SteadyBy : ℕ → ℕ → ℕ → AskedIntake → List ℕ → Result Outcome JobFault → Type 0
-  SteadyBy there there' at asked list result =
-      SteadyIntake (g.is_honest new) files at asked.who asked.bucket asked.batch list (g.vault old) (g.vault new) (g.count old) (g.count new) there there' result (w.contents before) (w.contents after)
+  -- what the keeper is left as: it was taken in once, and that a device failed is reported where it did
+  abbrev pub LeavesBy : ℕ → ℕ → ℕ → AskedIntake → List ℕ → Result Outcome JobFault → Type 0
+  LeavesBy there there' at asked list result =
+      LeavesSteady g old new (SteadyIntake (g.is_honest new) files at asked.who asked.bucket asked.batch list (g.vault old) (g.vault new) (g.count old) (g.count new) there there' result (w.contents before) (w.contents after))

@@ -1,9 +1,10 @@
 //! A command carried out, and its reply printed.
-ghost use Rattle.std.specs.Prelude.{◌≡◌, ◌≢◌, ◌≤◌, IsTrue, IfOk, OnErr, Err, Ok};
+ghost use Rattle.std.specs.Prelude.{◌≡◌, ◌≢◌, IsTrue, IfOk, OnErr, Err, Ok};
 ghost use Rattle.std.specs.Io.KnownBytes.{Appends};
 ghost use Rattle.vault_core_model.specs.Leaves.{count_after};
 ghost use Rattle.vault_core_model.specs.Halts.{is_device_reply};
 ghost use Rattle.vault_core_model.specs.Leaves.{RoseOrIsFull};
+ghost use Rattle.vault_core_model.specs.LeavesMany.{LeavesSteady};
 ghost use Rattle.vault_core_model.specs.Step.{IsStep, Reached};
 ghost use Rattle.vault_core_model.specs.declared.reply.Reply.{Reply as AnyReply};
 ghost use Rattle.vault_core_model.specs.declared.reply.Reply.TheVariants.{Refused};
@@ -107,12 +108,11 @@ pub fn carry_out<K: Keeper, W: Write, E: Write>(
     ensures printed { IfOk result (λ outcome. spec.PrintsReply outcome (W.contents out.old) (W.contents out.new)) }
     // And there is one reply, printed where anything is, which says that the device failed just where the count of
     // failures rose, or can rise no further; where it doesn't state it, the count is as it was.
-    ensures steady { (reply : AnyReply) × (K.is_honest keeper.new → IsStep (K.vault keeper.old) at asked.now.who asked.now.command reply (K.vault keeper.new))
+    ensures leaves { LeavesSteady K.Kept keeper.old keeper.new ((reply : AnyReply)
+        × (K.is_honest keeper.new → IsStep (K.vault keeper.old) at asked.now.who asked.now.command reply (K.vault keeper.new))
         × IfOk result (λ outcome. (outcome ≡ spec.outcome_of reply) × Appends (W.contents out.old) (W.contents out.new) (spec.printed reply))
-        × (K.count keeper.new ≡ count_after (K.count keeper.old) (is_device_reply reply)) }
+        × (K.count keeper.new ≡ count_after (K.count keeper.old) (is_device_reply reply))) }
     ensures reached { K.is_honest keeper.new → Reached (K.vault keeper.old) → Reached (K.vault keeper.new) }
-    ensures honest { K.is_honest keeper.new → K.is_honest keeper.old }
-    ensures counted { K.count keeper.old ≤ K.count keeper.new }
     ensures reader { result ≢ Err JobFault.Read }
     ensures device { result ≢ Err JobFault.Device }
 {

@@ -1,6 +1,6 @@
 //! One line: what it asks for is carried out, and its reply written.
-ghost use Rattle.std.specs.Prelude.{◌≡◌, ◌≤◌, [], ◌∷◌, IfOk, OnOk, OnErr, string_bytes};
-ghost use Rattle.vault_http.specs.Left.{LeavesNoLess};
+ghost use Rattle.std.specs.Prelude.{◌≡◌, [], ◌∷◌, IfOk, OnOk, OnErr, string_bytes};
+ghost use Rattle.vault_core_model.specs.LeavesMany.{LeavesNoLess};
 ghost use Rattle.vault_http.specs.ReadLine.{line_of};
 ghost use Rattle.vault_http.specs.ReplyLine.{reply_text};
 ghost use Rattle.vault_http.specs.Line.TheVariants.{Command};
@@ -101,8 +101,7 @@ pub fn answer_line<K: Keeper, W: Write, O: Observer>(
     ensures ok { OnOk result (FinishedBy K.Kept keeper.old keeper.new W.Write writer.old writer.new (line_of line.now ∷ [])) }
     ensures err { OnErr result (BeganBy K.Kept keeper.old keeper.new W.Write writer.old writer.new (line_of line.now ∷ [])) }
     ensures kind { ¬ (result ≡ Err ReplayFault.Read) }
-    ensures honest { K.is_honest keeper.new → K.is_honest keeper.old }
-    ensures counted { K.count keeper.old ≤ K.count keeper.new }
+    ensures leaves { LeavesNoLess K.Kept keeper.old keeper.new }
 {
     let Ok(asked) = read_line(alloc, line) else {
         return Err(ReplayFault::Memory);
@@ -122,8 +121,7 @@ pub fn answer_unended<K: Keeper, W: Write, O: Observer>(
     ensures ok { OnOk result (FinishedBy K.Kept keeper.old keeper.new W.Write writer.old writer.new (unended_of line.now ∷ [])) }
     ensures err { OnErr result (BeganBy K.Kept keeper.old keeper.new W.Write writer.old writer.new (unended_of line.now ∷ [])) }
     ensures kind { ¬ (result ≡ Err ReplayFault.Read) }
-    ensures honest { K.is_honest keeper.new → K.is_honest keeper.old }
-    ensures counted { K.count keeper.old ≤ K.count keeper.new }
+    ensures leaves { LeavesNoLess K.Kept keeper.old keeper.new }
 {
     if line.len() == 1 && line[0] == b'\r' {
         let asked = Line::Refused(Refusal::MalformedBody);

@@ -1,8 +1,9 @@
 //! Script lines from any reader, carried out over any keeper, with their replies to any writer.
 #![tactic(auto)]
 
-ghost use Rattle.std.specs.Prelude.{◌≡◌, ◌≤◌, ℕ, List, OnOk, OnErr};
+ghost use Rattle.std.specs.Prelude.{◌≡◌, ℕ, List, OnOk, OnErr};
 ghost use Rattle.std.specs.Io.KnownBytes.{Consumes, IsAtEnd};
+ghost use Rattle.vault_core_model.specs.LeavesMany.{LeavesSteady};
 ghost use Rattle.vault_core_model.specs.Step.{Reached};
 ghost use Rattle.vaultctl_replay.specs.Runs.{AnswersAll, AnswersEnded, AnswersSome, Steady};
 
@@ -57,12 +58,10 @@ pub fn replay_observed<R: Read, W: Write, K: Keeper, O: Observer>(
     // out, which says that the device failed just where the count of its failures rose, or stands at its greatest
     // value. What is written is the lines of those replies, or a beginning of them; where none says that the device
     // failed, the count is as it was.
-    ensures steady { (taken : List ℕ) × Consumes (R.remaining reader.old) (R.remaining reader.new) taken
-        × Steady (K.is_honest keeper.new) (IsAtEnd (R.remaining reader.new)) (K.vault keeper.old) (K.count keeper.old) (W.contents writer.old) taken (K.vault keeper.new) (K.count keeper.new) (W.contents writer.new) }
+    ensures leaves { LeavesSteady K.Kept keeper.old keeper.new ((taken : List ℕ) × Consumes (R.remaining reader.old) (R.remaining reader.new) taken
+        × Steady (K.is_honest keeper.new) (IsAtEnd (R.remaining reader.new)) (K.vault keeper.old) (K.count keeper.old) (W.contents writer.old) taken (K.vault keeper.new) (K.count keeper.new) (W.contents writer.new)) }
     // Whatever comes of the input, a vault that runs lead to from a new one is left as such a vault.
     ensures reached { K.is_honest keeper.new → Reached (K.vault keeper.old) → Reached (K.vault keeper.new) }
-    ensures honest { K.is_honest keeper.new → K.is_honest keeper.old }
-    ensures counted { K.count keeper.old ≤ K.count keeper.new }
 {
     let room = Room { alloc, most: KEPT };
     let mut part = Vec::new(alloc);
@@ -106,12 +105,10 @@ pub fn replay<R: Read, W: Write, K: Keeper>(
     // out, which says that the device failed just where the count of its failures rose, or stands at its greatest
     // value. What is written is the lines of those replies, or a beginning of them; where none says that the device
     // failed, the count is as it was.
-    ensures steady { (taken : List ℕ) × Consumes (R.remaining reader.old) (R.remaining reader.new) taken
-        × Steady (K.is_honest keeper.new) (IsAtEnd (R.remaining reader.new)) (K.vault keeper.old) (K.count keeper.old) (W.contents writer.old) taken (K.vault keeper.new) (K.count keeper.new) (W.contents writer.new) }
+    ensures leaves { LeavesSteady K.Kept keeper.old keeper.new ((taken : List ℕ) × Consumes (R.remaining reader.old) (R.remaining reader.new) taken
+        × Steady (K.is_honest keeper.new) (IsAtEnd (R.remaining reader.new)) (K.vault keeper.old) (K.count keeper.old) (W.contents writer.old) taken (K.vault keeper.new) (K.count keeper.new) (W.contents writer.new)) }
     // Whatever comes of the input, a vault that runs lead to from a new one is left as such a vault.
     ensures reached { K.is_honest keeper.new → Reached (K.vault keeper.old) → Reached (K.vault keeper.new) }
-    ensures honest { K.is_honest keeper.new → K.is_honest keeper.old }
-    ensures counted { K.count keeper.old ≤ K.count keeper.new }
 {
     replay_observed(alloc, reader, writer, keeper, &mut Nobody)
 }

@@ -1,5 +1,6 @@
 //! The lines of an input, whatever pieces it comes in.
 ghost use Rattle.std.specs.Prelude.{◌≡◌, ◌≤◌, [], ◌∷◌, ◌++◌, take, IfErr, OnOk, OnErr, vec_len};
+ghost use Rattle.vault_core_model.specs.LeavesMany.{LeavesNoLess};
 ghost use Rattle.vaultctl_replay.specs.Lines.{advance, asked_in, last_of};
 ghost use Rattle.vaultctl_replay.specs.Runs.{BeganBy, FinishedBy};
 
@@ -47,8 +48,7 @@ fn take_byte<K: Keeper, W: Write, O: Observer>(
     ensures err { OnErr result (BeganBy K.Kept keeper.old keeper.new W.Write writer.old writer.new (asked_in room.most part.old.items (byte ∷ []))) }
     ensures bound { vec_len part.new ≤ room.most }
     ensures kind { ¬ (result ≡ Err ReplayFault.Read) }
-    ensures honest { K.is_honest keeper.new → K.is_honest keeper.old }
-    ensures counted { K.count keeper.old ≤ K.count keeper.new }
+    ensures leaves { LeavesNoLess K.Kept keeper.old keeper.new }
 {
     if byte == b'\n' {
         answer_line(room.alloc, keeper, writer, observer, part.as_slice())?;
@@ -74,8 +74,7 @@ pub fn feed<K: Keeper, W: Write, O: Observer>(
     ensures err { OnErr result (BeganBy K.Kept keeper.old keeper.new W.Write writer.old writer.new (asked_in room.most part.old.items piece.now)) }
     ensures bound { vec_len part.new ≤ room.most }
     ensures kind { ¬ (result ≡ Err ReplayFault.Read) }
-    ensures honest { K.is_honest keeper.new → K.is_honest keeper.old }
-    ensures counted { K.count keeper.old ≤ K.count keeper.new }
+    ensures leaves { LeavesNoLess K.Kept keeper.old keeper.new }
 {
     for byte in piece {
         take_byte(room, keeper, writer, observer, part, *byte)?;
@@ -94,8 +93,7 @@ fn answer_last<K: Keeper, W: Write, O: Observer>(
     ensures ok { OnOk result (FinishedBy K.Kept keeper.old keeper.new W.Write writer.old writer.new (last_of part.now)) }
     ensures err { OnErr result (BeganBy K.Kept keeper.old keeper.new W.Write writer.old writer.new (last_of part.now)) }
     ensures kind { ¬ (result ≡ Err ReplayFault.Read) }
-    ensures honest { K.is_honest keeper.new → K.is_honest keeper.old }
-    ensures counted { K.count keeper.old ≤ K.count keeper.new }
+    ensures leaves { LeavesNoLess K.Kept keeper.old keeper.new }
 {
     if part.is_empty() {
         Ok(())
@@ -115,8 +113,7 @@ pub fn finish<K: Keeper, W: Write, O: Observer>(
     ensures ok { OnOk result (FinishedBy K.Kept keeper.old keeper.new W.Write writer.old writer.new (last_of part.now)) }
     ensures err { OnErr result (BeganBy K.Kept keeper.old keeper.new W.Write writer.old writer.new (last_of part.now)) }
     ensures kind { ¬ (result ≡ Err ReplayFault.Read) }
-    ensures honest { K.is_honest keeper.new → K.is_honest keeper.old }
-    ensures counted { K.count keeper.old ≤ K.count keeper.new }
+    ensures leaves { LeavesNoLess K.Kept keeper.old keeper.new }
 {
     answer_last(alloc, keeper, writer, observer, part)?;
     flush(writer)

@@ -2,10 +2,11 @@
 ghost use Rattle.std.specs.Prelude.{ℕ, ◌≡◌, List, Option, IfErr, IfSome, OnOk, Err};
 ghost use Rattle.std.specs.Io.KnownBytes.{Appends};
 ghost use Rattle.vault_core_model.specs.Leaves.{RoseOrIsFull};
-ghost use Rattle.vault_http.specs.Calls.{SteadyBy};
+ghost use Rattle.vault_http.specs.Calls.{LeavesBy};
 ghost use Rattle.vault_http.specs.Exchange.{Answered};
 ghost use Rattle.vault_http.specs.Hearing.{HearsOnce};
-ghost use Rattle.vault_http.specs.Left.{AtMostOne, LeavesNoLess, Unanswered};
+ghost use Rattle.vault_core_model.specs.LeavesMany.{LeavesNoLess};
+ghost use Rattle.vault_http.specs.Left.{AtMostOne, Unanswered};
 ghost use Rattle.vault_http.specs.declared.fault.ServeFault.TheVariants as faults;
 ghost use Rattle.vaultctl_serve.specs.InTime.{known_in_time};
 ghost use Rattle.vaultctl_serve.specs.Strangers.{RefusesStrangers};
@@ -50,8 +51,7 @@ pub fn serve_in_time<I: Inbound + Drop, W: Write, K: Keeper, H: Hears>(
     ensures once { K.is_honest keeper.new → AtMostOne occasion.now.moment (K.vault keeper.old) (K.vault keeper.new) }
     ensures heard { K.is_honest keeper.new → HearsOnce H.hears hears.old hears.new occasion.now.moment (K.vault keeper.old) (K.vault keeper.new) }
     ensures unread { result ≡ Err faults.Read → K.vault keeper.new ≡ K.vault keeper.old }
-    ensures leaves { LeavesNoLess K.Kept keeper.old keeper.new }
-    ensures steady { SteadyBy K.Kept keeper.old keeper.new W.Write writer.old writer.new result occasion.now.moment }
+    ensures leaves { LeavesBy K.Kept keeper.old keeper.new W.Write writer.old writer.new result occasion.now.moment }
 {
     let Ok(mut reader) = BufReader::new(alloc, TimedRequest::new(inbound)) else {
         return Err(ServeFault::Memory);

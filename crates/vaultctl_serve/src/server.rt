@@ -4,7 +4,8 @@ ghost use Rattle.std.specs.Io.KnownBytes.{Keeps};
 ghost use Rattle.vault_base.specs.Days.{moment_at};
 ghost use Rattle.vault_core_model.specs.Step.{Reached};
 ghost use Rattle.vault_http.specs.Hearing.{HearsAll, HearsOnce, HearsSome};
-ghost use Rattle.vault_http.specs.Left.{AtMostOne, LeavesNoLess};
+ghost use Rattle.vault_core_model.specs.LeavesMany.{LeavesNoLess};
+ghost use Rattle.vault_http.specs.Left.{AtMostOne};
 ghost use Rattle.vaultctl_serve.specs.Account.{IsAccounted, trouble_of as trouble_in};
 ghost use Rattle.vaultctl_serve.specs.Serving.{ReportsOnce, Stepped, SteppedOnTime, SteppedWhile};
 

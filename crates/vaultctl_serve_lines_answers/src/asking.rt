@@ -6,7 +6,7 @@ ghost use Rattle.vault_core_model.specs.Checks.{administrator};
 ghost use Rattle.vault_core_model.specs.Halts.{ChecksAs, is_device};
 ghost use Rattle.vault_core_model.specs.Leaves.{LeavesSame, standing};
 ghost use Rattle.vault_core_model.specs.declared.reply.Reply.TheVariants.{Refused};
-ghost use Rattle.vault_http.specs.Left.{LeavesNoLess};
+ghost use Rattle.vault_core_model.specs.LeavesMany.{LeavesNoLess};
 ghost use Rattle.vault_http.specs.ReplyLine.{reply_text};
 ghost use Rattle.vault_http_door.specs.PageLine.{page_line_text};
 ghost use Rattle.vault_io.specs.Begins.{Begins};

@@ -1,6 +1,7 @@
 //! One command: the reading, then the step, then what is printed of the reply.
 ghost use Rattle.std.specs.Prelude.{◌≡◌, ◌≢◌, ℕ, IfOk, Err, Some, ⊤};
 ghost use Rattle.vault_core_model.specs.Leaves.{RoseOrIsFull};
+ghost use Rattle.vault_core_model.specs.LeavesMany.{LeavesSteady};
 ghost use Rattle.vault_core_model.specs.Step.{Reached};
 ghost use Rattle.vaultctl_commands.specs.Printed.{PrintsReply};
 ghost use Rattle.vaultctl_work.specs.Asked as spec;
@@ -73,10 +74,9 @@ fn carry_out_asked<C: Clock, K: Keeper, W: Write, E: Write>(
     // Whatever the device does, what is answered is what the printed reply says.
     ensures printed { IfOk result (λ stated. PrintsReply stated (W.contents out.old) (W.contents out.new)) }
     // And that the device failed is reported just where it did, whatever it does.
-    ensures steady { spec.IsSteadyAt (K.is_honest keeper.new) asked.now.at asked.now (K.vault keeper.old) (K.vault keeper.new) (K.count keeper.old) (K.count keeper.new)
-        result (W.contents out.old) (W.contents out.new) }
+    ensures leaves { LeavesSteady K.Kept keeper.old keeper.new (spec.IsSteadyAt (K.is_honest keeper.new) asked.now.at asked.now (K.vault keeper.old) (K.vault keeper.new)
+        (K.count keeper.old) (K.count keeper.new) result (W.contents out.old) (W.contents out.new)) }
     ensures reached { K.is_honest keeper.new → Reached (K.vault keeper.old) → Reached (K.vault keeper.new) }
-    ensures honest { K.is_honest keeper.new → K.is_honest keeper.old }
     ensures reader { result ≢ Err JobFault.Read }
     ensures device { result ≢ Err JobFault.Device }
 {

@@ -1,5 +1,6 @@
 //! The intake of a list.
 ghost use Rattle.std.specs.Prelude.{◌≡◌, ◌≢◌, IfOk, Err};
+ghost use Rattle.vault_core_model.specs.LeavesMany.{LeavesSteady};
 ghost use Rattle.vault_core_model.specs.Step.{Reached};
 ghost use Rattle.vault_values.specs.Fault.{Gives};
 ghost use Rattle.vaultctl_commands.specs.Asked.{intake_of};
@@ -47,11 +48,10 @@ fn take_in_at<'a, K: Keeper, W: Write, E: Write>(
     err: &mut E,
 ) -> Result<Outcome, JobFault>
     ensures printed { IfOk result (λ stated. PrintsRows stated (W.contents out.old) (W.contents out.new)) }
-    ensures steady { IsIntakeSteady (K.count keeper.old) (K.count keeper.new) result (W.contents out.old) (W.contents out.new) }
+    ensures leaves { LeavesSteady K.Kept keeper.old keeper.new (IsIntakeSteady (K.count keeper.old) (K.count keeper.new) result (W.contents out.old) (W.contents out.new)) }
     ensures done { K.is_honest keeper.new
         → IfOk result (λ stated. IsTakenInAt intake.entry.at intake.entry.asked.now stated (K.vault keeper.old) (K.vault keeper.new) (W.contents out.old) (W.contents out.new)) }
     ensures reached { K.is_honest keeper.new → Reached (K.vault keeper.old) → Reached (K.vault keeper.new) }
-    ensures honest { K.is_honest keeper.new → K.is_honest keeper.old }
     ensures reader { result ≢ Err JobFault.Read }
     ensures device { result ≢ Err JobFault.Device }
 {
@@ -84,10 +84,9 @@ fn take_in_read<K: Keeper, W: Write, E: Write>(
     // Done and refused are answered only behind the lines that say so.
     ensures printed { IfOk result (λ stated. PrintsRows stated (W.contents out.old) (W.contents out.new)) }
     // That the vault's device failed is reported where it did.
-    ensures steady { IsIntakeSteady (K.count keeper.old) (K.count keeper.new) result (W.contents out.old) (W.contents out.new) }
+    ensures leaves { LeavesSteady K.Kept keeper.old keeper.new (IsIntakeSteady (K.count keeper.old) (K.count keeper.new) result (W.contents out.old) (W.contents out.new)) }
     ensures done { K.is_honest keeper.new → IfOk result (λ stated. IsIntakeDone asked.now stated (K.vault keeper.old) (K.vault keeper.new) (W.contents out.old) (W.contents out.new)) }
     ensures reached { K.is_honest keeper.new → Reached (K.vault keeper.old) → Reached (K.vault keeper.new) }
-    ensures honest { K.is_honest keeper.new → K.is_honest keeper.old }
     ensures reader { result ≢ Err JobFault.Read }
     ensures device { result ≢ Err JobFault.Device }
 {
@@ -131,10 +130,9 @@ fn take_in_list<K: Keeper, W: Write, E: Write>(
     err: &mut E,
 ) -> Result<Outcome, JobFault>
     ensures printed { IfOk result (λ stated. PrintsRows stated (W.contents out.old) (W.contents out.new)) }
-    ensures steady { IsIntakeSteady (K.count keeper.old) (K.count keeper.new) result (W.contents out.old) (W.contents out.new) }
+    ensures leaves { LeavesSteady K.Kept keeper.old keeper.new (IsIntakeSteady (K.count keeper.old) (K.count keeper.new) result (W.contents out.old) (W.contents out.new)) }
     ensures done { K.is_honest keeper.new → IfOk result (λ stated. IsIntakeDone asked.now stated (K.vault keeper.old) (K.vault keeper.new) (W.contents out.old) (W.contents out.new)) }
     ensures reached { K.is_honest keeper.new → Reached (K.vault keeper.old) → Reached (K.vault keeper.new) }
-    ensures honest { K.is_honest keeper.new → K.is_honest keeper.old }
     ensures reader { result ≢ Err JobFault.Read }
     ensures device { result ≢ Err JobFault.Device }
 {

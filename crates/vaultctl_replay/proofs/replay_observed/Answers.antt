@@ -30,7 +30,7 @@ returns-in-Ok-eq0-clause-ok g c =
       inv.taken,
       read,
       c.in-Ok-eq0.ensures.end c.in-Ok-eq0.field-0-test (omega arith),
-      answers_all H G c.finish.ensures.honest first mid last n o p u v w inv.taken c.loop-turn.part.items so_far inv.rest s,
+      answers_all H G c.finish.ensures.leaves.honest first mid last n o p u v w inv.taken c.loop-turn.part.items so_far inv.rest s,
     ))
     now
 
@@ -55,12 +55,12 @@ returns-in-Ok-eq0-clause-err g c =
     (λ s. (
       inv.taken,
       read,
-      answers_some_last H G c.finish.ensures.honest first mid last n o p u v w inv.taken c.loop-turn.part.items so_far inv.rest _ (c.in-Ok-eq0.ensures.end c.in-Ok-eq0.field-0-test (omega arith)) s,
+      answers_some_last H G c.finish.ensures.leaves.honest first mid last n o p u v w inv.taken c.loop-turn.part.items so_far inv.rest _ (c.in-Ok-eq0.ensures.end c.in-Ok-eq0.field-0-test (omega arith)) s,
     ))
     now
 
-pub returns-in-Ok-eq0-clause-steady : goal.returns-in-Ok-eq0-clause-steady
-returns-in-Ok-eq0-clause-steady g c =
+pub returns-in-Ok-eq0-clause-leaves : goal.returns-in-Ok-eq0-clause-leaves
+returns-in-Ok-eq0-clause-leaves g c =
     let inv = c.loop-turn.invariant in
     let so_far = Finished-keeps _ _ _ _ _ _ _ _ _ inv.finished c.flush.ensures.keeps in
     let n = g.K.Kept.count c.args.keeper.now in
@@ -77,17 +77,22 @@ returns-in-Ok-eq0-clause-steady g c =
     let ok = rw c.as_slice.ensures.value at c.finish.ensures.ok in
     let err = rw c.as_slice.ensures.value at c.finish.ensures.err in
     let read = rw append-nil at (Consumes-trans _ _ _ inv.taken [] inv.read (none_read _ _ _ _ c.in-Ok-eq0.field-0-test c.in-Ok-eq0.ensures.ok)) in
-    let at_end = c.in-Ok-eq0.ensures.end c.in-Ok-eq0.field-0-test (omega arith) in (
-      inv.taken,
-      read,
-      either_steady H G c.finish.ensures.honest first mid last n o p u v w inv.taken c.loop-turn.part.items _ at_end c.finish.result so_far inv.rest ok err,
-    )
+    let at_end = c.in-Ok-eq0.ensures.end c.in-Ok-eq0.field-0-test (omega arith) in
+    record {
+      honest = λ h. inv.honest (c.finish.ensures.leaves.honest h);
+      counted = omega (arith, inv.counted, c.finish.ensures.leaves.counted);
+      steady = (
+        inv.taken,
+        read,
+        either_steady H G c.finish.ensures.leaves.honest first mid last n o p u v w inv.taken c.loop-turn.part.items _ at_end c.finish.result so_far inv.rest ok err,
+      );
+    }
 
 pub returns-in-Ok-eq0-clause-reached : goal.returns-in-Ok-eq0-clause-reached
 returns-in-Ok-eq0-clause-reached g c = λ h q.
     let inv = c.loop-turn.invariant in
     either_reached _ h _ _ _ _ _ _ _ c.finish.result c.finish.ensures.ok c.finish.ensures.err
-    (finished_reached _ (c.finish.ensures.honest h) _ _ _ _ _ _ _ inv.finished q)
+    (finished_reached _ (c.finish.ensures.leaves.honest h) _ _ _ _ _ _ _ inv.finished q)
 
 -- ---- where the lines of a piece weren't all answered
 
@@ -107,7 +112,7 @@ returns-in_err-feed-in-Ok-clause-err g c =
     let v = g.W.Write.contents c.flush.new.writer in
     let w = g.W.Write.contents c.feed.new.writer in
     let piece = take c.in-Ok.n c.read_retrying.new.buf in
-    let done = next_err H G c.feed.ensures.honest first mid last n o p u v w 4_194_305 [] c.loop-turn.part.items inv.taken piece so_far inv.rest c.in_err-feed-in-Ok.ensures.err in
+    let done = next_err H G c.feed.ensures.leaves.honest first mid last n o p u v w 4_194_305 [] c.loop-turn.part.items inv.taken piece so_far inv.rest c.in_err-feed-in-Ok.ensures.err in
     let before = g.R.Read.remaining c.args.reader.now in
     let after = g.R.Read.remaining c.read_retrying.new.reader in
     on_err {P = (taken : List ℕ) × Consumes before after taken × AnswersSome G (IsAtEnd after) first n u taken last p w} c.from_residual-in_err-feed-in-Ok.result (
@@ -116,8 +121,8 @@ returns-in_err-feed-in-Ok-clause-err g c =
       answers_some G _ first last n p u w (inv.taken ++ piece) done,
     )
 
-pub returns-in_err-feed-in-Ok-clause-steady : goal.returns-in_err-feed-in-Ok-clause-steady
-returns-in_err-feed-in-Ok-clause-steady g c =
+pub returns-in_err-feed-in-Ok-clause-leaves : goal.returns-in_err-feed-in-Ok-clause-leaves
+returns-in_err-feed-in-Ok-clause-leaves g c =
     let inv = c.loop-turn.invariant in
     let so_far = Finished-keeps _ _ _ _ _ _ _ _ _ inv.finished c.flush.ensures.keeps in
     let n = g.K.Kept.count c.args.keeper.now in
@@ -132,17 +137,22 @@ returns-in_err-feed-in-Ok-clause-steady g c =
     let v = g.W.Write.contents c.flush.new.writer in
     let w = g.W.Write.contents c.feed.new.writer in
     let piece = take c.in-Ok.n c.read_retrying.new.buf in
-    let done = next_err H G c.feed.ensures.honest first mid last n o p u v w 4_194_305 [] c.loop-turn.part.items inv.taken piece so_far inv.rest c.in_err-feed-in-Ok.ensures.err in (
-      inv.taken ++ piece,
-      Consumes-trans _ _ _ inv.taken piece inv.read c.in-Ok.ensures.ok,
-      some_steady G _ first last n p u w (inv.taken ++ piece) (answers_some G _ first last n p u w (inv.taken ++ piece) done),
-    )
+    let done = next_err H G c.feed.ensures.leaves.honest first mid last n o p u v w 4_194_305 [] c.loop-turn.part.items inv.taken piece so_far inv.rest c.in_err-feed-in-Ok.ensures.err in
+    record {
+      honest = λ h. inv.honest (c.feed.ensures.leaves.honest h);
+      counted = omega (arith, inv.counted, c.feed.ensures.leaves.counted);
+      steady = (
+        inv.taken ++ piece,
+        Consumes-trans _ _ _ inv.taken piece inv.read c.in-Ok.ensures.ok,
+        some_steady G _ first last n p u w (inv.taken ++ piece) (answers_some G _ first last n p u w (inv.taken ++ piece) done),
+      );
+    }
 
 pub returns-in_err-feed-in-Ok-clause-reached : goal.returns-in_err-feed-in-Ok-clause-reached
 returns-in_err-feed-in-Ok-clause-reached g c = λ h q.
     let inv = c.loop-turn.invariant in
     began_reached _ h _ _ _ _ _ _ _ c.in_err-feed-in-Ok.ensures.err
-    (finished_reached _ (c.feed.ensures.honest h) _ _ _ _ _ _ _ inv.finished q)
+    (finished_reached _ (c.feed.ensures.leaves.honest h) _ _ _ _ _ _ _ inv.finished q)
 
 -- ---- where the writer failed before a read
 
@@ -165,8 +175,8 @@ returns-in_err-flush-clause-err g c =
       answers_some H _ first last n o u w inv.taken (begun H first last n o u w _ so_far),
     )
 
-pub returns-in_err-flush-clause-steady : goal.returns-in_err-flush-clause-steady
-returns-in_err-flush-clause-steady g c =
+pub returns-in_err-flush-clause-leaves : goal.returns-in_err-flush-clause-leaves
+returns-in_err-flush-clause-leaves g c =
     let inv = c.loop-turn.invariant in
     let so_far = Finished-keeps _ _ _ _ _ _ _ _ _ inv.finished c.flush.ensures.keeps in
     let n = g.K.Kept.count c.args.keeper.now in
@@ -175,11 +185,16 @@ returns-in_err-flush-clause-steady g c =
     let last = g.K.Kept.vault c.loop-turn.keeper in
     let H = g.K.Kept.is_honest c.loop-turn.keeper in
     let u = g.W.Write.contents c.args.writer.now in
-    let w = g.W.Write.contents c.flush.new.writer in (
-      inv.taken,
-      inv.read,
-      some_steady H _ first last n o u w inv.taken (answers_some H _ first last n o u w inv.taken (begun H first last n o u w _ so_far)),
-    )
+    let w = g.W.Write.contents c.flush.new.writer in
+    record {
+      honest = inv.honest;
+      counted = inv.counted;
+      steady = (
+        inv.taken,
+        inv.read,
+        some_steady H _ first last n o u w inv.taken (answers_some H _ first last n o u w inv.taken (begun H first last n o u w _ so_far)),
+      );
+    }
 
 pub returns-in_err-flush-clause-reached : goal.returns-in_err-flush-clause-reached
 returns-in_err-flush-clause-reached g c = λ h q. finished_reached _ h _ _ _ _ _ _ _ c.loop-turn.invariant.finished q
@@ -218,8 +233,8 @@ returns-in-Err-clause-read g c = λ _.
       answers_ended H first last n o u w inv.taken so_far,
     )
 
-pub returns-in-Err-clause-steady : goal.returns-in-Err-clause-steady
-returns-in-Err-clause-steady g c =
+pub returns-in-Err-clause-leaves : goal.returns-in-Err-clause-leaves
+returns-in-Err-clause-leaves g c =
     let inv = c.loop-turn.invariant in
     let so_far = Finished-keeps _ _ _ _ _ _ _ _ _ inv.finished c.flush.ensures.keeps in
     let n = g.K.Kept.count c.args.keeper.now in
@@ -228,11 +243,16 @@ returns-in-Err-clause-steady g c =
     let last = g.K.Kept.vault c.loop-turn.keeper in
     let H = g.K.Kept.is_honest c.loop-turn.keeper in
     let u = g.W.Write.contents c.args.writer.now in
-    let w = g.W.Write.contents c.flush.new.writer in (
-      inv.taken,
-      Consumes-kept _ _ _ inv.taken inv.read c.in-Err.ensures.err,
-      some_steady H _ first last n o u w inv.taken (answers_some H _ first last n o u w inv.taken (begun H first last n o u w _ so_far)),
-    )
+    let w = g.W.Write.contents c.flush.new.writer in
+    record {
+      honest = inv.honest;
+      counted = inv.counted;
+      steady = (
+        inv.taken,
+        Consumes-kept _ _ _ inv.taken inv.read c.in-Err.ensures.err,
+        some_steady H _ first last n o u w inv.taken (answers_some H _ first last n o u w inv.taken (begun H first last n o u w _ so_far)),
+      );
+    }
 
 pub returns-in-Err-clause-reached : goal.returns-in-Err-clause-reached
 returns-in-Err-clause-reached g c = λ h q. finished_reached _ h _ _ _ _ _ _ _ c.loop-turn.invariant.finished q
@@ -271,8 +291,8 @@ returns-clause-read g c = λ _.
       answers_ended H first last n o u w inv.taken so_far,
     )
 
-pub returns-clause-steady : goal.returns-clause-steady
-returns-clause-steady g c =
+pub returns-clause-leaves : goal.returns-clause-leaves
+returns-clause-leaves g c =
     let inv = c.loop-turn.invariant in
     let so_far = inv.finished in
     let n = g.K.Kept.count c.args.keeper.now in
@@ -281,11 +301,16 @@ returns-clause-steady g c =
     let last = g.K.Kept.vault c.loop-turn.keeper in
     let H = g.K.Kept.is_honest c.loop-turn.keeper in
     let u = g.W.Write.contents c.args.writer.now in
-    let w = g.W.Write.contents c.loop-turn.writer in (
-      inv.taken,
-      inv.read,
-      some_steady H _ first last n o u w inv.taken (answers_some H _ first last n o u w inv.taken (begun H first last n o u w _ so_far)),
-    )
+    let w = g.W.Write.contents c.loop-turn.writer in
+    record {
+      honest = inv.honest;
+      counted = inv.counted;
+      steady = (
+        inv.taken,
+        inv.read,
+        some_steady H _ first last n o u w inv.taken (answers_some H _ first last n o u w inv.taken (begun H first last n o u w _ so_far)),
+      );
+    }
 
 pub returns-clause-reached : goal.returns-clause-reached
 returns-clause-reached g c = λ h q. finished_reached _ h _ _ _ _ _ _ _ c.loop-turn.invariant.finished q
@@ -312,9 +337,9 @@ loop-turn-preserved g c =
     record {
       taken = inv.taken ++ piece;
       read = Consumes-trans _ _ _ inv.taken piece inv.read c.in-Ok.ensures.ok;
-      honest = λ h. inv.honest (c.feed.ensures.honest h);
-      counted = omega (arith, inv.counted, c.feed.ensures.counted);
-      finished = next_ok H G c.feed.ensures.honest first mid last n o p u v w 4_194_305 [] now inv.taken piece so_far inv.rest c.in_ok-feed-in-Ok.ensures.ok;
+      honest = λ h. inv.honest (c.feed.ensures.leaves.honest h);
+      counted = omega (arith, inv.counted, c.feed.ensures.leaves.counted);
+      finished = next_ok H G c.feed.ensures.leaves.honest first mid last n o p u v w 4_194_305 [] now inv.taken piece so_far inv.rest c.in_ok-feed-in-Ok.ensures.ok;
       rest = next_part 4_194_305 [] inv.taken piece now c.feed.new.part.items inv.rest c.in_ok-feed-in-Ok.ensures.part;
       bound = c.feed.ensures.bound;
     }

@@ -1,7 +1,7 @@
 use Rattle.std.proofs.Common.{Err, inr, refl}
 use Rattle.std.proofs.lemmas.Result.{on_ok_weaker, IfErr-weaker}
 use Rattle.vault_core_model.specs.Leaves.{RoseOrIsFull}
-use Rattle.vault_core_model.proofs.Counts.{rose, stays}
+use Rattle.vault_core_model.proofs.Counts.{no_less, rose, stays}
 use Rattle.vault_http.specs.Hearing.{timed}
 use Rattle.vault_http.specs.declared.fault.ServeFault.TheVariants as faults
 use Rattle.vault_http.proofs.Counted.{reply_sent, step_steady}
@@ -24,19 +24,27 @@ returns-clause-err g c = λ h.
     (answer_left (RoseOrIsFull (g.K.Kept.count c.args.keeper.now) (g.K.Kept.count c.step-reply.new.keeper)) c.args.context.now.at c.args.context.now.shown c.args.context.now.caller c.args.command.now (g.K.Kept.vault c.args.keeper.now) (g.K.Kept.vault c.step-reply.new.keeper) (g.W.Write.contents c.args.writer.now) (g.W.Write.contents c.send.new.writer) c.step-reply.result c.drops.result c.in-Ok.bytes.items c.as_slice.result.now (c.step-reply.ensures.step h) c.drops.ensures c.in-Ok.ensures (rose _ _ _ c.step-reply.ensures.leaves.counted) c.as_slice.ensures.value)
     c.send.ensures.err
 
-pub returns-in_default-clause-steady : goal.returns-in_default-clause-steady
-returns-in_default-clause-steady g c =
+pub returns-in_default-clause-leaves : goal.returns-in_default-clause-leaves
+returns-in_default-clause-leaves g c =
     let step = c.step-reply in
     let a = g.W.Write.contents c.args.writer.now in
-    step_steady _ (Err faults.Memory) c.args.context.now.at c.args.context.now.shown c.args.context.now.caller _ _ _ _ c.args.command.now step.result a a step.ensures.step (stays _ _ _ step.ensures.leaves.counted) (refl {a = a})
+    record {
+      honest = step.ensures.leaves.honest;
+      counted = no_less _ _ _ step.ensures.leaves.counted;
+      steady = step_steady _ (Err faults.Memory) c.args.context.now.at c.args.context.now.shown c.args.context.now.caller _ _ _ _ c.args.command.now step.result a a step.ensures.step (stays _ _ _ step.ensures.leaves.counted) (refl {a = a});
+    }
 
-pub returns-clause-steady : goal.returns-clause-steady
-returns-clause-steady g c =
+pub returns-clause-leaves : goal.returns-clause-leaves
+returns-clause-leaves g c =
     let step = c.step-reply in
     let a = g.W.Write.contents c.args.writer.now in
     let b = g.W.Write.contents c.send.new.writer in
-    step_steady _ c.send.result c.args.context.now.at c.args.context.now.shown c.args.context.now.caller _ _ _ _ c.args.command.now step.result a b step.ensures.step (stays _ _ _ step.ensures.leaves.counted)
-    (reply_sent c.send.result c.args.context.now.at c.args.command.now c.args.context.now.shown step.result a b c.drops.result c.in-Ok.bytes.items c.as_slice.result.now c.drops.ensures c.in-Ok.ensures c.as_slice.ensures.value c.send.ensures.ok c.send.ensures.err)
+    record {
+      honest = step.ensures.leaves.honest;
+      counted = no_less _ _ _ step.ensures.leaves.counted;
+      steady = step_steady _ c.send.result c.args.context.now.at c.args.context.now.shown c.args.context.now.caller _ _ _ _ c.args.command.now step.result a b step.ensures.step (stays _ _ _ step.ensures.leaves.counted)
+          (reply_sent c.send.result c.args.context.now.at c.args.command.now c.args.context.now.shown step.result a b c.drops.result c.in-Ok.bytes.items c.as_slice.result.now c.drops.ensures c.in-Ok.ensures c.as_slice.ensures.value c.send.ensures.ok c.send.ensures.err);
+    }
 
 pub returns-in_default-clause-heard : goal.returns-in_default-clause-heard
 returns-in_default-clause-heard g c = λ h.

@@ -46,12 +46,16 @@ returns-in-Planned-clause-taken g c =
     (planned_taken c.args.occasion.now.hosts.now c.args.occasion.now.moment (g.R.Read.remaining c.args.reader.now) (g.R.Read.remaining c.judge_request.new.reader) (g.R.Read.remaining c.serve_plan.new.reader) j.0 c.in-Planned.plan c.in-Planned.shown j.1 (rw c.in-Planned.is at j.2))
     c.serve_plan.ensures.taken
 
-pub returns-in-Planned-clause-steady : goal.returns-in-Planned-clause-steady
-returns-in-Planned-clause-steady g c =
+pub returns-in-Planned-clause-leaves : goal.returns-in-Planned-clause-leaves
+returns-in-Planned-clause-leaves g c =
     let j = rw c.in-Planned.is at c.in_ok-judge_request.ensures.judged.2 in
     let before = c.args.keeper.now in
     let after = c.serve_plan.new.keeper in
-    subst (λ (m : Option ℕ). Steady (g.K.Kept.is_honest after) c.serve_plan.result m (g.K.Kept.vault before) (g.K.Kept.vault after) (g.K.Kept.count before) (g.K.Kept.count after) (g.W.Write.contents c.args.writer.now) (g.W.Write.contents c.serve_plan.new.writer)) (sym j.2.2) c.serve_plan.ensures.steady
+    record {
+      honest = c.serve_plan.ensures.leaves.honest;
+      counted = c.serve_plan.ensures.leaves.counted;
+      steady = subst (λ (m : Option ℕ). Steady (g.K.Kept.is_honest after) c.serve_plan.result m (g.K.Kept.vault before) (g.K.Kept.vault after) (g.K.Kept.count before) (g.K.Kept.count after) (g.W.Write.contents c.args.writer.now) (g.W.Write.contents c.serve_plan.new.writer)) (sym j.2.2) c.serve_plan.ensures.leaves.steady;
+    }
 
 pub returns-in-Planned-clause-heard : goal.returns-in-Planned-clause-heard
 returns-in-Planned-clause-heard g c =

@@ -27,9 +27,13 @@ returns-clause-taken g c =
     let P : List (List ℕ) → Option ℕ → Type 0 = λ hosts m. OnOk c.serve_for.result (Taken hosts m (g.R.Read.remaining c.args.reader.now) (g.R.Read.remaining c.serve_for.new.reader)) in
     subst (λ (m : Option ℕ). P [] m) same (subst (λ (hosts : List (List ℕ)). P hosts c.from_secs-moment.result) c.any-hosts.ensures c.serve_for.ensures.taken)
 
-pub returns-clause-steady : goal.returns-clause-steady
-returns-clause-steady g c =
+pub returns-clause-leaves : goal.returns-clause-leaves
+returns-clause-leaves g c =
     let same : c.from_secs-moment.result ≡ moment_at c.args.reading = search rules in
     let before = c.args.keeper.now in
     let after = c.serve_for.new.keeper in
-    subst (λ (m : Option ℕ). Steady (g.K.Kept.is_honest after) c.serve_for.result m (g.K.Kept.vault before) (g.K.Kept.vault after) (g.K.Kept.count before) (g.K.Kept.count after) (g.W.Write.contents c.args.writer.now) (g.W.Write.contents c.serve_for.new.writer)) same c.serve_for.ensures.steady
+    record {
+      honest = c.serve_for.ensures.leaves.honest;
+      counted = c.serve_for.ensures.leaves.counted;
+      steady = subst (λ (m : Option ℕ). Steady (g.K.Kept.is_honest after) c.serve_for.result m (g.K.Kept.vault before) (g.K.Kept.vault after) (g.K.Kept.count before) (g.K.Kept.count after) (g.W.Write.contents c.args.writer.now) (g.W.Write.contents c.serve_for.new.writer)) same c.serve_for.ensures.leaves.steady;
+    }

@@ -12,7 +12,10 @@ pub returns-clause-err : goal.returns-clause-err
 returns-clause-err g c = λ h.
     IfErr-weaker c.conclude.result _ _ (λ e d. plan_left (RoseOrIsFull (g.K.Kept.count c.args.keeper.now) (g.K.Kept.count c.conclude.new.keeper)) c.args.planned.shown c.args.planned.plan _ _ _ _ _ _ _ e c.in_ok-judged.judged c.in_ok-judged.ensures.command (rw c.in_ok-judged.ensures.reported at c.send_interim-stated.ensures.ok) d) (c.conclude.ensures.err h)
 
-pub returns-clause-steady : goal.returns-clause-steady
-returns-clause-steady g c =
-    plan_steady _ c.conclude.result c.args.planned.plan.at c.args.planned.shown c.args.planned.plan.headers.caller _ _ _ _ c.in_ok-judged.judged c.args.planned.plan.headers.waits (g.W.Write.contents c.args.writer.now) (g.W.Write.contents c.send_interim-stated.new.writer) (g.W.Write.contents c.conclude.new.writer)
-    (rw c.in_ok-judged.ensures.reported at c.send_interim-stated.ensures.ok) c.conclude.ensures.steady
+pub returns-clause-leaves : goal.returns-clause-leaves
+returns-clause-leaves g c = record {
+  honest = c.conclude.ensures.leaves.honest;
+  counted = c.conclude.ensures.leaves.counted;
+  steady = plan_steady _ c.conclude.result c.args.planned.plan.at c.args.planned.shown c.args.planned.plan.headers.caller _ _ _ _ c.in_ok-judged.judged c.args.planned.plan.headers.waits (g.W.Write.contents c.args.writer.now) (g.W.Write.contents c.send_interim-stated.new.writer) (g.W.Write.contents c.conclude.new.writer)
+      (rw c.in_ok-judged.ensures.reported at c.send_interim-stated.ensures.ok) c.conclude.ensures.leaves.steady;
+}

@@ -19,7 +19,7 @@ pub returns-in-Ok-run-clause-run : goal.returns-in-Ok-run-clause-run
 returns-in-Ok-run-clause-run g c clean v is =
     let last = c.run.new.keeper in
     let after = subst (λ h. HasCleanDisk (state g.S.Store h)) c.into_connection.ensures.same clean in
-    let before = c.run.ensures.honest after in
+    let before = c.run.ensures.leaves.honest after in
     let there = c.in-Ok.ensures.sound before in
     let here = subst (λ db. AreSound db v) (sym (c.in-Ok.ensures.same before).0.now_is) is in
     let same = same_vault _ _ v there.spells here.spells in
@@ -43,7 +43,7 @@ sound-before a b v same is = subst (λ db. AreSound db v) same is
 pub returns-in-Ok-run-clause-sound : goal.returns-in-Ok-run-clause-sound
 returns-in-Ok-run-clause-sound g c clean =
     let after = subst (λ h. HasCleanDisk (state g.S.Store h)) c.into_connection.ensures.same clean in
-    let before = c.run.ensures.honest after in
+    let before = c.run.ensures.leaves.honest after in
     (_, sound-before _ _ _ (c.in-Ok.ensures.same before).0.now_is (c.in-Ok.ensures.sound before))
 
 -- a crash leaves the same of what is the same
@@ -56,7 +56,7 @@ same-keeper {S} g k l v same alone = subst (λ (m : SqlKeeper S g). LeavesAlone 
 pub returns-in-Err-run-clause-refused : goal.returns-in-Err-run-clause-refused
 returns-in-Err-run-clause-refused g c clean =
     let after = subst (λ h. HasCleanDisk (state g.S.Store h)) c.into_connection-in-Err-run.ensures.same clean in
-    let before = c.run.ensures.honest after in
+    let before = c.run.ensures.leaves.honest after in
     ∥∥₁_map c.into_connection-in-Err-run.ensures.stands (λ stands.
     inr (
       _,

@@ -6,13 +6,19 @@ use Rattle.vault_store_reads.proofs.WantLemmas.{not_prepared}
 use Rattle.vault_store.proofs.ShutLemmas.{shut_text, shut_plain, shut_unlisted, shut_asked}
 use Rattle.vault_store.proofs.shut.refuse_shut.Goals as goal
 
-pub returns-clause-same : goal.returns-clause-same
-returns-clause-same g c clean v was =
-    unchanged_keeps (state g.S.Store c.args.conn.now) (state g.S.Store c.prepare.new.self) v (c.in_ok-_statement.ensures.ok clean).1 was
+pub returns-clause-leaves : goal.returns-clause-leaves
+returns-clause-leaves g c = record {
+  honest = search rules;
+  same = λ clean v was.
+      unchanged_keeps (state g.S.Store c.args.conn.now) (state g.S.Store c.prepare.new.self) v (c.in_ok-_statement.ensures.ok clean).1 was;
+}
 
-pub returns-in_err-_statement-clause-same : goal.returns-in_err-_statement-clause-same
-returns-in_err-_statement-clause-same g c clean v was =
-    refused_keeps (state g.S.Store c.args.conn.now) (state g.S.Store c.prepare.new.self) _ [] _ v (c.in_err-_statement.ensures.err clean []) was
+pub returns-in_err-_statement-clause-leaves : goal.returns-in_err-_statement-clause-leaves
+returns-in_err-_statement-clause-leaves g c = record {
+  honest = search rules;
+  same = λ clean v was.
+      refused_keeps (state g.S.Store c.args.conn.now) (state g.S.Store c.prepare.new.self) _ [] _ v (c.in_err-_statement.ensures.err clean []) was;
+}
 
 pub returns-in_err-_statement-clause-memory : goal.returns-in_err-_statement-clause-memory
 returns-in_err-_statement-clause-memory g c well v was =

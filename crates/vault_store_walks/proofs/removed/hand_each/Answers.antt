@@ -72,16 +72,19 @@ returns-in_default-clause-done g c clean v was =
     let are = all_removed _ (state g.S.Store now) v (still_kept (state g.S.Store c.args.conn.now) _ v (inl it.2) was) it.0 shown in
     all_taken g.T.Sink.takes c.args.sink.now _ it.0 (removed_entries v) it.3 are
 
-pub returns-in_default-clause-same : goal.returns-in_default-clause-same
-returns-in_default-clause-same g c clean v was =
-    let moved = c.next.follows.holds-at-none in
-    let now = c.next.follows.lender-at-none.conn.now in
-    let end = c.conn-in_default-1.given.0 in
-    let same : now ≡ end = search rules in
-    let late : HasCleanDisk (state g.S.Store now) = search rules in
-    let it = c.rows.invariant.3 (omega (arith, moved.survives.clean)) v ∣ was ∣₁ in
-    let still = rw c.in_ok-row.was at (moved.same late) in
-    subst (λ (h : Held g.row.S.Denot). Keeps (state g.S.Store h) v) same (unchanged_keeps (state g.S.Store c.args.conn.now) (state g.S.Store now) v (inl (unchanged_then _ _ _ it.2 still)) was)
+pub returns-in_default-clause-leaves : goal.returns-in_default-clause-leaves
+returns-in_default-clause-leaves g c = record {
+  honest = search rules;
+  same = λ clean v was.
+      let moved = c.next.follows.holds-at-none in
+      let now = c.next.follows.lender-at-none.conn.now in
+      let end = c.conn-in_default-1.given.0 in
+      let same : now ≡ end = search rules in
+      let late : HasCleanDisk (state g.S.Store now) = search rules in
+      let it = c.rows.invariant.3 (omega (arith, moved.survives.clean)) v ∣ was ∣₁ in
+      let still = rw c.in_ok-row.was at (moved.same late) in
+      subst (λ (h : Held g.row.S.Denot). Keeps (state g.S.Store h) v) same (unchanged_keeps (state g.S.Store c.args.conn.now) (state g.S.Store now) v (inl (unchanged_then _ _ _ it.2 still)) was);
+}
 
 pub returns-in_default-clause-open : goal.returns-in_default-clause-open
 returns-in_default-clause-open g c clean =
@@ -110,16 +113,19 @@ returns-then-not-branch-clause-done g c clean v was =
     let on = given_removed g.S.Store c.args.conn.now now v was (unchanged_then _ _ _ it.2 still) (it.0 ++ c.in-Some.row.now ∷ []) given in
     one_refused g.T.Sink.takes c.args.sink.now c.rows.sink _ it.0 c.in-Some.row.now one.0 on.0 (removed_entries v) it.3 one.1 one.2 on.1
 
-pub returns-then-not-branch-clause-same : goal.returns-then-not-branch-clause-same
-returns-then-not-branch-clause-same g c clean v was =
-    let moved = c.next.follows.holds-at-none in
-    let now = c.next.follows.lender-at-none.conn.now in
-    let end = c.conn-then-not-branch-1.given.0 in
-    let same : now ≡ end = search rules in
-    let late : HasCleanDisk (state g.S.Store now) = search rules in
-    let it = c.rows.invariant.3 (omega (arith, moved.survives.clean)) v ∣ was ∣₁ in
-    let still = rw c.in_ok-row.was at (moved.same late) in
-    subst (λ (h : Held g.row.S.Denot). Keeps (state g.S.Store h) v) same (unchanged_keeps (state g.S.Store c.args.conn.now) (state g.S.Store now) v (inl (unchanged_then _ _ _ it.2 still)) was)
+pub returns-then-not-branch-clause-leaves : goal.returns-then-not-branch-clause-leaves
+returns-then-not-branch-clause-leaves g c = record {
+  honest = search rules;
+  same = λ clean v was.
+      let moved = c.next.follows.holds-at-none in
+      let now = c.next.follows.lender-at-none.conn.now in
+      let end = c.conn-then-not-branch-1.given.0 in
+      let same : now ≡ end = search rules in
+      let late : HasCleanDisk (state g.S.Store now) = search rules in
+      let it = c.rows.invariant.3 (omega (arith, moved.survives.clean)) v ∣ was ∣₁ in
+      let still = rw c.in_ok-row.was at (moved.same late) in
+      subst (λ (h : Held g.row.S.Denot). Keeps (state g.S.Store h) v) same (unchanged_keeps (state g.S.Store c.args.conn.now) (state g.S.Store now) v (inl (unchanged_then _ _ _ it.2 still)) was);
+}
 
 pub returns-then-not-branch-clause-open : goal.returns-then-not-branch-clause-open
 returns-then-not-branch-clause-open g c clean =
@@ -145,16 +151,19 @@ returns-in_err-hand-clause-some g c clean = some_err g.T.Sink.takes c.args.sink.
     let kept : c.rows.sink ≡ c.hand.new.sink = search rules in
     subst (λ s. TakesSome g.T.Sink.takes c.args.sink.now (removed_entries v) s) kept (some_taken g.T.Sink.takes c.args.sink.now c.rows.sink it.0 on.0 (removed_entries v) it.3 on.1))
 
-pub returns-in_err-hand-clause-same : goal.returns-in_err-hand-clause-same
-returns-in_err-hand-clause-same g c clean v was =
-    let moved = c.next.follows.holds-at-none in
-    let now = c.next.follows.lender-at-none.conn.now in
-    let end = c.conn-in_err-hand-1.given.0 in
-    let same : now ≡ end = search rules in
-    let late : HasCleanDisk (state g.S.Store now) = search rules in
-    let it = c.rows.invariant.3 (omega (arith, moved.survives.clean)) v ∣ was ∣₁ in
-    let still = rw c.in_ok-row.was at (moved.same late) in
-    subst (λ (h : Held g.row.S.Denot). Keeps (state g.S.Store h) v) same (unchanged_keeps (state g.S.Store c.args.conn.now) (state g.S.Store now) v (inl (unchanged_then _ _ _ it.2 still)) was)
+pub returns-in_err-hand-clause-leaves : goal.returns-in_err-hand-clause-leaves
+returns-in_err-hand-clause-leaves g c = record {
+  honest = search rules;
+  same = λ clean v was.
+      let moved = c.next.follows.holds-at-none in
+      let now = c.next.follows.lender-at-none.conn.now in
+      let end = c.conn-in_err-hand-1.given.0 in
+      let same : now ≡ end = search rules in
+      let late : HasCleanDisk (state g.S.Store now) = search rules in
+      let it = c.rows.invariant.3 (omega (arith, moved.survives.clean)) v ∣ was ∣₁ in
+      let still = rw c.in_ok-row.was at (moved.same late) in
+      subst (λ (h : Held g.row.S.Denot). Keeps (state g.S.Store h) v) same (unchanged_keeps (state g.S.Store c.args.conn.now) (state g.S.Store now) v (inl (unchanged_then _ _ _ it.2 still)) was);
+}
 
 -- no row could be had
 
@@ -169,16 +178,19 @@ returns-in_err-row-clause-some g c clean = some_err g.T.Sink.takes c.args.sink.n
     let on = given_removed g.S.Store c.args.conn.now _ v was it.2 it.0 it.1 in
     some_taken g.T.Sink.takes c.args.sink.now c.rows.sink it.0 on.0 (removed_entries v) it.3 on.1)
 
-pub returns-in_err-row-clause-same : goal.returns-in_err-row-clause-same
-returns-in_err-row-clause-same g c clean v was =
-    let moved = c.next.follows.holds-at-none in
-    let now = c.next.follows.lender-at-none.conn.now in
-    let end = c.conn-in_err-row-1.given.0 in
-    let same : now ≡ end = search rules in
-    let late : HasCleanDisk (state g.S.Store now) = search rules in
-    let it = c.rows.invariant.3 (omega (arith, moved.survives.clean)) v ∣ was ∣₁ in
-    let kept = rw c.in_err-row.was at (moved.kept late) in
-    subst (λ (h : Held g.row.S.Denot). Keeps (state g.S.Store h) v) same (unchanged_keeps _ (state g.S.Store now) v (undone _ _ _ kept) (unchanged_keeps (state g.S.Store c.args.conn.now) _ v (inl it.2) was))
+pub returns-in_err-row-clause-leaves : goal.returns-in_err-row-clause-leaves
+returns-in_err-row-clause-leaves g c = record {
+  honest = search rules;
+  same = λ clean v was.
+      let moved = c.next.follows.holds-at-none in
+      let now = c.next.follows.lender-at-none.conn.now in
+      let end = c.conn-in_err-row-1.given.0 in
+      let same : now ≡ end = search rules in
+      let late : HasCleanDisk (state g.S.Store now) = search rules in
+      let it = c.rows.invariant.3 (omega (arith, moved.survives.clean)) v ∣ was ∣₁ in
+      let kept = rw c.in_err-row.was at (moved.kept late) in
+      subst (λ (h : Held g.row.S.Denot). Keeps (state g.S.Store h) v) same (unchanged_keeps _ (state g.S.Store now) v (undone _ _ _ kept) (unchanged_keeps (state g.S.Store c.args.conn.now) _ v (inl it.2) was));
+}
 
 pub returns-in_err-hand-clause-survives : goal.returns-in_err-hand-clause-survives
 returns-in_err-hand-clause-survives g c =
@@ -198,9 +210,12 @@ returns-then-not-branch-clause-survives g c =
     let same : now ≡ end = search rules in
     subst (λ (h : Held g.row.S.Denot). Survives old (state g.S.Store h) (IsQuiet old)) same (survives_then old _ (state g.S.Store now) _ _ _ (λ _ db q. q) (λ _ db none. absurd none) c.rows.invariant.1 moved.survives)
 
-pub returns-in_err-rows-clause-same : goal.returns-in_err-rows-clause-same
-returns-in_err-rows-clause-same g c clean v was =
-    refused_keeps g.S.Store c.args.conn.now c.query.follows.lender-at-none v was clean c.query.result c.query.follows.holds-at-none (search rules)
+pub returns-in_err-rows-clause-leaves : goal.returns-in_err-rows-clause-leaves
+returns-in_err-rows-clause-leaves g c = record {
+  honest = search rules;
+  same = λ clean v was.
+      refused_keeps g.S.Store c.args.conn.now c.query.follows.lender-at-none v was clean c.query.result c.query.follows.holds-at-none (search rules);
+}
 
 -- more rows than can be counted
 
@@ -211,14 +226,17 @@ returns-clause-some g c clean v was =
     let on = given_removed g.S.Store c.args.conn.now _ v was it.2 it.0 it.1 in
     some_taken g.T.Sink.takes c.args.sink.now c.rows.sink it.0 on.0 (removed_entries v) it.3 on.1
 
-pub returns-clause-same : goal.returns-clause-same
-returns-clause-same g c clean v was =
-    let now = c.rows.rows.conn.now in
-    let end = c.conn-2-1.given.0 in
-    let same : now ≡ end = search rules in
-    let late : HasCleanDisk (state g.S.Store now) = search rules in
-    let it = c.rows.invariant.3 late v ∣ was ∣₁ in
-    subst (λ (h : Held g.row.S.Denot). Keeps (state g.S.Store h) v) same (unchanged_keeps (state g.S.Store c.args.conn.now) (state g.S.Store now) v (inl it.2) was)
+pub returns-clause-leaves : goal.returns-clause-leaves
+returns-clause-leaves g c = record {
+  honest = search rules;
+  same = λ clean v was.
+      let now = c.rows.rows.conn.now in
+      let end = c.conn-2-1.given.0 in
+      let same : now ≡ end = search rules in
+      let late : HasCleanDisk (state g.S.Store now) = search rules in
+      let it = c.rows.invariant.3 late v ∣ was ∣₁ in
+      subst (λ (h : Held g.row.S.Denot). Keeps (state g.S.Store h) v) same (unchanged_keeps (state g.S.Store c.args.conn.now) (state g.S.Store now) v (inl it.2) was);
+}
 
 -- a store that works
 

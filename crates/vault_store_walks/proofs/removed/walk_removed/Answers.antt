@@ -9,8 +9,8 @@ returns-clause-value g c clean v was =
 
 pub returns-clause-read : goal.returns-clause-read
 returns-clause-read g c = record {
-  same = c.hand_each.ensures.same;
-  honest = λ clean. c.hand_each.ensures.honest clean;
+  same = c.hand_each.ensures.leaves.same;
+  honest = λ clean. c.hand_each.ensures.leaves.honest clean;
   mode = λ alone. c.hand_each.ensures.mode alone;
   crash = λ v was. of_vault _ _ c.hand_each.ensures.survives v was;
 }

@@ -25,7 +25,7 @@ returns-in_err-take_byte-clause-err g c =
     let most = c.args.room.most in
     let part = c.args.part.now.items in
     let now = c.loop-byte.part.items in
-    let done = next_err H G c.take_byte.ensures.honest first mid last n o p u v w most part now (take at s) (get_or s at 0 ∷ []) inv.finished inv.rest c.in_err-take_byte.ensures.err in
+    let done = next_err H G c.take_byte.ensures.leaves.honest first mid last n o p u v w most part now (take at s) (get_or s at 0 ∷ []) inv.finished inv.rest c.in_err-take_byte.ensures.err in
     let whole = err_more most part (take at s ++ get_or s at 0 ∷ []) (drop (at + 1) s) G first last n p u w done in
     on_err {P = Began G first n u (asked_in most part s) last p w} c.from_residual.result (rw (← whole_cut s at within) at whole)
 
@@ -49,11 +49,11 @@ loop-byte-preserved g c =
     let most = c.args.room.most in
     let part = c.args.part.now.items in
     let now = c.loop-byte.part.items in
-    let done = next_ok H G c.take_byte.ensures.honest first mid last n o p u v w most part now (take at s) (get_or s at 0 ∷ []) inv.finished inv.rest c.in_ok-take_byte.ensures.ok in
+    let done = next_ok H G c.take_byte.ensures.leaves.honest first mid last n o p u v w most part now (take at s) (get_or s at 0 ∷ []) inv.finished inv.rest c.in_ok-take_byte.ensures.ok in
     let left = next_part most part (take at s) (get_or s at 0 ∷ []) now c.take_byte.new.part.items inv.rest c.in_ok-take_byte.ensures.part in
     record {
-      honest = λ h. inv.honest (c.take_byte.ensures.honest h);
-      counted = omega (arith, inv.counted, c.take_byte.ensures.counted);
+      honest = λ h. inv.honest (c.take_byte.ensures.leaves.honest h);
+      counted = omega (arith, inv.counted, c.take_byte.ensures.leaves.counted);
       finished = rw (← take_next s at within) at done;
       rest = rw (← take_next s at within) at left;
       bound = c.take_byte.ensures.bound;

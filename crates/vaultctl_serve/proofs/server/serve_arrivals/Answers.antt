@@ -16,11 +16,11 @@ loop-init g c =
 -- the steps so far, and then that of this connection
 pub loop-preserved : goal.loop-preserved
 loop-preserved g c = record {
-  honest = λ h. c.loop.invariant.honest (c.serve_watched.ensures.leaves.0 h);
-  counted = omega (arith, c.loop.invariant.counted, c.serve_watched.ensures.leaves.1);
-  reported = reports-then g.T.Reporter.fails _ _ _ _ _ _ _ c.faults-since.ensures c.loop.invariant.counted c.serve_watched.ensures.leaves.1 c.loop.invariant.reported c.serve_watched.ensures.reported c.serve_watched.ensures.once;
-  timely = λ h. OnTime-append c.loop.counter 1 _ _ _ _ _ _ (c.loop.invariant.timely (c.serve_watched.ensures.leaves.0 h)) (c.serve_watched.ensures.timely h);
-  heard = λ h. HearsAll-more g.H.Hears.going g.H.Hears.hears _ _ _ _ _ _ (c.loop.invariant.heard (c.serve_watched.ensures.leaves.0 h)) (sym c.goes_on.ensures ∙ c.if-not-goes_on.false) (c.serve_watched.ensures.heard h);
+  honest = λ h. c.loop.invariant.honest (c.serve_watched.ensures.leaves.honest h);
+  counted = omega (arith, c.loop.invariant.counted, c.serve_watched.ensures.leaves.counted);
+  reported = reports-then g.T.Reporter.fails _ _ _ _ _ _ _ c.faults-since.ensures c.loop.invariant.counted c.serve_watched.ensures.leaves.counted c.loop.invariant.reported c.serve_watched.ensures.reported c.serve_watched.ensures.once;
+  timely = λ h. OnTime-append c.loop.counter 1 _ _ _ _ _ _ (c.loop.invariant.timely (c.serve_watched.ensures.leaves.honest h)) (c.serve_watched.ensures.timely h);
+  heard = λ h. HearsAll-more g.H.Hears.going g.H.Hears.hears _ _ _ _ _ _ (c.loop.invariant.heard (c.serve_watched.ensures.leaves.honest h)) (sym c.goes_on.ensures ∙ c.if-not-goes_on.false) (c.serve_watched.ensures.heard h);
 }
 
 -- who hears lets no more be carried out

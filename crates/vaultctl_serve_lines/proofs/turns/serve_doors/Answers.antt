@@ -44,7 +44,7 @@ returns-in-End-clause-timely g c =
     let room : taken + 1 ≤ c.args.count = omega (arith, c.loop-turn.invariant.within, c.if-taken-count.false) in
     let P : Turn → Type 0 = λ turn. SteppedWithin (most_of turn) mid after between new in
     λ h. Within-more (taken + 1) c.args.count before after old new room
-    (Within-append taken 1 before mid after old between new (c.loop-turn.invariant.timely (c.watch_turn.ensures.leaves.0 h)) (subst P c.in-End.is (c.watch_turn.ensures.timely h)))
+    (Within-append taken 1 before mid after old between new (c.loop-turn.invariant.timely (c.watch_turn.ensures.leaves.honest h)) (subst P c.in-End.is (c.watch_turn.ensures.timely h)))
 
 pub returns-in-End-clause-stepped : goal.returns-in-End-clause-stepped
 returns-in-End-clause-stepped g c = λ h. Within-stepped c.args.count _ _ _ _ (returns-in-End-clause-timely g c h)
@@ -53,7 +53,7 @@ pub returns-in-End-clause-reached : goal.returns-in-End-clause-reached
 returns-in-End-clause-reached g c = λ h before. Stepped-reached c.args.count _ _ (returns-in-End-clause-stepped g c h) before
 
 pub returns-in-End-clause-heard : goal.returns-in-End-clause-heard
-returns-in-End-clause-heard g c = λ h. HearsAll-more g.H.Hears.going g.H.Hears.hears _ _ _ _ _ _ (c.loop-turn.invariant.heard (c.watch_turn.ensures.leaves.0 h)) (sym c.goes_on.ensures ∙ c.if-not-goes_on.false) (c.watch_turn.ensures.heard h)
+returns-in-End-clause-heard g c = λ h. HearsAll-more g.H.Hears.going g.H.Hears.hears _ _ _ _ _ _ (c.loop-turn.invariant.heard (c.watch_turn.ensures.leaves.honest h)) (sym c.goes_on.ensures ∙ c.if-not-goes_on.false) (c.watch_turn.ensures.heard h)
 
 -- the turns so far, and then this one, which took nothing or one
 pub loop-turn-preserved : goal.loop-turn-preserved
@@ -76,11 +76,11 @@ loop-turn-preserved g c =
     let P : ℕ → Type 0 = λ n. SteppedWithin n before after old new in
     record {
       within = room;
-      honest = λ h. c.loop-turn.invariant.honest (c.watch_turn.ensures.leaves.0 h);
-      counted = omega (arith, c.loop-turn.invariant.counted, c.watch_turn.ensures.leaves.1);
-      reported = reports-then g.T.Reporter.fails _ _ _ _ _ _ _ c.faults-since.ensures c.loop-turn.invariant.counted c.watch_turn.ensures.leaves.1 c.loop-turn.invariant.reported c.watch_turn.ensures.reported c.watch_turn.ensures.once;
-      timely = λ h. subst P (sym summed) (Within-append taken (most_of c.watch_turn.result) before mid after old between new (c.loop-turn.invariant.timely (c.watch_turn.ensures.leaves.0 h)) (c.watch_turn.ensures.timely h));
-      heard = λ h. HearsAll-more g.H.Hears.going g.H.Hears.hears _ _ _ _ _ _ (c.loop-turn.invariant.heard (c.watch_turn.ensures.leaves.0 h)) (sym c.goes_on.ensures ∙ c.if-not-goes_on.false) (c.watch_turn.ensures.heard h);
+      honest = λ h. c.loop-turn.invariant.honest (c.watch_turn.ensures.leaves.honest h);
+      counted = omega (arith, c.loop-turn.invariant.counted, c.watch_turn.ensures.leaves.counted);
+      reported = reports-then g.T.Reporter.fails _ _ _ _ _ _ _ c.faults-since.ensures c.loop-turn.invariant.counted c.watch_turn.ensures.leaves.counted c.loop-turn.invariant.reported c.watch_turn.ensures.reported c.watch_turn.ensures.once;
+      timely = λ h. subst P (sym summed) (Within-append taken (most_of c.watch_turn.result) before mid after old between new (c.loop-turn.invariant.timely (c.watch_turn.ensures.leaves.honest h)) (c.watch_turn.ensures.timely h));
+      heard = λ h. HearsAll-more g.H.Hears.going g.H.Hears.hears _ _ _ _ _ _ (c.loop-turn.invariant.heard (c.watch_turn.ensures.leaves.honest h)) (sym c.goes_on.ensures ∙ c.if-not-goes_on.false) (c.watch_turn.ensures.heard h);
     }
 
 -- nothing came any more

@@ -3,8 +3,11 @@ use Rattle.std.proofs.lemmas.Result.{IfOk-weaker}
 use Rattle.vaultctl_work.proofs.IntakeLemmas.{steady_by}
 use Rattle.vaultctl_work.proofs.intake.take_in_at.Goals as goal
 
-pub returns-clause-steady : goal.returns-clause-steady
-returns-clause-steady g c = let s = c.take_in_and_print-stated.ensures.steady in steady_by _ _ _ _ _ s.0 s.1 s.3 s.5
+pub returns-clause-leaves : goal.returns-clause-leaves
+returns-clause-leaves g c =
+    let left = c.take_in_and_print-stated.ensures.leaves in
+    let s = left.steady in
+    record { honest = left.honest; counted = left.counted; steady = steady_by _ _ _ _ _ s.0 s.1 s.3 s.5 }
 
 pub returns-clause-printed : goal.returns-clause-printed
 returns-clause-printed g c = IfOk-weaker c.take_in_and_print-stated.result.0 _ _ (λ stated it. inl it) c.take_in_and_print-stated.ensures.printed

@@ -1,10 +1,10 @@
-use Rattle.std.proofs.Common.{inl, inr, refl}
+use Rattle.std.proofs.Common.{arith, inl, inr, refl}
 use Rattle.std.proofs.lemmas.Result.{IfOk-weaker}
 use Rattle.vaultctl_work.proofs.IntakeLemmas.{refusal_stated, taken_then}
 use Rattle.vaultctl_work.proofs.intake.take_in_read.Goals as goal
 
-pub returns-in_default-clause-steady : goal.returns-in_default-clause-steady
-returns-in_default-clause-steady g c = inl refl
+pub returns-in_default-clause-leaves : goal.returns-in_default-clause-leaves
+returns-in_default-clause-leaves g c = record { honest = λ h. h; counted = omega arith; steady = inl refl }
 
 pub returns-in_default-clause-printed : goal.returns-in_default-clause-printed
 returns-in_default-clause-printed g c = IfOk-weaker c.print_refusal-refused.result _ _ (λ stated it. refusal_stated _ stated _ _ it) c.print_refusal-refused.ensures.ok

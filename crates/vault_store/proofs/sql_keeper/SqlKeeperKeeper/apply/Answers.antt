@@ -32,16 +32,16 @@ invariant_of-self-in-Ok-apply_change g c =
       sure = λ _ clean. c.in-Ok-apply_change.ensures.open clean;
       knows = ∥∥₁_elim k.kept ∥∥₁_prop (λ kept. ∥∥₁_map k.knows (λ knows clean.
           let before = c.apply_change.ensures.honest clean in
-          let early = c.check_open.ensures.honest before in
-          let in_time = subst (λ (w : Vault). w.last ≤ c.args.at) (sym c.check_open.ensures.same) (c.requires.in_time early) in
-          let allowed = subst (λ (w : Vault). Allows w c.args.at c.args.change.now) (sym c.check_open.ensures.same) (c.requires.allowed early) in
+          let early = c.check_open.ensures.read.leaves.honest before in
+          let in_time = subst (λ (w : Vault). w.last ≤ c.args.at) (sym c.check_open.ensures.read.leaves.same) (c.requires.in_time early) in
+          let allowed = subst (λ (w : Vault). Allows w c.args.at c.args.change.now) (sym c.check_open.ensures.read.leaves.same) (c.requires.allowed early) in
           subst (AreKnown c.follow.new.self) (sym more) (c.follow.ensures _ (kept before).sound in_time allowed (knows before))));
       kept = ∥∥₁_map k.kept (λ kept clean.
           let before = c.apply_change.ensures.honest clean in
-          let early = c.check_open.ensures.honest before in
+          let early = c.check_open.ensures.read.leaves.honest before in
           let it = kept before in
-          let in_time = subst (λ (w : Vault). w.last ≤ c.args.at) (sym c.check_open.ensures.same) (c.requires.in_time early) in
-          let allowed = subst (λ (w : Vault). Allows w c.args.at c.args.change.now) (sym c.check_open.ensures.same) (c.requires.allowed early) in
+          let in_time = subst (λ (w : Vault). w.last ≤ c.args.at) (sym c.check_open.ensures.read.leaves.same) (c.requires.in_time early) in
+          let allowed = subst (λ (w : Vault). Allows w c.args.at c.args.change.now) (sym c.check_open.ensures.read.leaves.same) (c.requires.allowed early) in
           let done = c.in-Ok-apply_change.ensures.done clean _ it.keeps in_time allowed in
           kept_alone _ _ _ _ more c.new-self.ensures
           record { sound = Sound-changed _ _ _ it.sound in_time allowed; keeps = done.0; left = done.1 });
@@ -71,10 +71,10 @@ invariant_of-self-in-Err-apply_change g c =
       knows = known_still c.apply_change.ensures.honest k.knows;
       kept = ∥∥₁_map k.kept (λ kept clean.
           let before = c.apply_change.ensures.honest clean in
-          let early = c.check_open.ensures.honest before in
+          let early = c.check_open.ensures.read.leaves.honest before in
           let it = kept before in
-          let in_time = subst (λ (w : Vault). w.last ≤ c.args.at) (sym c.check_open.ensures.same) (c.requires.in_time early) in
-          let allowed = subst (λ (w : Vault). Allows w c.args.at c.args.change.now) (sym c.check_open.ensures.same) (c.requires.allowed early) in
+          let in_time = subst (λ (w : Vault). w.last ≤ c.args.at) (sym c.check_open.ensures.read.leaves.same) (c.requires.in_time early) in
+          let allowed = subst (λ (w : Vault). Allows w c.args.at c.args.change.now) (sym c.check_open.ensures.read.leaves.same) (c.requires.allowed early) in
           let crash = c.apply_change.ensures.crash _ it.keeps in_time allowed in
           subst (IsKept (state g.S.Store c.apply_change.new.conn) _) (sym c.and-self-in-Err-apply_change.ensures) record {
             sound = it.sound;
@@ -90,7 +90,7 @@ pub returns-in-Ok-apply_change-clause-ok : goal.returns-in-Ok-apply_change-claus
 returns-in-Ok-apply_change-clause-ok g c =
     let k = c.check_open.new.self in
     let noted = noted_vault g.S.Store k.opening.at.items k.opening.known in
-    ap (after noted) c.and-self.ensures ∙ after_push noted k.made.items c.args.at c.args.change.now ∙ ap (λ (w : Vault). changed w c.args.at c.args.change.now) c.check_open.ensures.same
+    ap (after noted) c.and-self.ensures ∙ after_push noted k.made.items c.args.at c.args.change.now ∙ ap (λ (w : Vault). changed w c.args.at c.args.change.now) c.check_open.ensures.read.leaves.same
 
 pub returns-in-Ok-apply_change-clause-crash : goal.returns-in-Ok-apply_change-clause-crash
 returns-in-Ok-apply_change-clause-crash g c clean =
@@ -100,10 +100,10 @@ returns-in-Ok-apply_change-clause-crash g c clean =
     let s2 = state g.S.Store c.apply_change.new.conn in
     ∥∥₁_map k.kept (λ kept.
     let before = c.apply_change.ensures.honest clean in
-    let early = c.check_open.ensures.honest before in
-    let in_time = subst (λ (w : Vault). w.last ≤ c.args.at) (sym c.check_open.ensures.same) (c.requires.in_time early) in
-    let allowed = subst (λ (w : Vault). Allows w c.args.at c.args.change.now) (sym c.check_open.ensures.same) (c.requires.allowed early) in
-    let made = subst (λ (w : Vault). Survives s1 s2 (IsFoundIn (changed w c.args.at c.args.change.now))) c.check_open.ensures.same (c.apply_change.ensures.crash _ (kept before).keeps in_time allowed) in
+    let early = c.check_open.ensures.read.leaves.honest before in
+    let in_time = subst (λ (w : Vault). w.last ≤ c.args.at) (sym c.check_open.ensures.read.leaves.same) (c.requires.in_time early) in
+    let allowed = subst (λ (w : Vault). Allows w c.args.at c.args.change.now) (sym c.check_open.ensures.read.leaves.same) (c.requires.allowed early) in
+    let made = subst (λ (w : Vault). Survives s1 s2 (IsFoundIn (changed w c.args.at c.args.change.now))) c.check_open.ensures.read.leaves.same (c.apply_change.ensures.crash _ (kept before).keeps in_time allowed) in
     survives_then s0 s1 s2 _ _ _ (λ _ trees none. absurd none) (λ _ trees found. found) c.check_open.ensures.crash made)
 
 pub returns-in-Ok-apply_change-clause-alone : goal.returns-in-Ok-apply_change-clause-alone
@@ -113,9 +113,9 @@ returns-in-Ok-apply_change-clause-alone g c clean =
     let more = ap (after noted) c.and-self.ensures ∙ after_push noted k.made.items c.args.at c.args.change.now in
     ∥∥₁_map k.kept (λ kept.
     let before = c.apply_change.ensures.honest clean in
-    let early = c.check_open.ensures.honest before in
-    let in_time = subst (λ (w : Vault). w.last ≤ c.args.at) (sym c.check_open.ensures.same) (c.requires.in_time early) in
-    let allowed = subst (λ (w : Vault). Allows w c.args.at c.args.change.now) (sym c.check_open.ensures.same) (c.requires.allowed early) in
+    let early = c.check_open.ensures.read.leaves.honest before in
+    let in_time = subst (λ (w : Vault). w.last ≤ c.args.at) (sym c.check_open.ensures.read.leaves.same) (c.requires.in_time early) in
+    let allowed = subst (λ (w : Vault). Allows w c.args.at c.args.change.now) (sym c.check_open.ensures.read.leaves.same) (c.requires.allowed early) in
     subst (LeavesAlone (state g.S.Store c.apply_change.new.conn)) (sym more) (c.in-Ok-apply_change.ensures.done clean _ (kept before).keeps in_time allowed).1)
 
 pub returns-in-Err-clause-crash : goal.returns-in-Err-clause-crash
@@ -130,8 +130,8 @@ returns-in-Err-apply_change-clause-crash g c clean =
     let s2 = state g.S.Store c.apply_change.new.conn in
     ∥∥₁_map k.kept (λ kept.
     let before = c.apply_change.ensures.honest clean in
-    let early = c.check_open.ensures.honest before in
-    let in_time = subst (λ (w : Vault). w.last ≤ c.args.at) (sym c.check_open.ensures.same) (c.requires.in_time early) in
-    let allowed = subst (λ (w : Vault). Allows w c.args.at c.args.change.now) (sym c.check_open.ensures.same) (c.requires.allowed early) in
-    let made = subst (λ (w : Vault). Survives s1 s2 (IsFoundIn (changed w c.args.at c.args.change.now))) c.check_open.ensures.same (c.apply_change.ensures.crash _ (kept before).keeps in_time allowed) in
+    let early = c.check_open.ensures.read.leaves.honest before in
+    let in_time = subst (λ (w : Vault). w.last ≤ c.args.at) (sym c.check_open.ensures.read.leaves.same) (c.requires.in_time early) in
+    let allowed = subst (λ (w : Vault). Allows w c.args.at c.args.change.now) (sym c.check_open.ensures.read.leaves.same) (c.requires.allowed early) in
+    let made = subst (λ (w : Vault). Survives s1 s2 (IsFoundIn (changed w c.args.at c.args.change.now))) c.check_open.ensures.read.leaves.same (c.apply_change.ensures.crash _ (kept before).keeps in_time allowed) in
     survives_then s0 s1 s2 _ _ _ (λ _ trees none. absurd none) (λ _ trees found. found) c.check_open.ensures.crash made)

@@ -40,27 +40,27 @@ returns-in_err-check_open-clause-value g c clean = nothing_handed _ g.T.Sink.tak
 pub returns-in-Ok-clause-value : goal.returns-in-Ok-clause-value
 returns-in-Ok-clause-value g c clean =
     let v = vault_of g.S.Store c.check_open.new.self in
-    subst (λ w. Hands g.T.Sink.takes c.args.sink.now (removed_entries w) (Ok c.in-Ok.found) c.walk_removed.new.sink) c.in_ok-check_open.ensures.same
+    subst (λ w. Hands g.T.Sink.takes c.args.sink.now (removed_entries w) (Ok c.in-Ok.found) c.walk_removed.new.sink) c.in_ok-check_open.ensures.read.leaves.same
     (subst (λ r. Hands g.T.Sink.takes c.args.sink.now (removed_entries v) (as_fault r) c.walk_removed.new.sink) c.in-Ok.is
     (c.walk_removed.ensures.value clean v (∥∥₁_map c.check_open.new.self.kept (λ kept. (kept (c.walk_removed.ensures.read.honest clean)).keeps))))
 
 pub returns-in-Err-clause-value : goal.returns-in-Err-clause-value
 returns-in-Err-clause-value g c clean =
     let v = vault_of g.S.Store c.check_open.new.self in
-    rw c.in_ok-check_open.ensures.same at (subst (λ r. Hands g.T.Sink.takes c.args.sink.now (removed_entries v) (as_fault r) c.walk_removed.new.sink) c.in-Err.is
+    rw c.in_ok-check_open.ensures.read.leaves.same at (subst (λ r. Hands g.T.Sink.takes c.args.sink.now (removed_entries v) (as_fault r) c.walk_removed.new.sink) c.in-Err.is
     (c.walk_removed.ensures.value clean v (∥∥₁_map c.check_open.new.self.kept (λ kept. (kept (c.walk_removed.ensures.read.honest clean)).keeps))))
 
 pub returns-in_err-check_open-clause-read : goal.returns-in_err-check_open-clause-read
 returns-in_err-check_open-clause-read g c = record {
   leaves = search rules;
   healthy = λ well.
-      let none : is_device_fault c.in_err-check_open.field-0.0 ≡ false = c.in_err-check_open.ensures.healthy well in
+      let none : is_device_fault c.in_err-check_open.field-0.0 ≡ false = c.in_err-check_open.ensures.read.healthy well in
       search rules;
-  refused = c.in_err-check_open.ensures.refused;
+  refused = c.in_err-check_open.ensures.read.refused;
 }
 
 pub returns-in-Ok-clause-read : goal.returns-in-Ok-clause-read
-returns-in-Ok-clause-read g c = record { leaves = search rules; healthy = λ well. refl; refused = c.in_ok-check_open.ensures.refused }
+returns-in-Ok-clause-read g c = record { leaves = search rules; healthy = λ well. refl; refused = c.in_ok-check_open.ensures.read.refused }
 
 pub returns-in-Err-clause-read : goal.returns-in-Err-clause-read
-returns-in-Err-clause-read g c = record { leaves = search rules; healthy = λ well. no_failure g.S.Store c.check_open.new.self.conn _ _ _ _ c.check_open.new.self.kept (c.walk_removed.ensures.read.honest well.clean) (λ w keeps. c.in-Err.ensures.memory well w keeps) c.blame.ensures.reported; refused = c.in_ok-check_open.ensures.refused }
+returns-in-Err-clause-read g c = record { leaves = search rules; healthy = λ well. no_failure g.S.Store c.check_open.new.self.conn _ _ _ _ c.check_open.new.self.kept (c.walk_removed.ensures.read.honest well.clean) (λ w keeps. c.in-Err.ensures.memory well w keeps) c.blame.ensures.reported; refused = c.in_ok-check_open.ensures.read.refused }

@@ -4,4 +4,4 @@ pub returns-clause-printed : goal.returns-clause-printed
 returns-clause-printed g c = (c.take_in_list.ensures.printed, c.take_in_list.ensures.reader, c.take_in_list.ensures.device)
 
 pub returns-clause-done : goal.returns-clause-done
-returns-clause-done g c = λ h. (c.take_in_list.ensures.honest h, c.take_in_list.ensures.done h)
+returns-clause-done g c = λ h. (c.take_in_list.ensures.leaves.honest h, c.take_in_list.ensures.done h)
