@@ -1,4 +1,4 @@
-use Rattle.std.proofs.Common.{sym, ◌∙◌}
+use Rattle.std.proofs.Common.{sym, ◌∙◌, rules}
 use Rattle.sqlite.specs.Held.{state}
 use Rattle.vault_store_apply.proofs.KnownLemmas.{survives_none}
 use Rattle.vault_store.specs.VaultOf.{vault_of}
