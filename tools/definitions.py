@@ -31,6 +31,7 @@ READERS = {
         "commands_are_spelled other_shapes_are_malformed empty_lines_are_skipped",
     ("vault_http_lines/specs/Stamped.antt", "stamped_line_of"):
         "stamped_commands_are_spelled other_timeless_shapes_are_malformed empty_timeless_lines_are_skipped",
+    ("vault_http_request/specs/Command.antt", "command_of"): "bodies_are_spelled other_bodies_are_malformed",
 }
 # The first line of a function's body, or the last one of a function without a body; a comment is neither.
 ENDED = re.compile(r"\s*\{|(?!\s*//).*;$")

@@ -74,13 +74,13 @@ stamped_line_of moment bytes =
 
 -- ---- the line that asks for the end
 
--- its members: the caller who asks, and `do`
-abbrev pub closing_members : List (List ℕ × Kind)
-closing_members = (codes "as", Text) ∷ (codes "do", Text) ∷ []
+-- the members of a line that asks for nothing more: the caller who asks, and `do`
+abbrev pub asking_members : List (List ℕ × Kind)
+asking_members = (codes "as", Text) ∷ (codes "do", Text) ∷ []
 
 -- the value is an object of just these, whose `do` is `close`
 abbrev pub if_closing : List ℕ → Data → Result ⊤ Refusal
-if_closing name d = if has_members closing_members d && bytes_eq name (codes "close") then Ok tt else Err MalformedBody
+if_closing name d = if has_members asking_members d && bytes_eq name (codes "close") then Ok tt else Err MalformedBody
 
 unfoldable pub closing_asker_of : List ℕ → Result (List ℕ) Refusal
 closing_asker_of bytes = do
