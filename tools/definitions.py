@@ -24,7 +24,7 @@ TYPE = re.compile(r"^pub (?:struct|enum|trait) (\w+)")
 GHOST = re.compile(r"\s*(?:pub )?ghost (?!use)")
 COMMENTS = ("-- ", "///", "//!", "#[")
 # The readers that laws among the promises describe, each with these laws: which texts it takes, and as what. Where
-# several values of a text are at fault, its definition alone says which refusal comes first.
+# values of a text are at fault, its definition alone says which refusal comes, and of several which one first.
 READERS = {
     ("vault_base_time/specs/Moment.antt", "moment_of"): "Moment::read",
     ("vault_http_lines/specs/ReadLine.antt", "line_of"):

@@ -12,7 +12,7 @@ use Rattle.vault_http_values.specs.Values.{asker_of, optional_number_of}
 use Rattle.vault_http_values.specs.declared.shape.Kind.{Kind}
 use Rattle.vault_http_values.specs.declared.shape.Kind.TheVariants.{OptionalNumber, OptionalText, Text}
 use Rattle.vault_values.specs.Fault.{◌>>=◌, or_refused}
-use Rattle.vault_http_lines.specs.ReadLine.{without_cr}
+use Rattle.vault_http_lines.specs.ReadLine.{longest_line, without_cr}
 use Rattle.vault_http_lines.specs.Stamped.{asking_members, clock_of}
 use Rattle.vault_http_door.specs.declared.inquiry.About.{About}
 use Rattle.vault_http_door.specs.declared.inquiry.About.TheVariants as about
@@ -111,4 +111,4 @@ document_asked_of moment bytes = do
 
 -- what is asked about by a line as it stands before its LF, at what the clock shows
 unfoldable pub inquiry_of : Option ℕ → List ℕ → Result Inquiry Refusal
-inquiry_of moment bytes = if nat_lt 4194304 (length bytes) then Err MalformedBody else document_asked_of moment (without_cr bytes)
+inquiry_of moment bytes = if nat_lt longest_line (length bytes) then Err MalformedBody else document_asked_of moment (without_cr bytes)
