@@ -27,7 +27,7 @@ use Rattle.vault_http.specs.Bodies.{HasForm, Makes}
 
 -- ---- the form of a body
 
-has_form : List (List ℕ × Kind) → Option Data → Bool
+abbrev has_form : List (List ℕ × Kind) → Option Data → Bool
 has_form members None = false
 has_form members (Some d) = has_members members d
 
