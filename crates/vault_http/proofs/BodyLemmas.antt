@@ -46,34 +46,48 @@ decided members body P f reads = by_value (json_of body) refl
 
 -- ---- the four settings
 
-retention-made : (o : Object) (locks : Locks) (body : List ℕ) → Decided (has_form ((codes "mode", Text) ∷ (codes "until", Text) ∷ []) (json_of body)) (Makes (operation.SetRetention o) locks body) (set_retention o locks.bypass body)
+abbrev retention_members : List (List ℕ × Kind)
+retention_members = (codes "mode", Text) ∷ (codes "until", Text) ∷ []
+
+retention-made : (o : Object) (locks : Locks) (body : List ℕ) → Decided (has_form retention_members (json_of body)) (Makes (operation.SetRetention o) locks body) (set_retention o locks.bypass body)
 unfolding set_retention
 retention-made o locks body =
-    decided _ body _ _ (λ d is shaped.
-    let fit = all-fit _ d shaped in
+    decided retention_members body _ _ (λ d is shaped.
+    let fit = all-fit retention_members d shaped in
     reads-then _ _ (retention_of d) _ (reads-retention d fit.0 fit.1.0) (λ retention retention_is.
     (d, (is, shaped), record { bucket = o.bucket; key = o.key; id = o.id; retention = retention; bypass = locks.bypass }, retention_is, refl, refl, refl, refl, refl)))
 
-hold-made : (o : Object) (locks : Locks) (body : List ℕ) → Decided (has_form ((codes "hold", Text) ∷ []) (json_of body)) (Makes (operation.SetHold o) locks body) (set_hold o body)
+abbrev hold_members : List (List ℕ × Kind)
+hold_members = (codes "hold", Text) ∷ []
+
+hold-made : (o : Object) (locks : Locks) (body : List ℕ) → Decided (has_form hold_members (json_of body)) (Makes (operation.SetHold o) locks body) (set_hold o body)
 unfolding set_hold
 hold-made o locks body =
-    decided _ body _ _ (λ d is shaped.
-    reads-then _ _ (hold_of d) _ (reads-hold d (all-fit _ d shaped).0) (λ hold hold_is.
+    decided hold_members body _ _ (λ d is shaped.
+    let fit = all-fit hold_members d shaped in
+    reads-then _ _ (hold_of d) _ (reads-hold d fit.0) (λ hold hold_is.
     (d, (is, shaped), record { bucket = o.bucket; key = o.key; id = o.id; hold = hold }, hold_is, refl, refl, refl, refl)))
 
-default-made : (bucket : List ℕ) (locks : Locks) (body : List ℕ) → Decided (has_form ((codes "mode", OptionalText) ∷ (codes "days", OptionalNumber) ∷ (codes "years", OptionalNumber) ∷ []) (json_of body)) (Makes (operation.SetDefault bucket) locks body) (set_default bucket body)
+abbrev default_members : List (List ℕ × Kind)
+default_members = (codes "mode", OptionalText) ∷ (codes "days", OptionalNumber) ∷ (codes "years", OptionalNumber) ∷ []
+
+default-made : (bucket : List ℕ) (locks : Locks) (body : List ℕ) → Decided (has_form default_members (json_of body)) (Makes (operation.SetDefault bucket) locks body) (set_default bucket body)
 unfolding set_default
 default-made bucket locks body =
-    decided _ body _ _ (λ d is shaped.
-    let fit = all-fit _ d shaped in
+    decided default_members body _ _ (λ d is shaped.
+    let fit = all-fit default_members d shaped in
     reads-then _ _ (default_of d) _ (reads-default d fit.0 fit.1.0 fit.1.1.0) (λ default default_is.
     (d, (is, shaped), record { bucket = bucket; default = default }, default_is, refl, refl)))
 
-rules-made : (bucket : List ℕ) (locks : Locks) (body : List ℕ) → Decided (has_form ((codes "rules", Rules) ∷ []) (json_of body)) (Makes (operation.SetRules bucket) locks body) (set_rules bucket body)
+abbrev rules_members : List (List ℕ × Kind)
+rules_members = (codes "rules", Rules) ∷ []
+
+rules-made : (bucket : List ℕ) (locks : Locks) (body : List ℕ) → Decided (has_form rules_members (json_of body)) (Makes (operation.SetRules bucket) locks body) (set_rules bucket body)
 unfolding set_rules
 rules-made bucket locks body =
-    decided _ body _ _ (λ d is shaped.
-    reads-then _ _ (rules_of d) _ (reads-rules d (all-fit _ d shaped).0) (λ rules rules_is.
+    decided rules_members body _ _ (λ d is shaped.
+    let fit = all-fit rules_members d shaped in
+    reads-then _ _ (rules_of d) _ (reads-rules d fit.0) (λ rules rules_is.
     (d, (is, shaped), record { bucket = bucket; rules = rules }, rules_is, refl, refl)))
 
 -- ---- what is made
@@ -129,16 +143,16 @@ pub malformed-has-none : (o : Operation) (locks : Locks) (body : List ℕ) → c
 malformed-has-none (operation.Ready ready) locks body e f = cc
 malformed-has-none (operation.Put bucket key) locks body e f = cc
 malformed-has-none (operation.DeleteVersion bucket key id) locks body e f = cc
-malformed-has-none (operation.SetRetention o) locks body e f = kept _ body _ _ (retention-made o locks body) e (f.0, f.1.0, f.1.1)
-malformed-has-none (operation.SetHold o) locks body e f = kept _ body _ _ (hold-made o locks body) e (f.0, f.1.0, f.1.1)
-malformed-has-none (operation.SetDefault bucket) locks body e f = kept _ body _ _ (default-made bucket locks body) e (f.0, f.1.0, f.1.1)
-malformed-has-none (operation.SetRules bucket) locks body e f = kept _ body _ _ (rules-made bucket locks body) e (f.0, f.1.0, f.1.1)
+malformed-has-none (operation.SetRetention o) locks body e f = kept retention_members body _ _ (retention-made o locks body) e (f.0, f.1.0, f.1.1)
+malformed-has-none (operation.SetHold o) locks body e f = kept hold_members body _ _ (hold-made o locks body) e (f.0, f.1.0, f.1.1)
+malformed-has-none (operation.SetDefault bucket) locks body e f = kept default_members body _ _ (default-made bucket locks body) e (f.0, f.1.0, f.1.1)
+malformed-has-none (operation.SetRules bucket) locks body e f = kept rules_members body _ _ (rules-made bucket locks body) e (f.0, f.1.0, f.1.1)
 
 pub malformed : (o : Operation) (locks : Locks) (body : List ℕ) → (HasForm o body → ⊥) → command_of o locks body ≡ Err MalformedBody
 malformed (operation.Ready ready) locks body other = absurd (other (null, tt))
 malformed (operation.Put bucket key) locks body other = absurd (other (null, tt))
 malformed (operation.DeleteVersion bucket key id) locks body other = absurd (other (null, tt))
-malformed (operation.SetRetention o) locks body other = lost _ body _ _ (retention-made o locks body) (λ f. other (f.0, (f.1, f.2)))
-malformed (operation.SetHold o) locks body other = lost _ body _ _ (hold-made o locks body) (λ f. other (f.0, (f.1, f.2)))
-malformed (operation.SetDefault bucket) locks body other = lost _ body _ _ (default-made bucket locks body) (λ f. other (f.0, (f.1, f.2)))
-malformed (operation.SetRules bucket) locks body other = lost _ body _ _ (rules-made bucket locks body) (λ f. other (f.0, (f.1, f.2)))
+malformed (operation.SetRetention o) locks body other = lost retention_members body _ _ (retention-made o locks body) (λ f. other (f.0, (f.1, f.2)))
+malformed (operation.SetHold o) locks body other = lost hold_members body _ _ (hold-made o locks body) (λ f. other (f.0, (f.1, f.2)))
+malformed (operation.SetDefault bucket) locks body other = lost default_members body _ _ (default-made bucket locks body) (λ f. other (f.0, (f.1, f.2)))
+malformed (operation.SetRules bucket) locks body other = lost rules_members body _ _ (rules-made bucket locks body) (λ f. other (f.0, (f.1, f.2)))
