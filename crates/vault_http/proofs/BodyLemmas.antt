@@ -1,6 +1,6 @@
 -- Bodies of requests: which command an operation makes of which body.
 use Rattle.std.proofs.Common.{◌≡◌, ℕ, Bool, true, false, List, [], ◌∷◌, refl, sym, subst, codes}
-use Rattle.std.specs.Prelude.{IsTrue, Option, Some, None, Result, Ok, Err, if◌then◌else◌}
+use Rattle.std.specs.Prelude.{Option, Some, None, Result, Ok, Err, if◌then◌else◌}
 use Rattle.serde_json.specs.Data.{Data, null}
 use Rattle.vault_base.specs.declared.refusal.Refusal.{Refusal}
 use Rattle.vault_base.specs.declared.refusal.Refusal.TheVariants.{MalformedBody}
@@ -40,6 +40,7 @@ decided members body P f reads = by_value (json_of body) refl
     by_shape : (d : Data) → json_of body ≡ Some d → (b : Bool) → has_members members d ≡ b → Decided b P ((let formed : Result Data Refusal = if b then Ok d else Err MalformedBody in formed) >>= f)
     by_shape d is true e = reads d is e
     by_shape d is false e = refl
+
     by_value : (found : Option Data) → json_of body ≡ found → Decided (has_form members found) P ((or_malformed found >>= if_formed members) >>= f)
     by_value None is = refl
     by_value (Some d) is = by_shape d is (has_members members d) refl
@@ -135,6 +136,7 @@ lost members body P r h other = by_value (json_of body) refl h
     by_shape : (d : Data) → json_of body ≡ Some d → (b : Bool) → has_members members d ≡ b → Decided b P r → r ≡ Err MalformedBody
     by_shape d is true e h = absurd (other (d, is, e))
     by_shape d is false e h = h
+
     by_value : (found : Option Data) → json_of body ≡ found → Decided (has_form members found) P r → r ≡ Err MalformedBody
     by_value None is h = h
     by_value (Some d) is h = by_shape d is (has_members members d) refl h
