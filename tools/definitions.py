@@ -7,6 +7,7 @@ definition isn't.
 """
 
 import collections
+import dataclasses
 import functools
 import re
 
@@ -18,18 +19,19 @@ USE = re.compile(r"use Rattle\.(\w+)\.(specs(?:\.\w+)*)(?:\.\{([^}]*)\}| as (\w+
 PASSED_ON = re.compile(r"pub use Rattle\.(\w+)\.(specs\.\S+)")
 WORD = re.compile(r"[A-Za-z_][\w']*(?:\.[A-Za-z_][\w']*)*")
 KINDS = "abbrev|unfoldable|opaque|record|data|pub record|pub data"
-DECLARED = re.compile(rf"^ {{0,2}}(?:{KINDS}) (?:pub )?([^\s:(){{}}=]+) |^([^\s:(){{}}=]+) :(?: |$)")
+DECLARED = re.compile(rf"^ {{0,2}}(?:{KINDS}) (?:pub )?(◌\S+◌|[^\s:(){{}}=]+) |^([^\s:(){{}}=]+) :(?: |$)")
 TYPE = re.compile(r"^pub (?:struct|enum|trait) (\w+)")
 GHOST = re.compile(r"\s*(?:pub )?ghost (?!use)")
 COMMENTS = ("-- ", "///", "//!", "#[")
 # The readers that laws among the promises describe, each with these laws: which texts it takes, and as what. Where
-# several values of a text are at fault, its definition alone says which refusal comes first.
+# values of a text are at fault, its definition alone says which refusal comes, and of several which one first.
 READERS = {
     ("vault_base_time/specs/Moment.antt", "moment_of"): "Moment::read",
     ("vault_http_lines/specs/ReadLine.antt", "line_of"):
         "commands_are_spelled other_shapes_are_malformed empty_lines_are_skipped",
     ("vault_http_lines/specs/Stamped.antt", "stamped_line_of"):
         "stamped_commands_are_spelled other_timeless_shapes_are_malformed empty_timeless_lines_are_skipped",
+    ("vault_http_request/specs/Command.antt", "command_of"): "bodies_are_spelled other_bodies_are_malformed",
 }
 # The first line of a function's body, or the last one of a function without a body; a comment is neither.
 ENDED = re.compile(r"\s*\{|(?!\s*//).*;$")
@@ -76,9 +78,9 @@ class Source:
                     found.add(self.uses[part])
                 elif part in self.pieces:
                     found.add((None, None, part))
-        for operator in (it for it in self.uses if "◌" in it):
+        for operator in (it for it in {*self.uses, *self.pieces} if "◌" in it):
             if operator.strip("◌") in text or (operator == "◌>>=◌" and "←" in text):
-                found.add(self.uses[operator])
+                found.add(self.uses.get(operator, (None, None, operator)))
         return found
 
 
@@ -148,8 +150,18 @@ def pieces_of(crate, module, name):
     return {(file, it) for file in homes(crate, module) for it in wanted if it in source(file).pieces}
 
 
+@dataclasses.dataclass(frozen=True)
+class Promise:
+    """What a link of a page promises, or a part of it: a clause, or a definition or type that is linked by its name."""
+
+    path: str
+    name: str
+    clause: str
+    text: str
+
+
 def clauses_of(function, named):
-    """The texts of a function's conditions, and of its clauses: those named, or all of them."""
+    """The texts of a function's conditions, and of its clauses: those named, or all of them; each with its name."""
     lines = source(TOP / function.path).lines
     ends = (it for it in range(function.line, len(lines)) if ENDED.match(lines[it]))
     end = next(ends, len(lines) - 1) + 1
@@ -157,18 +169,20 @@ def clauses_of(function, named):
     for start, stop in zip(starts, [*starts[1:], end]):
         kind, name = re.match(r"\s*(ensures|requires) (\w*)", lines[start]).groups()
         if kind == "requires" or not named or name in named:
-            yield "\n".join(lines[start:stop])
+            yield name if kind == "ensures" else "", "\n".join(lines[start:stop])
 
 
-def promised(page):
-    """What the promises of a page begin with: texts of clauses and names, each with the file that it is in."""
+def promises_of(page):
+    """The promises of a page, in the order of its links."""
     for said, path in LINK.findall(page.read_text(encoding="utf-8")):
         first, *named = re.findall(r"`([^`]+)`", said)
         owner, _, name = first.rpartition("::")
         for function in names.functions():
             if function.path == path and function.name == name and function.owner == owner:
-                yield from ((TOP / path, text) for text in clauses_of(function, named))
-        yield TOP / path, first
+                for clause, text in clauses_of(function, named):
+                    # A condition is part of each clause that is linked.
+                    yield from (Promise(path, first, it, text) for it in ([clause] if clause else named or [""]))
+        yield from (Promise(path, first, it, first) for it in named or [""])
 
 
 def pieces_from(waiting, known=frozenset()):
@@ -189,9 +203,14 @@ def readers():
 
 
 @functools.cache
-def reached(page):
-    """The pieces of definitions that the promises of a page reach, but for those of readers that laws describe."""
-    return pieces_from([(file, it) for file, text in promised(page) for it in source(file).named_in(text)], readers())
+def reached(page, is_asked=None):
+    """The pieces of definitions that promises of a page reach, but for those of readers that laws describe.
+
+    All of its promises, or those that are asked for.
+    """
+    asked = [it for it in promises_of(page) if is_asked is None or is_asked(it)]
+    named = [(TOP / it.path, name) for it in asked for name in source(TOP / it.path).named_in(it.text)]
+    return pieces_from(named, readers())
 
 
 @functools.cache

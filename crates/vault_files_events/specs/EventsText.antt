@@ -4,13 +4,12 @@ use Rattle.std.specs.Fmt.{decimal}
 use Rattle.std.specs.List.{flat_map}
 use Rattle.csv.specs.Writing.{row_text, default_writer}
 use Rattle.vault_base.specs.Moment.{moment_text}
-use Rattle.vault_lock.specs.declared.retention.Mode.{Mode}
-use Rattle.vault_lock.specs.declared.retention.Mode.TheVariants.{Governance, Compliance}
 use Rattle.vault_lock.specs.declared.retention.Retention.{Retention}
 use Rattle.vault_core_model.specs.declared.records.Entry.{Entry}
 use Rattle.vault_core_model.specs.declared.records.History.{History}
 use Rattle.vault_core_evidence.specs.Events.{Happening, Admitted, Locked, Moved, Gone, Event, events_asked_of}
 use Rattle.vault_files_texts.specs.Register.{kind_name}
+use Rattle.vault_values.specs.Words.{hold_name, mode_name}
 use Rattle.vault_files_texts.specs.Removed.{digest_text, author_text, cause_kind, cause_name}
 
 -- the names of the columns, with an LF after them
@@ -31,18 +30,10 @@ who_did (Locked s) = s.by
 who_did (Moved t) = []
 who_did (Gone r) = cause_name r.cause
 
-abbrev pub mode_name : Mode → List ℕ
-mode_name Governance = codes "GOVERNANCE"
-mode_name Compliance = codes "COMPLIANCE"
-
 -- the mode and the end of a retention; two empty cells where there is none
 abbrev pub retention_cells : Option Retention → List (List ℕ)
 retention_cells None = [] ∷ [] ∷ []
 retention_cells (Some r) = mode_name r.mode ∷ moment_text r.until ∷ []
-
-abbrev pub hold_name : Bool → List ℕ
-hold_name true = codes "ON"
-hold_name false = codes "OFF"
 
 abbrev pub bypass_name : Bool → List ℕ
 bypass_name true = codes "true"

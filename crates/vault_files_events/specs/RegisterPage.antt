@@ -1,15 +1,12 @@
 -- A part of the register of removals: the records of the removed ones among some entries, by rising id.
-use Rattle.std.specs.Prelude.{ℕ, ◌==◌, List, [], ◌++◌, length, drop, flat_map, if◌then◌else◌, Option, Some, None}
+use Rattle.std.specs.Prelude.{ℕ, List, [], ◌++◌, length, drop, flat_map, Option, Some, None}
 use Rattle.vault_core_model.specs.declared.records.Entry.{Entry}
 use Rattle.vault_core_model.specs.declared.records.History.{History}
 use Rattle.vault_core_model.specs.Vault.{Vault}
 use Rattle.vault_core_evidence.specs.Parts.{next_of, part}
 use Rattle.vault_files_texts.specs.Register.{header, row}
+use Rattle.vault_files_events.specs.Page.{header_if_first}
 use Rattle.vault_files_events.specs.declared.page.TextPage.{TextPage}
-
--- the part after 0 is the first
-abbrev pub header_if_first : ℕ → List ℕ
-header_if_first after = if after == 0 then header else []
 
 -- the record of what was found of an entry, which may be nothing
 abbrev pub row_found : Option Entry → List ℕ
@@ -21,7 +18,7 @@ abbrev pub rows_in : List History → List ℕ
 rows_in hs = flat_map (λ h. row h.entry) hs
 
 abbrev pub page_text : ℕ → Vault → List ℕ
-page_text after v = header_if_first after ++ rows_in (part after v)
+page_text after v = header_if_first header after ++ rows_in (part after v)
 
 -- the records of the removed ones among all entries after an id
 abbrev pub rest_text : ℕ → Vault → List ℕ

@@ -13,7 +13,8 @@ use vault_base::moment::Moment;
 use vault_core_model::records::{Entry, Setting};
 use vault_files_texts::ExportFault;
 use vault_files_texts::removed::digest_text;
-use vault_lock::retention::{Mode, Retention};
+use vault_lock::retention::Retention;
+use vault_values::words::{hold_name, mode_name};
 
 /// Adds a cell to a record that has no cell half made.
 pub(crate) fn push_cell(out: &mut ByteRecord, cell: &str) -> Result<(), ExportFault>
@@ -29,21 +30,6 @@ fn kind_name(marker: bool) -> &'static str
     ensures { result.now ≡ kind_of marker }
 {
     if marker { "marker" } else { "version" }
-}
-
-fn mode_name(mode: Mode) -> &'static str
-    ensures { result.now ≡ spec.mode_name mode }
-{
-    match mode {
-        Mode::Governance => "GOVERNANCE",
-        Mode::Compliance => "COMPLIANCE",
-    }
-}
-
-fn hold_name(hold: bool) -> &'static str
-    ensures { result.now ≡ spec.hold_name hold }
-{
-    if hold { "ON" } else { "OFF" }
 }
 
 fn bypass_name(bypass: bool) -> &'static str

@@ -28,12 +28,16 @@ pub struct TextPage {
     pub next: Option<u32>,
 }
 
-/// The header of events, which comes with the first part.
-fn header(alloc: Global, after: u32) -> Result<Vec<u8>, AllocError>
-    ensures { IfOk result (λ text. text.items ≡ spec.header_if_first after) }
+/// The header of a text, which comes with its first part.
+pub(crate) fn header_if_first(
+    alloc: Global,
+    header: &[u8],
+    after: u32,
+) -> Result<Vec<u8>, AllocError>
+    ensures { IfOk result (λ text. text.items ≡ spec.header_if_first header.now after) }
 {
     if after == 0 {
-        Vec::from_slice(alloc, HEADER)
+        Vec::from_slice(alloc, header)
     } else {
         Ok(Vec::new(alloc))
     }
@@ -117,7 +121,7 @@ pub fn events_page<K: Keeper>(
         return Err(Halt::Refused(Refusal::InvalidArgument));
     }
     let entries = count_entries(keeper)?;
-    let mut text = header(alloc, after)?;
+    let mut text = header_if_first(alloc, HEADER, after)?;
     let most = most_of(entries, after);
     push_range(alloc, keeper, &mut text, &Some(before), after, most)?;
     Ok(TextPage {

@@ -3,7 +3,7 @@ ghost use Rattle.std.specs.Prelude.{◌≡◌, ◌≤◌, ◌-◌, ◌++◌, IfO
 ghost use Rattle.vault_core_model.specs.Leaves.{ReadsAs};
 ghost use Rattle.vault_files_events.specs.RegisterPage as spec;
 
-use crate::page::TextPage;
+use crate::page::{TextPage, header_if_first};
 use std::alloc::{AllocError, Global};
 use vault_base::content::Content;
 use vault_base::name::VersionId;
@@ -12,17 +12,6 @@ use vault_core_model::halt::Fault;
 use vault_core_model::keeper::Keeper;
 use vault_core_model::records::Entry;
 use vault_files_texts::register::{HEADER, row};
-
-/// The header, which comes with the first part.
-fn header(alloc: Global, after: u32) -> Result<Vec<u8>, AllocError>
-    ensures { IfOk result (λ text. text.items ≡ spec.header_if_first after) }
-{
-    if after == 0 {
-        Vec::from_slice(alloc, HEADER)
-    } else {
-        Ok(Vec::new(alloc))
-    }
-}
 
 /// Adds the record of what was found of an entry; of one that is held nothing.
 fn push_found(alloc: Global, text: &mut Vec<u8>, found: &Option<Entry>) -> Result<(), AllocError>
@@ -80,7 +69,7 @@ pub fn register_page<K: Keeper>(
     ensures leaves { ReadsAs K.Kept keeper.old keeper.new result }
 {
     let entries = count_entries(keeper)?;
-    let mut text = header(alloc, after)?;
+    let mut text = header_if_first(alloc, HEADER, after)?;
     push_range(alloc, keeper, &mut text, after, most_of(entries, after))?;
     Ok(TextPage {
         text: Content::new(text),

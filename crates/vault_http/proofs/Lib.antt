@@ -1,6 +1,7 @@
 pub mod Heads
 pub mod Prompt
 pub mod Blank
+pub mod BodyLemmas
 pub mod TextLemmas
 pub mod Counted
 pub mod Serves

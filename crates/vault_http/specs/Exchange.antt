@@ -80,15 +80,16 @@ allow_of resource.Lifecycle = allow.Lifecycle
 abbrev pub Said : Type 0
 Said = Result Asked Refusal
 
--- what is written for what a head asks for
-abbrev pub AskedServed : Type 0 → Option ℕ → Bool → Asked → List ℕ → Vault → List ℕ → Vault → Type 0
-AskedServed Failed moment shown (asked.Plan plan) rest old out new = PlanServed Failed shown plan rest old out new
-AskedServed Failed moment shown (asked.NotAllowed r) rest old out new =
-    Denied moment shown refusal.MethodNotAllowed (Some (allow_of r)) old out new
+-- a head asks for a plan, or is refused, with the methods that its target has where it hasn't this one
+abbrev pub OnSaid : (Plan → Type 0) → (Refusal → Option Allow → Type 0) → Said → Type 0
+OnSaid planned denied (Ok (asked.Plan plan)) = planned plan
+OnSaid planned denied (Ok (asked.NotAllowed r)) = denied refusal.MethodNotAllowed (Some (allow_of r))
+OnSaid planned denied (Err r) = denied r None
 
-abbrev pub HeadJudged : Type 0 → Option ℕ → Bool → Result Asked Refusal → List ℕ → Vault → List ℕ → Vault → Type 0
-HeadJudged Failed moment shown (Ok a) rest old out new = AskedServed Failed moment shown a rest old out new
-HeadJudged Failed moment shown (Err r) rest old out new = Denied moment shown r None old out new
+-- what is written for what a head asks for
+abbrev pub HeadJudged : Type 0 → Option ℕ → Bool → Said → List ℕ → Vault → List ℕ → Vault → Type 0
+HeadJudged Failed moment shown said rest old out new =
+    OnSaid (λ plan. PlanServed Failed shown plan rest old out new) (λ r a. Denied moment shown r a old out new) said
 
 -- an answer to HEAD shows no body
 abbrev pub is_shown : List ℕ → Bool

@@ -14,11 +14,9 @@ use Rattle.vault_http.specs.Head.{IsHead, HasNoHead}
 use Rattle.vault_http.specs.declared.read.bytes.ReadFault.{ReadFault}
 use Rattle.vault_http.specs.declared.read.bytes.ReadFault.TheVariants as reads
 use Rattle.vault_io.specs.Begins.{Begins}
-use Rattle.vault_http_request.specs.declared.plan.Asked.{Asked}
-use Rattle.vault_http_request.specs.declared.plan.Asked.TheVariants as asked
 use Rattle.vault_http_request.specs.declared.plan.Plan.{Plan}
 use Rattle.vault_http.specs.Command.{IsWithinLength}
-use Rattle.vault_http.specs.Exchange.{Denied, Judged, allow_of, go_on, head_asked_for, is_shown, planned_command, interim}
+use Rattle.vault_http.specs.Exchange.{Denied, Judged, OnSaid, Said, go_on, head_asked_for, is_shown, planned_command, interim}
 use Rattle.vault_http.specs.declared.fault.ServeFault.{ServeFault}
 use Rattle.vault_http.specs.declared.fault.ServeFault.TheVariants as faults
 
@@ -65,14 +63,9 @@ DeniedLeft faults.Read moment shown r a old new before after = (new ≡ old) × 
 DeniedLeft faults.Memory moment shown r a old new before after = (new ≡ old) × (after ≡ before)
 DeniedLeft faults.Write moment shown r a old new before after = (out : List ℕ) × Denied moment shown r a old out new × Begins before after out
 
-abbrev pub AskedLeft : Type 0 → ServeFault → Option ℕ → Bool → Asked → List ℕ → Option (List ℕ) → Vault → Vault → Option (List ℕ) → Option (List ℕ) → Type 0
-AskedLeft Failed e moment shown (asked.Plan plan) rest unread old new before after = PlanLeft Failed e shown plan rest unread old new before after
-AskedLeft Failed e moment shown (asked.NotAllowed r) rest unread old new before after =
-    DeniedLeft e moment shown refusal.MethodNotAllowed (Some (allow_of r)) old new before after
-
-abbrev pub HeadLeft : Type 0 → ServeFault → Option ℕ → Bool → Result Asked Refusal → List ℕ → Option (List ℕ) → Vault → Vault → Option (List ℕ) → Option (List ℕ) → Type 0
-HeadLeft Failed e moment shown (Ok a) rest unread old new before after = AskedLeft Failed e moment shown a rest unread old new before after
-HeadLeft Failed e moment shown (Err r) rest unread old new before after = DeniedLeft e moment shown r None old new before after
+abbrev pub HeadLeft : Type 0 → ServeFault → Option ℕ → Bool → Said → List ℕ → Option (List ℕ) → Vault → Vault → Option (List ℕ) → Option (List ℕ) → Type 0
+HeadLeft Failed e moment shown said rest unread old new before after =
+    OnSaid (λ plan. PlanLeft Failed e shown plan rest unread old new before after) (λ r a. DeniedLeft e moment shown r a old new before after) said
 
 -- before a head was judged: writing fails only where there is none
 abbrev pub Early : ServeFault → Option ℕ → List ℕ → Vault → Vault → Option (List ℕ) → Option (List ℕ) → Type 0
@@ -95,13 +88,8 @@ Unanswered hosts Failed e moment known unread old new before after =
 -- ---- what was read
 
 -- after a head: nothing where no body belongs to it, else no more than the length of the body
-abbrev pub IsAskedTaken : Asked → List ℕ → Type 0
-IsAskedTaken (asked.Plan plan) taken = IsWithinLength plan.headers.length taken
-IsAskedTaken (asked.NotAllowed r) taken = taken ≡ []
-
-abbrev pub IsBodyTaken : Result Asked Refusal → List ℕ → Type 0
-IsBodyTaken (Ok a) taken = IsAskedTaken a taken
-IsBodyTaken (Err r) taken = taken ≡ []
+abbrev pub IsBodyTaken : Said → List ℕ → Type 0
+IsBodyTaken said taken = OnSaid (λ plan. IsWithinLength plan.headers.length taken) (λ r a. taken ≡ []) said
 
 -- of an input: nothing where there is nothing; without a head no more than a head may have; else the head and what of its body
 abbrev pub IsTakenFor : List (List ℕ) → Option ℕ → List ℕ → List ℕ → Type 0

@@ -6,6 +6,7 @@ pub mod Steady
 pub mod Head
 pub mod Judging
 pub mod Body
+pub mod Bodies
 pub mod Bytes
 pub mod Command
 pub mod Reply

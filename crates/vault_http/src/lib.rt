@@ -8,6 +8,7 @@ pub mod command;
 pub mod fault;
 pub mod hearing;
 pub mod judging;
+pub mod laws;
 pub mod read;
 mod send;
 pub mod serve;

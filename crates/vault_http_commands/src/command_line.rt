@@ -1,7 +1,7 @@
 //! The line that asks for a command.
 ghost use Rattle.std.specs.Prelude.{◌≡◌, ◌≤◌, IfOk, OnOk, length, string_bytes};
 ghost use Rattle.serde_json.specs.View.{view, members_view};
-ghost use Rattle.vault_http_lines.specs.ReadLine.{line_of};
+ghost use Rattle.vault_http_lines.specs.ReadLine.{line_of, longest_line};
 ghost use Rattle.vault_http_lines.specs.declared.read_line.Line.TheVariants as line;
 ghost use Rattle.vault_http_commands.specs.Lines.{HasNoLf, SpellsTimed};
 ghost use Rattle.vault_http_commands.specs.Members as spec;
@@ -93,7 +93,7 @@ pub fn command_line(
 ) -> Result<String, AllocError>
     ensures text { IfOk result (λ text. string_bytes text ≡ spec.line_text (spec.timed at who.now command.now)) }
     ensures spelled { IfOk result (λ text. SpellsTimed (string_bytes text) (spec.timed at who.now command.now)) }
-    ensures reads { IfOk result (λ text. length (string_bytes text) ≤ 4194304 → line_of (string_bytes text) ≡ line.Command (spec.timed at who.now command.now)) }
+    ensures reads { IfOk result (λ text. length (string_bytes text) ≤ longest_line → line_of (string_bytes text) ≡ line.Command (spec.timed at who.now command.now)) }
     ensures one_line { IfOk result (λ text. HasNoLf (string_bytes text)) }
 {
     let value = line_value(alloc, at, who, command)?;

@@ -12,34 +12,30 @@ use Rattle.vault_http_values.specs.Values.{asker_of, optional_number_of}
 use Rattle.vault_http_values.specs.declared.shape.Kind.{Kind}
 use Rattle.vault_http_values.specs.declared.shape.Kind.TheVariants.{OptionalNumber, OptionalText, Text}
 use Rattle.vault_values.specs.Fault.{◌>>=◌, or_refused}
-use Rattle.vault_http_lines.specs.ReadLine.{without_cr}
-use Rattle.vault_http_lines.specs.Stamped.{clock_of}
+use Rattle.vault_http_lines.specs.ReadLine.{longest_line, without_cr}
+use Rattle.vault_http_lines.specs.Stamped.{asking_members, clock_of}
 use Rattle.vault_http_door.specs.declared.inquiry.About.{About}
 use Rattle.vault_http_door.specs.declared.inquiry.About.TheVariants as about
 use Rattle.vault_http_door.specs.declared.inquiry.Inquiry.{Inquiry}
 use Rattle.vault_http_door.specs.declared.inquiry.Shape.{Shape}
 use Rattle.vault_http_door.specs.declared.inquiry.Shape.TheVariants as shape
 
--- the members of the line that asks how things are: the caller who asks, and `do`
-abbrev pub status_members : List (List ℕ × Kind)
-status_members = (codes "as", Text) ∷ (codes "do", Text) ∷ []
-
--- the members of the line that asks for the names of buckets: these, and the text after which they come
+-- the members of the line that asks for the names of buckets: the caller who asks, `do`, and the text after which they come
 abbrev pub buckets_members : List (List ℕ × Kind)
 buckets_members = (codes "as", Text) ∷ (codes "do", Text) ∷ (codes "after", OptionalText) ∷ []
 
--- the members of the line that asks what happened: these, the moment before which it happened, and the id after which the part begins
+-- the members of the line that asks what happened: the caller, `do`, the moment before which it happened, and the id after which the part begins
 abbrev pub events_members : List (List ℕ × Kind)
 events_members = (codes "as", Text) ∷ (codes "do", Text) ∷ (codes "before", Text) ∷ (codes "after", OptionalNumber) ∷ []
 
--- the members of the lines that ask for a part of the register, or for a judgement of a part: these, and the id after which the part begins
+-- the members of the lines that ask for a part of the register, or for a judgement of a part: the caller, `do`, and the id after which the part begins
 abbrev pub part_members : List (List ℕ × Kind)
 part_members = (codes "as", Text) ∷ (codes "do", Text) ∷ (codes "after", OptionalNumber) ∷ []
 
 -- the shape of the line of that `do`, if the value is an object of just its members
 abbrev pub shape_named : List ℕ → Data → Result Shape Refusal
 shape_named name d =
-    if bytes_eq name (codes "status") && has_members status_members d then Ok shape.Status
+    if bytes_eq name (codes "status") && has_members asking_members d then Ok shape.Status
     else if bytes_eq name (codes "buckets") && has_members buckets_members d then Ok shape.Buckets
     else if bytes_eq name (codes "events") && has_members events_members d then Ok shape.Events
     else if bytes_eq name (codes "register") && has_members part_members d then Ok shape.Register
@@ -115,4 +111,4 @@ document_asked_of moment bytes = do
 
 -- what is asked about by a line as it stands before its LF, at what the clock shows
 unfoldable pub inquiry_of : Option ℕ → List ℕ → Result Inquiry Refusal
-inquiry_of moment bytes = if nat_lt 4194304 (length bytes) then Err MalformedBody else document_asked_of moment (without_cr bytes)
+inquiry_of moment bytes = if nat_lt longest_line (length bytes) then Err MalformedBody else document_asked_of moment (without_cr bytes)

@@ -10,7 +10,7 @@ use Rattle.vault_core_model.specs.declared.command.Put.{Put}
 use Rattle.vault_core_model.specs.declared.command.Timed.{Timed}
 use Rattle.vault_http_values.specs.Document.{json_of}
 use Rattle.vault_http_values.specs.Spelling.{IsAbsent, IsText, IsName, IsBucket, IsKey, IsPrefix, IsMoment, IsSmall, IsId, IsOptionalId, IsFlag, IsRights, IsContent, IsRetention, IsOptionalRetention, IsHold, IsOptionalHold, IsDefault, IsRules}
-use Rattle.vault_http_lines.specs.ReadLine.{without_cr}
+use Rattle.vault_http_lines.specs.ReadLine.{longest_line, without_cr}
 use Rattle.vault_http_lines.specs.Verb.{verb_name, verb_named, is_shaped}
 use Rattle.vault_http_lines.specs.declared.verb.Verb.{Verb}
 use Rattle.vault_http_lines.specs.declared.verb.Verb.TheVariants as verb
@@ -86,9 +86,9 @@ Spells d t = IsMoment d (codes "at") t.at × IsName d (codes "as") t.who × Spel
 -- the line is the JSON of an object of just the members of its `do`, and these spell that command
 abbrev pub IsLineOf : List ℕ → Timed → Type 0
 IsLineOf bytes t =
-    (length bytes ≤ 4194304) × ((d : Data) × (json_of (without_cr bytes) ≡ Some d) × IsTrue (has_shape d) × Spells d t)
+    (length bytes ≤ longest_line) × ((d : Data) × (json_of (without_cr bytes) ≡ Some d) × IsTrue (has_shape d) × Spells d t)
 
 -- the line is the JSON of an object of just the members of its `do`
 abbrev pub HasShape : List ℕ → Type 0
 HasShape bytes =
-    (length bytes ≤ 4194304) × ((d : Data) × (json_of (without_cr bytes) ≡ Some d) × IsTrue (has_shape d))
+    (length bytes ≤ longest_line) × ((d : Data) × (json_of (without_cr bytes) ≡ Some d) × IsTrue (has_shape d))

@@ -71,6 +71,10 @@ command_of bytes = do
   d ← document_of bytes
   timed_of d
 
+-- a longer line is malformed, whatever it says
+abbrev pub longest_line : ℕ
+longest_line = 4194304
+
 -- a CR in front of the LF isn't the line's
 abbrev pub without_cr : List ℕ → List ℕ
 without_cr line = if slice_index line (length line - 1) == 13 then take (length line - 1) line else line
@@ -82,6 +86,6 @@ stated (Err r) = line.Refused r
 -- what is asked by a line as it stands before its LF
 unfoldable pub line_of : List ℕ → Line
 line_of bytes =
-    if nat_lt 4194304 (length bytes) then line.Refused MalformedBody
+    if nat_lt longest_line (length bytes) then line.Refused MalformedBody
     else if length (without_cr bytes) == 0 then line.Skip
     else stated (command_of (without_cr bytes))

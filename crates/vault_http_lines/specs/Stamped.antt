@@ -15,7 +15,7 @@ use Rattle.vault_http_values.specs.declared.shape.Kind.{Kind}
 use Rattle.vault_http_values.specs.declared.shape.Kind.TheVariants.{Text}
 use Rattle.vault_values.specs.Fault.{◌>>=◌}
 use Rattle.vault_http_lines.specs.Grammar.{SpellsCommand, verb_in}
-use Rattle.vault_http_lines.specs.ReadLine.{stated, values_of, without_cr}
+use Rattle.vault_http_lines.specs.ReadLine.{longest_line, stated, values_of, without_cr}
 use Rattle.vault_http_lines.specs.Verb.{members_of, verb_named}
 use Rattle.vault_http_lines.specs.declared.read_line.Line.{Line}
 use Rattle.vault_http_lines.specs.declared.read_line.Line.TheVariants as line
@@ -68,19 +68,19 @@ stamped_command_of moment bytes = do
 -- what is asked by a line as it stands before its LF, at what the clock shows
 unfoldable pub stamped_line_of : Option ℕ → List ℕ → Line
 stamped_line_of moment bytes =
-    if nat_lt 4194304 (length bytes) then line.Refused MalformedBody
+    if nat_lt longest_line (length bytes) then line.Refused MalformedBody
     else if length (without_cr bytes) == 0 then line.Skip
     else stated (stamped_command_of moment (without_cr bytes))
 
 -- ---- the line that asks for the end
 
--- its members: the caller who asks, and `do`
-abbrev pub closing_members : List (List ℕ × Kind)
-closing_members = (codes "as", Text) ∷ (codes "do", Text) ∷ []
+-- the members of a line that asks for nothing more: the caller who asks, and `do`
+abbrev pub asking_members : List (List ℕ × Kind)
+asking_members = (codes "as", Text) ∷ (codes "do", Text) ∷ []
 
 -- the value is an object of just these, whose `do` is `close`
 abbrev pub if_closing : List ℕ → Data → Result ⊤ Refusal
-if_closing name d = if has_members closing_members d && bytes_eq name (codes "close") then Ok tt else Err MalformedBody
+if_closing name d = if has_members asking_members d && bytes_eq name (codes "close") then Ok tt else Err MalformedBody
 
 unfoldable pub closing_asker_of : List ℕ → Result (List ℕ) Refusal
 closing_asker_of bytes = do
@@ -95,7 +95,7 @@ if_ok (Err r) = None
 
 -- the caller who asks for the end by a line as it stands before its LF; none by another line
 unfoldable pub closer_of : List ℕ → Option (List ℕ)
-closer_of bytes = if nat_lt 4194304 (length bytes) then None else if_ok (closing_asker_of (without_cr bytes))
+closer_of bytes = if nat_lt longest_line (length bytes) then None else if_ok (closing_asker_of (without_cr bytes))
 
 -- ---- the grammar
 
@@ -106,9 +106,9 @@ has_timeless_shape d = option_map_or (λ verb. is_timeless verb d) (verb_in d) f
 -- the line is the JSON of such an object, its members spell that command, and the clock shows its moment
 abbrev pub IsStampedLineOf : Option ℕ → List ℕ → Timed → Type 0
 IsStampedLineOf moment bytes t =
-    (length bytes ≤ 4194304) × ((d : Data) × (json_of (without_cr bytes) ≡ Some d) × IsTrue (has_timeless_shape d) × (moment ≡ Some t.at) × IsName d (codes "as") t.who × SpellsCommand d t.command)
+    (length bytes ≤ longest_line) × ((d : Data) × (json_of (without_cr bytes) ≡ Some d) × IsTrue (has_timeless_shape d) × (moment ≡ Some t.at) × IsName d (codes "as") t.who × SpellsCommand d t.command)
 
 -- the line is the JSON of such an object
 abbrev pub HasTimelessShape : List ℕ → Type 0
 HasTimelessShape bytes =
-    (length bytes ≤ 4194304) × ((d : Data) × (json_of (without_cr bytes) ≡ Some d) × IsTrue (has_timeless_shape d))
+    (length bytes ≤ longest_line) × ((d : Data) × (json_of (without_cr bytes) ≡ Some d) × IsTrue (has_timeless_shape d))

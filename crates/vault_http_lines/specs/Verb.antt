@@ -9,32 +9,46 @@ use Rattle.vault_http_values.specs.declared.shape.Kind.TheVariants.{Text, Option
 use Rattle.vault_http_lines.specs.declared.verb.Verb.{Verb}
 use Rattle.vault_http_lines.specs.declared.verb.Verb.TheVariants as verb
 
+abbrev pub of_bucket : List (List ℕ × Kind)
+of_bucket = (codes "bucket", Text) ∷ []
+
+abbrev pub of_bucket_and_dept : List (List ℕ × Kind)
+of_bucket_and_dept = (codes "bucket", Text) ∷ (codes "dept", Text) ∷ []
+
+-- without an id the current entry is meant
+abbrev pub of_entry : List (List ℕ × Kind)
+of_entry = (codes "bucket", Text) ∷ (codes "key", Text) ∷ (codes "id", OptionalNumber) ∷ []
+
+-- the `do` of each line and its own members, in the order of their values
+abbrev pub form_of : Verb → List ℕ × List (List ℕ × Kind)
+form_of verb.AddDept = (codes "add-dept", (codes "dept", Text) ∷ [])
+form_of verb.AddCaller = (codes "add-caller", (codes "caller", Text) ∷ (codes "dept", OptionalText) ∷ (codes "rights", Texts) ∷ [])
+form_of verb.CloseCaller = (codes "close-caller", (codes "caller", Text) ∷ [])
+form_of verb.AddBucket = (codes "add-bucket", of_bucket_and_dept)
+form_of verb.MoveBucket = (codes "move-bucket", of_bucket_and_dept)
+form_of verb.SetDefault = (codes "set-default", (codes "bucket", Text) ∷ (codes "mode", OptionalText) ∷ (codes "days", OptionalNumber) ∷ (codes "years", OptionalNumber) ∷ [])
+form_of verb.GetDefault = (codes "get-default", of_bucket)
+form_of verb.SetRules = (codes "set-rules", (codes "bucket", Text) ∷ (codes "rules", Rules) ∷ [])
+form_of verb.GetRules = (codes "get-rules", of_bucket)
+form_of verb.DropRules = (codes "drop-rules", of_bucket)
+form_of verb.Put = (codes "put", (codes "bucket", Text) ∷ (codes "key", Text) ∷ (codes "text", OptionalText) ∷ (codes "hex", OptionalText) ∷ (codes "mode", OptionalText) ∷ (codes "until", OptionalText) ∷ (codes "hold", OptionalText) ∷ [])
+form_of verb.Get = (codes "get", of_entry)
+form_of verb.Head = (codes "head", of_entry)
+form_of verb.ListVersions = (codes "list-versions", (codes "bucket", Text) ∷ (codes "prefix", OptionalText) ∷ (codes "after_key", OptionalText) ∷ (codes "after_id", OptionalNumber) ∷ (codes "most", OptionalNumber) ∷ [])
+form_of verb.Delete = (codes "delete", (codes "bucket", Text) ∷ (codes "key", Text) ∷ [])
+form_of verb.DeleteVersion = (codes "delete-version", (codes "bucket", Text) ∷ (codes "key", Text) ∷ (codes "id", Number) ∷ (codes "bypass", OptionalFlag) ∷ [])
+form_of verb.SetRetention = (codes "set-retention", (codes "bucket", Text) ∷ (codes "key", Text) ∷ (codes "id", OptionalNumber) ∷ (codes "mode", Text) ∷ (codes "until", Text) ∷ (codes "bypass", OptionalFlag) ∷ [])
+form_of verb.GetRetention = (codes "get-retention", of_entry)
+form_of verb.SetHold = (codes "set-hold", (codes "bucket", Text) ∷ (codes "key", Text) ∷ (codes "id", OptionalNumber) ∷ (codes "hold", Text) ∷ [])
+form_of verb.GetHold = (codes "get-hold", of_entry)
+form_of verb.Run = (codes "run", of_bucket)
+form_of verb.Report = (codes "report", (codes "dept", Text) ∷ [])
+form_of verb.Certificate = (codes "certificate", (codes "bucket", Text) ∷ (codes "id", Number) ∷ [])
+form_of verb.Intake = (codes "intake", (codes "bucket", Text) ∷ (codes "batch", Text) ∷ (codes "line", Number) ∷ (codes "key", Text) ∷ (codes "text", OptionalText) ∷ (codes "hex", OptionalText) ∷ (codes "mode", OptionalText) ∷ (codes "until", OptionalText) ∷ (codes "hold", OptionalText) ∷ [])
+
 -- the `do` of a line
 abbrev pub verb_name : Verb → List ℕ
-verb_name verb.AddDept = codes "add-dept"
-verb_name verb.AddCaller = codes "add-caller"
-verb_name verb.CloseCaller = codes "close-caller"
-verb_name verb.AddBucket = codes "add-bucket"
-verb_name verb.MoveBucket = codes "move-bucket"
-verb_name verb.SetDefault = codes "set-default"
-verb_name verb.GetDefault = codes "get-default"
-verb_name verb.SetRules = codes "set-rules"
-verb_name verb.GetRules = codes "get-rules"
-verb_name verb.DropRules = codes "drop-rules"
-verb_name verb.Put = codes "put"
-verb_name verb.Get = codes "get"
-verb_name verb.Head = codes "head"
-verb_name verb.ListVersions = codes "list-versions"
-verb_name verb.Delete = codes "delete"
-verb_name verb.DeleteVersion = codes "delete-version"
-verb_name verb.SetRetention = codes "set-retention"
-verb_name verb.GetRetention = codes "get-retention"
-verb_name verb.SetHold = codes "set-hold"
-verb_name verb.GetHold = codes "get-hold"
-verb_name verb.Run = codes "run"
-verb_name verb.Report = codes "report"
-verb_name verb.Certificate = codes "certificate"
-verb_name verb.Intake = codes "intake"
+verb_name verb = (form_of verb).0
 
 abbrev pub verbs : List Verb
 verbs =
@@ -47,46 +61,9 @@ verbs =
 abbrev pub verb_named : List ℕ → Option Verb
 verb_named name = find (λ verb. bytes_eq name (verb_name verb)) verbs
 
--- the members that every line has: the reading, the caller who asks, and the verb; and then its own
-abbrev pub with_common : List (List ℕ × Kind) → List (List ℕ × Kind)
-with_common own = (codes "at", Text) ∷ (codes "as", Text) ∷ (codes "do", Text) ∷ own
-
-abbrev pub of_bucket : List (List ℕ × Kind)
-of_bucket = with_common ((codes "bucket", Text) ∷ [])
-
-abbrev pub of_bucket_and_dept : List (List ℕ × Kind)
-of_bucket_and_dept = with_common ((codes "bucket", Text) ∷ (codes "dept", Text) ∷ [])
-
--- without an id the current entry is meant
-abbrev pub of_entry : List (List ℕ × Kind)
-of_entry = with_common ((codes "bucket", Text) ∷ (codes "key", Text) ∷ (codes "id", OptionalNumber) ∷ [])
-
--- the members of each line, in the order of their values
+-- the members that every line has, the reading, the caller who asks, and the verb, and then its own
 abbrev pub members_of : Verb → List (List ℕ × Kind)
-members_of verb.AddDept = with_common ((codes "dept", Text) ∷ [])
-members_of verb.AddCaller = with_common ((codes "caller", Text) ∷ (codes "dept", OptionalText) ∷ (codes "rights", Texts) ∷ [])
-members_of verb.CloseCaller = with_common ((codes "caller", Text) ∷ [])
-members_of verb.AddBucket = of_bucket_and_dept
-members_of verb.MoveBucket = of_bucket_and_dept
-members_of verb.SetDefault = with_common ((codes "bucket", Text) ∷ (codes "mode", OptionalText) ∷ (codes "days", OptionalNumber) ∷ (codes "years", OptionalNumber) ∷ [])
-members_of verb.GetDefault = of_bucket
-members_of verb.SetRules = with_common ((codes "bucket", Text) ∷ (codes "rules", Rules) ∷ [])
-members_of verb.GetRules = of_bucket
-members_of verb.DropRules = of_bucket
-members_of verb.Put = with_common ((codes "bucket", Text) ∷ (codes "key", Text) ∷ (codes "text", OptionalText) ∷ (codes "hex", OptionalText) ∷ (codes "mode", OptionalText) ∷ (codes "until", OptionalText) ∷ (codes "hold", OptionalText) ∷ [])
-members_of verb.Get = of_entry
-members_of verb.Head = of_entry
-members_of verb.ListVersions = with_common ((codes "bucket", Text) ∷ (codes "prefix", OptionalText) ∷ (codes "after_key", OptionalText) ∷ (codes "after_id", OptionalNumber) ∷ (codes "most", OptionalNumber) ∷ [])
-members_of verb.Delete = with_common ((codes "bucket", Text) ∷ (codes "key", Text) ∷ [])
-members_of verb.DeleteVersion = with_common ((codes "bucket", Text) ∷ (codes "key", Text) ∷ (codes "id", Number) ∷ (codes "bypass", OptionalFlag) ∷ [])
-members_of verb.SetRetention = with_common ((codes "bucket", Text) ∷ (codes "key", Text) ∷ (codes "id", OptionalNumber) ∷ (codes "mode", Text) ∷ (codes "until", Text) ∷ (codes "bypass", OptionalFlag) ∷ [])
-members_of verb.GetRetention = of_entry
-members_of verb.SetHold = with_common ((codes "bucket", Text) ∷ (codes "key", Text) ∷ (codes "id", OptionalNumber) ∷ (codes "hold", Text) ∷ [])
-members_of verb.GetHold = of_entry
-members_of verb.Run = of_bucket
-members_of verb.Report = with_common ((codes "dept", Text) ∷ [])
-members_of verb.Certificate = with_common ((codes "bucket", Text) ∷ (codes "id", Number) ∷ [])
-members_of verb.Intake = with_common ((codes "bucket", Text) ∷ (codes "batch", Text) ∷ (codes "line", Number) ∷ (codes "key", Text) ∷ (codes "text", OptionalText) ∷ (codes "hex", OptionalText) ∷ (codes "mode", OptionalText) ∷ (codes "until", OptionalText) ∷ (codes "hold", OptionalText) ∷ [])
+members_of verb = (codes "at", Text) ∷ (codes "as", Text) ∷ (codes "do", Text) ∷ (form_of verb).1
 
 -- the value is an object of just the members of that line; a content is written by exactly one of text and hex
 abbrev pub is_shaped : Verb → Data → Bool

@@ -16,15 +16,7 @@ is_change_answer (answer.Removed removed) = true
 is_change_answer (answer.Moved bytes) = true
 is_change_answer (answer.Ran counts) = nat_lt 0 counts.changes
 is_change_answer (answer.TakenIn taken) = not taken.again
-is_change_answer (answer.Default default) = false
-is_change_answer (answer.Rules rules) = false
-is_change_answer (answer.Version version content) = false
-is_change_answer (answer.Head version) = false
-is_change_answer (answer.Versions page) = false
-is_change_answer (answer.Retention retention) = false
-is_change_answer (answer.Hold hold) = false
-is_change_answer (answer.Report report) = false
-is_change_answer (answer.Certificate entry tenures) = false
+is_change_answer _ = false
 
 -- the reply reports a change; a lifecycle run that was stopped made one, unless it was stopped before its first
 abbrev pub is_change : Reply → Bool

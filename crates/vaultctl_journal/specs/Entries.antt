@@ -3,7 +3,7 @@ use Rattle.std.specs.Prelude.{◌≡◌, ◌<◌, ◌⊎◌, ℕ, Bool, true, fa
 use Rattle.std.specs.Io.KnownBytes.{Appends, Keeps}
 use Rattle.vault_core_model.specs.declared.command.Timed.{Timed}
 use Rattle.vault_http.specs.Line.TheVariants as line
-use Rattle.vault_http.specs.ReadLine.{line_of}
+use Rattle.vault_http.specs.ReadLine.{line_of, longest_line}
 use Rattle.vault_http_commands.specs.Lines.{SpellsTimed}
 use Rattle.vault_io.specs.Begins.{Begins}
 use Rattle.vaultctl_journal.specs.declared.state.JournalState.{JournalState}
@@ -22,7 +22,7 @@ IsRecord t bytes = (text : List ℕ) × HasNoLf text × (line_of text ≡ line.C
 
 -- a line that spells the command is longer than a script's line may be
 abbrev pub IsTooLong : Timed → Type 0
-IsTooLong t = (text : List ℕ) × (4194304 < length text) × SpellsTimed text t
+IsTooLong t = (text : List ℕ) × (longest_line < length text) × SpellsTimed text t
 
 -- What is written of a change: its line; or the last line, where a fault cut the change or its line is too long.
 abbrev pub IsEntry : Bool → Bool → Timed → List ℕ → Type 0
