@@ -4,11 +4,12 @@ The vaults of `examples/earlier` are made by Python's sqlite3 from the statement
 sound, has the rows of a vault to which this program came through the same day, with a tenure for each version, and says
 byte for byte what the earlier program said, but that reports have what was received and handed over, which is nothing;
 so is that of tables of some thousand rows. Then what is refused: damaged tables, each by its name, one file for both,
-files that are there or that another program has, a device with too little room, output that can't be written, a kill at
-any moment; and where there is `strace`, a kill before each call that changes a file of the copy, a failure of each read
-of the earlier file, and a kill before each removal of what was begun on a device that fails. The earlier file and its
-log keep each byte, no file is left of a copy that was refused, none that was there before is removed or changed, and
-the same words given again make it. The commands of `docs/UPGRADING.md` are tried too.
+files that are there or that another program has, two of these at once, a device with too little room, output that
+can't be written, a kill at any moment; and where there is `strace`, a kill before each call that changes a file of
+the copy, a failure of each read of the earlier file, and a kill before each removal of what was begun on a device
+that fails. The earlier file and its log keep each byte, no file is left of a copy that was refused, none that was
+there before is removed or changed, and the same words given again make it. The commands of `docs/UPGRADING.md` are
+tried too.
 """
 
 import contextlib
@@ -285,6 +286,24 @@ class Copies:
         self.refuses(["migrate", "old", "."], FOLDER)
         self.assertFalse(self.has("new"), "a file is left of a copy that was refused")
         self.makes_copy("empty")
+
+    def test_order(self):
+        """Of two faults that one is reported which docs/formats/PROGRAM.md names first."""
+        self.answers(["init", "vault"], "")
+        (self.folder / "text").write_text("notes of the office, which are no vault\n" * 9)
+        self.make("damaged", DAMAGES["heads"])
+        names = ("vault", "text", "damaged", "old")
+        before = {name: self.read(name) for name in names}
+        found = (
+            ("none", "text", TAKEN),
+            ("none", "none/new", NO_FILE),
+            ("none", "vault", NO_FILE),
+            ("damaged", "none/new", NO_FOLDER),
+            ("damaged", "vault", f"migrate: Damaged heads\n{DAMAGED}"),
+        )
+        for old, new, wanted in found:
+            self.refuses(["migrate", old, new], wanted)
+        self.assertEqual({name: self.read(name) for name in names}, before, "a file was changed")
 
     def test_begun(self):
         """Of a file that was there as a copy is refused, nothing is removed, and no table comes into it."""
