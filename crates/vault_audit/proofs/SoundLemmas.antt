@@ -1,5 +1,5 @@
 -- The vault that the passes find.
-use Rattle.std.proofs.Common.{◌≡◌, ℕ, List, [], ◌∷◌, length, map, IsSome, Some, refl, sym, subst, ◌∙◌, arith}
+use Rattle.std.proofs.Common.{◌≡◌, ℕ, List, length, map, IsSome, Some, refl, sym, subst, ◌∙◌, arith}
 use Rattle.std.specs.List.{AllByRecursion}
 use Rattle.std.proofs.lemmas.List.{length-map}
 use Rattle.std.proofs.lemmas.List.Sorted.{IsPermutation-sym, IsPermutation-trans, length_permutation}
@@ -26,14 +26,11 @@ use Rattle.vault_audit.specs.Found.{AreFound, found_vault}
 use Rattle.vault_audit.proofs.FoundLemmas.{found_spelled, found_sums}
 use Rattle.vault_audit.specs.Looks.{ArePast}
 use Rattle.vault_audit.specs.Whole.{AllFound}
+use Rattle.vault_audit_model.proofs.ListLemmas.{all_as}
 
 -- the row holds an entry that is past
 abbrev ReportsPast : ℕ → Row → Type 0
 ReportsPast last row = (e : Entry) × (row ≡ entry_row e) × IsPast last e
-
-each : {A : Type 0} (P Q : A → Type 0) → ((x : A) → P x → Q x) → (xs : List A) → AllByRecursion P xs → AllByRecursion Q xs
-each P Q f [] all = tt
-each P Q f (x ∷ xs) all = (f x all.0, each P Q f xs all.1)
 
 -- other entries of the same rows are past, too
 past_too : (db : Database) (last : ℕ) (es : List Entry) → ArePast db last → AreEntries db es → AllByRecursion (IsPast last) es
@@ -41,7 +38,7 @@ past_too db last es past are =
     let xs = past.0 in
     let stated = all-map (ReportsPast last) entry_row xs (each (IsEntryBy last) (λ e. ReportsPast last (entry_row e)) (λ e its. (e, refl, its.1)) xs past.2) in
     let rows = all-permutation (ReportsPast last) _ _ (IsPermutation-trans _ _ _ past.1 (IsPermutation-sym _ _ are.0)) stated in
-    each (λ e. ReportsPast last (entry_row e)) (IsPast last) (λ e its. subst (IsPast last) (sym (same_entry e its.0 its.1)) its.2) es (all_from_map (ReportsPast last) entry_row es rows)
+    all_as (λ (e : Entry) (its : ReportsPast last (entry_row e)). subst (IsPast last) (sym (same_entry e its.0 its.1)) its.2) es (all_from_map (ReportsPast last) entry_row es rows)
 
 module _ (n : Edition) (db : Database) (m : MetaRow) (schema : db.schema ≡ schema_of n) (tied : AreTied n db) (meta : IsMetaOf n db (Some m)) (past : ArePast db m.last) (found : AllFound n db m) where
   -- they are sound for the vault that was found

@@ -1,6 +1,6 @@
 -- Rows of a table, each beside the entry that it names.
-use Rattle.std.specs.Ordering.{int_cmp, is_eq}
-use Rattle.std.proofs.Common.{◌≡◌, ◌⊎◌, ◌<◌, inl, inr, ℕ, ◌+◌, pos, List, [], ◌∷◌, map, filter, find, Bool, true, false, ◌==◌, Option, Some, None, Ordering, Less, Equal, Greater, IsPermutation, refl, sym, ap, subst, ◌∙◌, true≢false, arith}
+use Rattle.std.specs.Ordering.{int_cmp}
+use Rattle.std.proofs.Common.{◌≡◌, ◌⊎◌, ◌<◌, inl, inr, ℕ, ◌+◌, pos, List, [], ◌∷◌, map, filter, find, Bool, true, false, ◌==◌, Option, Some, None, Equal, IsPermutation, refl, sym, ap, subst, ◌∙◌, true≢false, arith}
 use Rattle.std.specs.Prelude.{slice_get}
 use Rattle.std.proofs.lemmas.Cmp.{alike_right}
 use Rattle.std.proofs.lemmas.List.Sorted.{length_permutation}
@@ -12,7 +12,7 @@ use Rattle.sqlite_value.specs.Order.{Row, column, value_cmp}
 use Rattle.sqlite_value.proofs.OrderLemmas.{value_cmp_total, value_cmp-Int}
 use Rattle.sqlite_sql.specs.declared.ops.BinaryOp.TheVariants.{Compare}
 use Rattle.sqlite_sql.specs.declared.ops.CompareOp.TheVariants.{Eq}
-use Rattle.sqlite_sql.specs.Ops.{binary, is_true, from_truth}
+use Rattle.sqlite_sql.specs.Ops.{binary, is_true}
 use Rattle.sqlite_sql.specs.Query.{or_nulls}
 use Rattle.sqlite.proofs.Callers.{one_permutation}
 use Rattle.vault_core_model.specs.declared.records.Entry.{Entry}
@@ -20,6 +20,7 @@ use Rattle.vault_audit_model.specs.Rows.{entry_row, entry_columns}
 use Rattle.vault_audit_model.specs.Relations.{AreNumbered}
 use Rattle.vault_audit_model.specs.Values.{number}
 use Rattle.vault_audit_model.proofs.ValueLemmas.{same_number}
+use Rattle.vault_audit_laws.proofs.TieLemmas.{equal_is}
 
 -- ---- the entry of an id
 
@@ -33,18 +34,13 @@ is_id v e = is_of v (entry_row e)
 pub is_id_number : (k : ℕ) (e : Entry) → is_id (number k) e ≡ (e.id == k)
 is_id_number k e = same_number e.id k
 
-equal_if : (o : Ordering) → is_true (from_truth (Some (is_eq o))) ≡ true → o ≡ Equal
-equal_if Less h = absurd cc
-equal_if Equal h = refl
-equal_if Greater h = absurd cc
-
 equal_of : (v : Value) (e : Entry) → is_id v e ≡ true → value_cmp (number e.id) v ≡ Equal
 unfolding binary
 equal_of Null e h = absurd (true≢false (sym h))
-equal_of (Int n) e h = equal_if _ h
-equal_of (Real x) e h = equal_if _ h
-equal_of (Text t) e h = equal_if _ h
-equal_of (Blob b) e h = equal_if _ h
+equal_of (Int n) e h = equal_is _ h
+equal_of (Real x) e h = equal_is _ h
+equal_of (Text t) e h = equal_is _ h
+equal_of (Blob b) e h = equal_is _ h
 
 ints_equal : (a b : ℕ) → int_cmp (pos a) (pos b) ≡ Equal → a ≡ b
 ints_equal a b h = grind arith

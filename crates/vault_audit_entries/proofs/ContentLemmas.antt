@@ -65,8 +65,7 @@ counted p (c ∷ cs) = let it = counted (with_content p c) cs in omega (arith, i
 above : (p : ContentPass) (x : ContentRow) (cs : List ContentRow) → x.id < p.next → Fit p cs → AllByRecursion (λ row. first_cmp (held_row x) row ≡ Less) (map held_row cs)
 above p x [] less fit = tt
 above p x (c ∷ cs) less fit =
-    let low = fit.0.1 in
-    let below : x.id < c.id = omega (arith, less, low) in
+    let below : x.id < c.id = omega (arith, less, fit.0.1) in
     (value_cmp-Int (pos x.id) (pos c.id) ∙ int_less x.id c.id below, above (with_content p c) x cs (omega (arith, below)) fit.1)
 
 rise : (p : ContentPass) (cs : List ContentRow) → Fit p cs → IsAscending (λ a b. first_cmp a b ≡ Less) (map held_row cs)
@@ -118,7 +117,7 @@ pub unremoved : (r : Option Removal) → Null ≡ removal_at r → r ≡ None
 unremoved None e = refl
 unremoved (Some r) e = absurd cc
 
-no_number : (n : ℕ) → number n ≡ Null → ⊥
+pub no_number : (n : ℕ) → number n ≡ Null → ⊥
 no_number n e = cc
 
 stated_by : (o : Option Entry) (c : ContentRow) → number (length c.content) ≡ column (row_beside o) 4 → ◌≡◌ {A = Value} (Blob (sha256 c.content)) (column (row_beside o) 5) → Null ≡ column (row_beside o) 9 → IsContentOf o c

@@ -33,15 +33,13 @@ found_behind e es c less = rw (apart e.id c.id less) refl
 all_behind : (e : Entry) (es : List Entry) (next : ℕ) (cs : List ContentRow) → e.id < next → AreRisingFrom next cs → AllByRecursion (IsContentIn (e ∷ es)) cs → AllByRecursion (IsContentIn es) cs
 all_behind e es next [] less rise all = tt
 all_behind e es next (c ∷ cs) less rise all =
-    let low = rise.0 in
-    let above : e.id < c.id = omega (arith, less, low) in
+    let above : e.id < c.id = omega (arith, less, rise.0) in
     (subst (λ o. IsContentOf o c) (found_behind e es c above) all.0, all_behind e es (c.id + 1) cs (omega (arith, above)) rise.1 all.1)
 
 all_before : (e : Entry) (es : List Entry) (next : ℕ) (cs : List ContentRow) → e.id < next → AreRisingFrom next cs → AllByRecursion (IsContentIn es) cs → AllByRecursion (IsContentIn (e ∷ es)) cs
 all_before e es next [] less rise all = tt
 all_before e es next (c ∷ cs) less rise all =
-    let low = rise.0 in
-    let above : e.id < c.id = omega (arith, less, low) in
+    let above : e.id < c.id = omega (arith, less, rise.0) in
     (subst (λ o. IsContentOf o c) (sym (found_behind e es c above)) all.0, all_before e es (c.id + 1) cs (omega (arith, above)) rise.1 all.1)
 
 lower : (low next : ℕ) (cs : List ContentRow) → low ≤ next → AreRisingFrom next cs → AreRisingFrom low cs
@@ -143,8 +141,7 @@ given next low (e ∷ es) are (c ∷ cs) rise all = of (e.id == c.id) refl (λ d
         (with_bytes e c.content ∷ it.0, gives_one e es c cs it.0 are.0.0 same (subst (λ o. IsContentOf o c) found all.0) it.1)
     of false h more =
         let id = are.0.1.0 in
-        let low = rise.0 in
-        let above = above_if e.id c.id (omega (arith, id, low)) h in
+        let above = above_if e.id c.id (omega (arith, id, rise.0)) h in
         let up : AreRisingFrom (next + 1) (c ∷ cs) = (omega (arith, id, above), rise.1) in
         let it = more (c ∷ cs) up (all_behind e es (next + 1) (c ∷ cs) (omega (arith, id)) up all) in
         (without_bytes e ∷ it.0, gives_none e es (c ∷ cs) it.0 are.0.0 it.1)
@@ -205,13 +202,12 @@ taken next low (h ∷ hs) are has = of (has_or_not h.entry.marker h.entry.remova
         })
     of (inr (content, free)) more =
         let e = h.entry in
-        let id = are.0.1.0 in
         let shows : flat_map contents_in (h ∷ hs) ≡ flat_map contents_in hs = ap (λ o. content_if_given e.id o ++ flat_map contents_in hs) content in
         let one = counted_bare e (entries_in hs) free in
         subst (IsGiven next (e ∷ entries_in hs)) (sym shows)
         (record {
           rising = lower next (next + 1) (flat_map contents_in hs) (omega arith) more.rising;
-          within = all_before e (entries_in hs) (next + 1) (flat_map contents_in hs) (omega (arith, id)) more.rising more.within;
+          within = all_before e (entries_in hs) (next + 1) (flat_map contents_in hs) (omega (arith, are.0.1.0)) more.rising more.within;
           rows = more.rows;
           count = one ∙ more.count;
         })

@@ -56,21 +56,18 @@ not_same a b h same = true≢false (sym (subst (λ x. (a == x) ≡ true) same (i
 module _ (db : Database) (es : List Entry) (are : AreEntries db es) (held count : ℕ) (all : held ≡ held_count es) (stated : DecidesHeld db es (Some count)) where
   as_many : (b : Bool) → (held == count) ≡ b → DecidesContents db es b
   as_many true h =
-      let cs = stated.0 in
       let its = stated.1 in
-      let it = given 1 0 es are.1 cs its.1 its.2 in
+      let it = given 1 0 es are.1 stated.0 its.1 its.2 in
       let same = same_if held count h in
       let size = stated.2 in
       let rows = it.1.contents in
       (it.0, (it.1.entries, subst (λ (xs : List ContentRow). IsPermutation (map content_row xs) (map content_columns (db.trees contents_tree))) (sym rows) its.0, it.1.all (omega (arith, all, same, size))))
   as_many false h = λ hs it.
       let its = given_of db es hs are it in
-      let n = its.count in
-      let size = stated.2 in
       let a = length_permutation _ _ (IsPermutation-trans _ _ _ it.1 (IsPermutation-sym _ _ stated.1.0)) in
       let b : length (map content_row stated.0) ≡ length stated.0 = simp length-map in
       let c : length (map content_row (flat_map contents_in hs)) ≡ length (flat_map contents_in hs) = simp length-map in
-      not_same held count h (omega (arith, all, n, size, a, b, c))
+      not_same held count h (omega (arith, all, its.count, stated.2, a, b, c))
 
   pub decided : DecidesContents db es (held == count)
   decided = as_many (held == count) refl

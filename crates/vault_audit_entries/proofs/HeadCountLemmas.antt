@@ -2,8 +2,7 @@
 use Rattle.std.specs.Ordering.{int_cmp, nat_cmp, is_gt, is_le}
 use Rattle.std.specs.Str.{bytes_eq}
 use Rattle.std.specs.Prelude.{if◌then◌else◌, min, is_none}
-use Rattle.std.proofs.Common.{◌≡◌, ◌≤◌, ℕ, ◌+◌, ◌&&◌, pos, negsuc, codes, List, [], ◌∷◌, ◌++◌, length, map, filter, flat_map, Bool, true, false, Some, None, Option, Ordering, Less, Equal, Greater, IsTrue, IsPermutation, refl, sym, ap, subst, ◌∙◌, arith}
-use Rattle.std.proofs.lemmas.Bool.Decides.{nat_tests}
+use Rattle.std.proofs.Common.{◌≡◌, ◌≤◌, ℕ, ◌+◌, ◌&&◌, pos, negsuc, codes, List, [], ◌∷◌, ◌++◌, length, map, filter, flat_map, Bool, true, false, Some, None, Ordering, Less, Equal, Greater, IsPermutation, refl, sym, ap, subst, ◌∙◌, arith}
 use Rattle.std.proofs.lemmas.List.{length-map}
 use Rattle.std.proofs.lemmas.List.Sorted.{IsPermutation-map, IsPermutation-sym, length_permutation}
 use Rattle.std.proofs.lemmas.Map.Text.{is_eq-slice_cmp}
@@ -13,7 +12,7 @@ use Rattle.sqlite_trees.specs.Tree.{Trees}
 use Rattle.sqlite_trees.proofs.ListLemmas.{map-map, filter-map, IsPermutation-filter, all-permutation, all-map, all_from_map}
 use Rattle.sqlite_value.specs.declared.value.Value.TheVariants.{Null, Int, Text}
 use Rattle.sqlite_value.specs.declared.keys.Collation.TheVariants.{Binary}
-use Rattle.sqlite_value.specs.Order.{Row, column, value_cmp}
+use Rattle.sqlite_value.specs.Order.{Row, column}
 use Rattle.sqlite_value.proofs.OrderLemmas.{value_cmp-Int}
 use Rattle.sqlite_sql.specs.declared.ops.BinaryOp.TheVariants.{Compare, Is}
 use Rattle.sqlite_sql.specs.declared.ops.CompareOp.TheVariants.{Eq, Gt}
@@ -28,8 +27,6 @@ use Rattle.sqlite.specs.Listing.{understood, reads_listing}
 use Rattle.sqlite.specs.State.{State, Shown, IsUnchanged}
 use Rattle.sqlite.proofs.Callers.{IsPlain, command_of, reads_as}
 use Rattle.vault_core_model.specs.declared.records.Entry.{Entry}
-use Rattle.vault_core_model.specs.declared.records.Removal.{Removal}
-use Rattle.vault_base.specs.Name.{is_version_id}
 use Rattle.vault_audit_model.specs.declared.rows.HeadRow.{HeadRow}
 use Rattle.vault_audit_model.specs.Relations.{AreEntries, AreNumbered}
 use Rattle.vault_audit_model.specs.Rows.{entry_row, entry_columns, head_row, head_columns, removal_at}
@@ -40,10 +37,12 @@ use Rattle.vault_audit_walk.specs.Health.{Asks}
 use Rattle.vault_audit_walk.specs.Records.{Checked}
 use Rattle.vault_audit_walk.proofs.ScanLemmas.{goes_on_to}
 use Rattle.vault_audit_walk.proofs.RecordLemmas.{between, front}
-use Rattle.vault_audit_model.proofs.ValueLemmas.{agrees}
-use Rattle.vault_audit_walk.proofs.BesideLemmas.{agree_texts, of_records, of_stored, each, passes}
+use Rattle.vault_audit_model.proofs.ValueLemmas.{agrees, none_removed}
+use Rattle.vault_audit_walk.proofs.BesideLemmas.{agree_texts, of_records, of_stored, passes}
 use Rattle.vault_audit_entries.specs.HeadCounts.{is_under, IsCounted, DecidesCounts, ShowsCount}
 use Rattle.vault_audit_model.specs.declared.schema.Edition.{Edition}
+use Rattle.vault_audit_model.proofs.ListLemmas.{all_as}
+use Rattle.vault_audit_laws.proofs.PartLemmas.{few_entries}
 
 -- ---- the statement
 
@@ -145,11 +144,6 @@ shows_if entries r it = (min most (how_many entries (head_columns r)), it, shown
 
 -- ---- the entries and the heads of the rows
 
-unremoved : (r : Option Removal) → is_true (binary (Is Binary) (removal_at r) Null) ≡ is_none r
-unfolding binary value_cmp lib.Ieee.is_nan lib.Ieee.lt
-unremoved None = refl
-unremoved (Some r) = refl
-
 pub ints : (a b : ℕ) → int_cmp (pos a) (pos b) ≡ nat_cmp a b
 ints a b = grind arith
 
@@ -176,7 +170,7 @@ listed_under : (h : HeadRow) (e : Entry) → reads_so (head_row h) (entry_row e)
 listed_under h e =
     regrouped (agrees (Text e.bucket) (Text h.bucket)) (agrees (Text e.key) (Text h.key)) (is_true (binary (Is Binary) (removal_at e.removal) Null)) (is_true (unary Not (binary (Compare Gt Binary) (number e.id) (number h.head.newest))))
     ∙ each_as _ _ _ _ (bytes_eq e.bucket h.bucket) (bytes_eq e.key h.key) (is_none e.removal) (is_le (nat_cmp e.id h.head.newest))
-    (agree_texts e.bucket h.bucket ∙ is_eq-slice_cmp e.bucket h.bucket) (agree_texts e.key h.key ∙ is_eq-slice_cmp e.key h.key) (unremoved e.removal) (no_newer e.id h.head.newest)
+    (agree_texts e.bucket h.bucket ∙ is_eq-slice_cmp e.bucket h.bucket) (agree_texts e.key h.key ∙ is_eq-slice_cmp e.key h.key) (none_removed e.removal) (no_newer e.id h.head.newest)
 
 filter_alike : {A : Type 0} (p q : A → Bool) → ((x : A) → p x ≡ q x) → (xs : List A) → length (filter p xs) ≡ length (filter q xs)
 filter_alike p q same [] = refl
@@ -202,17 +196,6 @@ no_more p (x ∷ xs) =
       | true ↦ omega (arith, more)
       | false ↦ omega (arith, more)
     ]
-
-id_bound : (n : ℕ) → IsTrue (is_version_id n) → n ≤ 1000000000
-id_bound n is = grind (arith, nat_tests, is)
-
-pub few_entries : (next low : ℕ) (es : List Entry) → next ≤ 1000000001 → AreNumbered next low es → next + length es ≤ 1000000001
-few_entries next low [] some are = omega (arith, some)
-few_entries next low (e ∷ es) some are =
-    let id = are.0.1.0 in
-    let bound = id_bound e.id are.0.0.id in
-    let more = few_entries (next + 1) e.admitted es (omega (arith, id, bound)) are.1 in
-    omega (arith, more)
 
 below_most : (n : ℕ) → n ≤ 1000000001 → min most n ≡ n
 below_most n low = grind (arith, low)
@@ -244,7 +227,7 @@ module _ (n : Edition) (old new : State) (has : old.now.schema ≡ schema_of n) 
       let every = subst (λ (d : Database). IsPermutation (source d.trees) rows) (sym db) ((looked n) old new has rows shown) in
       let entries = new.now.trees entries_tree in
       let stored = all_from_map ShowsCount (shown_counted entries) (new.now.trees heads_tree) (all-permutation ShowsCount _ _ (IsPermutation-sym _ _ every) all) in
-      each (counted_if entries es are.0 are.1) hs (of_records head_row head_columns (Counts entries) hs (new.now.trees heads_tree) decides (each (counts_if entries) (new.now.trees heads_tree) stored))
+      all_as (counted_if entries es are.0 are.1) hs (of_records head_row head_columns (Counts entries) hs (new.now.trees heads_tree) decides (all_as (counts_if entries) (new.now.trees heads_tree) stored))
 
   counts_no : Checked ShowsCount counts_text old new false → DecidesCounts es hs false
   counts_no (rows, row, begins, none) all =
@@ -252,8 +235,8 @@ module _ (n : Edition) (old new : State) (has : old.now.schema ≡ schema_of n) 
       let on = goes_on_to counts_text new (schema_of n) known _ _ (counts_is n).0 same.0.is_open (rows ++ row ∷ []) begins in
       let every = (looked n) new new known ((rows ++ row ∷ []) ++ on.0) on.1 in
       let entries = new.now.trees entries_tree in
-      let stored = of_stored head_row head_columns (Counts entries) hs (new.now.trees heads_tree) decides (each (if_counted entries es are.0 are.1) hs all) in
-      let passed = all-permutation ShowsCount _ _ every (all-map ShowsCount (shown_counted entries) (new.now.trees heads_tree) (each (shows_if entries) (new.now.trees heads_tree) stored)) in
+      let stored = of_stored head_row head_columns (Counts entries) hs (new.now.trees heads_tree) decides (all_as (if_counted entries es are.0 are.1) hs all) in
+      let passed = all-permutation ShowsCount _ _ every (all-map ShowsCount (shown_counted entries) (new.now.trees heads_tree) (all_as (shows_if entries) (new.now.trees heads_tree) stored)) in
       none (between ShowsCount rows row [] (front ShowsCount (rows ++ row ∷ []) on.0 passed))
 
   pub counts_stated : (b : Bool) → Checked ShowsCount counts_text old new b → DecidesCounts es hs b

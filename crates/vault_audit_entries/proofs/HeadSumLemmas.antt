@@ -5,7 +5,7 @@ use Rattle.std.specs.Str.{bytes_eq}
 use Rattle.std.specs.List.{AllByRecursion, list_any}
 use Rattle.std.proofs.Common.{◌≡◌, ◌≤◌, ℕ, ◌+◌, ◌&&◌, ◌||◌, List, [], ◌∷◌, length, map, filter, sum_by, Bool, true, false, None, Option, Less, Equal, IsPermutation, refl, sym, ap, ap₂, ◌∙◌, arith}
 use Rattle.std.proofs.lemmas.Bool.Decides.{nat_tests}
-use Rattle.std.proofs.lemmas.Bool.{and_parts}
+use Rattle.std.proofs.lemmas.Bool.{and_parts, and_from}
 use Rattle.std.proofs.lemmas.List.Sorted.{sum_by-IsPermutation}
 use Rattle.std.proofs.lemmas.List.Sums.{sum_by-cons}
 use Rattle.std.proofs.lemmas.Slice.Eq.{bytes_eq-Decides}
@@ -71,9 +71,6 @@ module _ {X : Type 0} where
 
 -- ---- a head and the entries under it
 
-both_true : (a b : Bool) → a ≡ true → b ≡ true → (a && b) ≡ true
-both_true a b p q = rw (p, q) refl
-
 pub none_removed : (r : Option Removal) → r ≡ None → is_none r ≡ true
 none_removed r e = ap is_none e
 
@@ -95,7 +92,7 @@ held_parts bucket key e is =
     (same_text e.bucket bucket (and_parts (bytes_eq e.bucket bucket) _ is).0, same_text e.key key (and_parts (bytes_eq e.key key) _ rest).0, none_is e.removal (and_parts (bytes_eq e.key key) _ rest).1)
 
 pub parts_held : (bucket key : List ℕ) (e : Entry) → e.bucket ≡ bucket → e.key ≡ key → e.removal ≡ None → is_held_at bucket key e ≡ true
-parts_held bucket key e p q r = both_true _ _ (text_same e.bucket bucket p) (both_true _ _ (text_same e.key key q) (none_removed e.removal r))
+parts_held bucket key e p q r = and_from _ _ (text_same e.bucket bucket p) (and_from _ _ (text_same e.key key q) (none_removed e.removal r))
 
 pub under_parts : (h : HeadRow) (e : Entry) → is_under h e ≡ true → (e.bucket ≡ h.bucket) × (e.key ≡ h.key) × (e.removal ≡ None) × (e.id ≤ h.head.newest)
 under_parts h e is =
@@ -103,7 +100,7 @@ under_parts h e is =
     let held = held_parts h.bucket h.key e its.0 in (held.0, held.1, held.2, most_if e.id h.head.newest its.1)
 
 pub parts_under : (h : HeadRow) (e : Entry) → e.bucket ≡ h.bucket → e.key ≡ h.key → e.removal ≡ None → e.id ≤ h.head.newest → is_under h e ≡ true
-parts_under h e p q r low = both_true _ _ (parts_held h.bucket h.key e p q r) (if_most e.id h.head.newest low)
+parts_under h e p q r low = and_from _ _ (parts_held h.bucket h.key e p q r) (if_most e.id h.head.newest low)
 
 -- where each held entry of the head's key is no newer than its newest, those under it are all of them
 pub under_all : (h : HeadRow) (e : Entry) → (is_held_at h.bucket h.key e ≡ true → e.id ≤ h.head.newest) → is_under h e ≡ is_held_at h.bucket h.key e
@@ -177,8 +174,7 @@ each_once (e ∷ es) hs up =
 summed : (es : List Entry) (hs : List HeadRow) → AllByRecursion (IsCounted es) hs → sum_of_counts hs ≡ under_each es hs
 summed es [] all = refl
 summed es (h ∷ hs) all =
-    let one = all.0 in
-    let more = summed es hs all.1 in omega (arith, one, more)
+    let more = summed es hs all.1 in omega (arith, all.0, more)
 
 -- ---- heads of keys of their own, each with its count
 

@@ -1,10 +1,10 @@
 -- Rows of heads by key, each with the count of what is under it, are the heads of the vault where they count all held entries.
 use Rattle.std.specs.Prelude.{is_none, min, nat_lt}
 use Rattle.std.specs.List.{AllByRecursion}
-use Rattle.std.proofs.Common.{◌≡◌, ◌≤◌, ◌<◌, inl, inr, ℕ, zero, suc, ◌+◌, ◌==◌, ◌&&◌, List, [], ◌∷◌, length, map, filter, find, cond, Bool, true, false, Some, None, IsPermutation, refl, sym, ap, ap₂, subst, ◌∙◌, arith}
+use Rattle.std.proofs.Common.{◌≡◌, ◌≤◌, ◌<◌, inl, inr, ℕ, zero, suc, ◌+◌, ◌==◌, List, [], ◌∷◌, length, map, filter, find, cond, Bool, true, false, Some, None, IsPermutation, refl, sym, ap, ap₂, subst, ◌∙◌, arith}
 use Rattle.std.proofs.lemmas.Bool.Decides.{nat_tests}
 use Rattle.std.proofs.lemmas.List.Sorted.{IsPermutation-map, IsPermutation-sym, IsPermutation-trans, list_any-IsPermutation}
-use Rattle.std.proofs.lemmas.Bool.{and_parts}
+use Rattle.std.proofs.lemmas.Bool.{and_parts, and_from}
 use Rattle.sqlite_trees.proofs.ListLemmas.{all-permutation}
 use Rattle.sqlite.specs.Effect.{Database}
 use Rattle.vault_core_model.specs.declared.records.Entry.{Entry}
@@ -25,17 +25,15 @@ use Rattle.vault_audit_entries.proofs.SortLemmas.{in_order, same_in_order, all_i
 use Rattle.vault_audit_entries.proofs.CurrentLemmas.{head_cmp_total, heads_apart, heads_name}
 use Rattle.vault_audit_entries.proofs.HeadRowLemmas.{alike}
 use Rattle.vault_audit_entries.specs.HeadCounts.{is_under, IsCounted, DecidesCounts, is_held_entry, held_entry_count}
-use Rattle.vault_audit_entries.proofs.HeadCountLemmas.{mapped_many, few_entries, no_more}
+use Rattle.vault_audit_entries.proofs.HeadCountLemmas.{mapped_many, no_more}
 use Rattle.vault_audit_entries.proofs.HeadSumLemmas.{alike_among, none_removed, held_parts, parts_held, under_parts, parts_under, under_all, tie_of, is_covered, counted_once, all_covered, whole_counts, same_sum}
 use Rattle.vault_core_laws.proofs.Tests.{none_is}
 use Rattle.vault_audit_entries.specs.Keys.{DecidesHeadsOf, entries_of}
 use Rattle.vault_audit_entries.proofs.MemberLemmas.{In, at_in, all_of, none_in, no_length, one_in, filter_in, in_filter, any_in, in_any, map_in, in_map, one_of, same_rising}
 use Rattle.vault_audit_model.specs.declared.schema.Edition.{Edition}
+use Rattle.vault_audit_laws.proofs.PartLemmas.{few_entries}
 
 -- ---- tests
-
-both_true : (a b : Bool) → a ≡ true → b ≡ true → (a && b) ≡ true
-both_true a b p q = rw (p, q) refl
 
 is_zero : (n : ℕ) → (n == 0) ≡ true → n ≡ 0
 is_zero n is = grind (arith, nat_tests, is)
@@ -164,7 +162,7 @@ module _ (v : Vault) (numbered : AreNumbered 1 0 (entries_of v)) where
   newest (suc fuel) g i held enough =
       elim (length (newer v g) == 0) as (λ b. (length (newer v g) == 0) ≡ b
       → (k : History) × In k v.histories × (is_current v k ≡ true) × (k.entry.bucket ≡ g.entry.bucket) × (k.entry.key ≡ g.entry.key) × (g.entry.id ≤ k.entry.id)) [
-        | true ↦ λ is. (g, i, both_true _ _ (none_removed g.entry.removal held) is, refl, refl, omega arith)
+        | true ↦ λ is. (g, i, and_from _ _ (none_removed g.entry.removal held) is, refl, refl, omega arith)
         | false ↦ λ is.
             let one = one_in (newer v g) (some_if (length (newer v g)) is) in
             let its = newer_in g one.0 one.1 in
@@ -258,7 +256,7 @@ module _ (v : Vault) (numbered : AreNumbered 1 0 (entries_of v)) where
         let same = ap (λ (x : HeadRow). x.head.newest) (one_of head_cmp head_cmp_total hs up h o.0 i o.1 tie) in
         let less = its.4 in
         let low = o.4 in absurd (omega (arith, id, same, less, low))) in
-        let now : is_current v g.0 ≡ true = both_true _ _ (none_removed g.0.entry.removal g.5) (zero_is _ none) in
+        let now : is_current v g.0 ≡ true = and_from _ _ (none_removed g.0.entry.removal g.5) (zero_is _ none) in
         subst (λ x. In x (heads_in v)) (sym (is_head g.0 h i id g.3 g.4)) (head_there g.0 g.1 now)
 
     are_these : in_order head_cmp (heads_in v) ≡ hs

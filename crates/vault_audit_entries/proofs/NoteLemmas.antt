@@ -1,6 +1,6 @@
 -- The walk over intake beside the entries.
 use Rattle.std.specs.Ordering.{nat_cmp, ordering_then}
-use Rattle.std.proofs.Common.{◌≡◌, ℕ, pos, List, [], ◌∷◌, ◌==◌, map, filter, find, Bool, true, false, Some, None, Option, Ordering, Less, Equal, IsPermutation, IsSorted, refl, sym, ap, subst, ◌∙◌}
+use Rattle.std.proofs.Common.{◌≡◌, pos, List, [], ◌∷◌, ◌==◌, map, filter, find, Bool, true, false, Some, None, Option, Ordering, Less, Equal, IsPermutation, IsSorted, refl, sym, ap, subst, ◌∙◌}
 use Rattle.std.specs.List.{AllByRecursion}
 use Rattle.std.specs.Cmp.{IsTotalOrder}
 use Rattle.std.proofs.lemmas.List.Elements.{All-from_recursion, recursion_from_All}
@@ -8,7 +8,7 @@ use Rattle.std.proofs.lemmas.List.Sorted.{IsPermutation-map, IsPermutation-sym, 
 use Rattle.sqlite_trees.specs.Tree.{IsAscending as Rises}
 use Rattle.sqlite_keyed.proofs.ListLemmas.{map-map}
 use Rattle.sqlite_value.specs.declared.value.Value.{Value}
-use Rattle.sqlite_value.specs.declared.value.Value.TheVariants.{Null, Text, Blob}
+use Rattle.sqlite_value.specs.declared.value.Value.TheVariants.{Text, Blob}
 use Rattle.sqlite_value.specs.declared.keys.Collation.TheVariants.{Binary}
 use Rattle.sqlite_value.specs.Keys.{ascending}
 use Rattle.sqlite_value.specs.Order.{Row, column, value_cmp}
@@ -36,7 +36,7 @@ use Rattle.vault_audit_walk.specs.Pass.{Takes, Refuses, AllFit}
 use Rattle.vault_audit_walk.specs.Walk.{Walked}
 use Rattle.vault_audit_walk.proofs.PassLemmas.{pass_yes, pass_no}
 use Rattle.vault_audit_entries.proofs.BesideLemmas.{is_of, row_beside, beside, beside_is, beside_number}
-use Rattle.vault_audit_entries.proofs.ContentLemmas.{one_each, digest_same}
+use Rattle.vault_audit_entries.proofs.ContentLemmas.{one_each, digest_same, no_number}
 use Rattle.vault_audit_walk.proofs.JoinLemmas.{IsOrderOf}
 use Rattle.vault_audit_entries.proofs.JoinLemmas.{beside_of, shown_beside, join_rows, joined}
 use Rattle.vault_audit_entries.proofs.ContentSoundLemmas.{sound_entries}
@@ -130,9 +130,6 @@ source_is db es are =
     ∙ sym (map-map (extended es) note_columns (db.trees intake_tree))
 
 -- ---- notes that passed
-
-no_number : (n : ℕ) → number n ≡ Null → ⊥
-no_number n e = cc
 
 stated_by : (o : Option Entry) (n : Note) → ◌≡◌ {A = Value} (Text n.bucket) (column (row_beside o) 1) → ◌≡◌ {A = Value} (Text n.key) (column (row_beside o) 2) → number n.size ≡ column (row_beside o) 4 → ◌≡◌ {A = Value} (Blob n.digest) (column (row_beside o) 5) → IsNoted n o
 stated_by None n bucket key size digest = no_number n.size size

@@ -1,5 +1,5 @@
 -- What the looks at settings say together.
-use Rattle.std.proofs.Common.{◌≡◌, ℕ, List, [], ◌∷◌, drop, map, flat_map, Bool, true, false, IsPermutation, IsSorted, Result, Ok, Err, OnOk, IfOk, refl, sym, subst, ◌+◌, arith}
+use Rattle.std.proofs.Common.{◌≡◌, List, [], ◌∷◌, drop, map, flat_map, Bool, true, false, IsPermutation, IsSorted, Result, Ok, Err, OnOk, IfOk, refl, sym, subst, arith}
 use Rattle.std.specs.List.{AllByRecursion}
 use Rattle.sqlite_trees.proofs.ListLemmas.{map-map}
 use Rattle.sqlite_value.specs.Order.{Row}
@@ -8,11 +8,11 @@ use Rattle.sqlite.specs.State.{State, Shown, IsUnchanged}
 use Rattle.sqlite.specs.declared.error.Error.{Error}
 use Rattle.vault_core_model.specs.declared.records.Entry.{Entry}
 use Rattle.vault_core_model.specs.declared.records.History.{History}
-use Rattle.vault_core_model.specs.Sound.{IsWhole, IsWholeAs, AreIdsFrom, AreInOrder}
+use Rattle.vault_core_model.specs.Sound.{IsWhole, IsWholeAs}
 use Rattle.vault_core_model.specs.Vault.{Vault}
 use Rattle.vault_audit_model.specs.declared.rows.SettingRow.{SettingRow}
 use Rattle.vault_audit_model.specs.Limits.{IsHistory}
-use Rattle.vault_audit_model.specs.Relations.{AreEntries, AreNumbered, AreSettings, DecidesSettings, HasSettingsAs, HasSettings}
+use Rattle.vault_audit_model.specs.Relations.{AreEntries, AreSettings, DecidesSettings, HasSettingsAs, HasSettings}
 use Rattle.vault_audit_model.specs.Rows.{entry_row, entry_columns, setting_row, setting_columns}
 use Rattle.vault_audit_model.specs.Spells.{AreSoundAs, settings_in}
 use Rattle.vault_audit_model.specs.Tables.{schema_of, entries_tree, settings, settings_tree}
@@ -31,6 +31,7 @@ use Rattle.vault_audit_entries.proofs.SettingPresenceLemmas.{presence}
 use Rattle.vault_audit_walk.specs.Records.{Checked}
 use Rattle.vault_audit_walk.specs.Beside.{ReportsAbsence}
 use Rattle.vault_audit_model.specs.declared.schema.Edition.{Edition}
+use Rattle.vault_audit_rows.proofs.LimitLemmas.{numbers_of}
 
 -- ---- the walk
 
@@ -71,15 +72,11 @@ have : (hs : List History) → AllByRecursion IsHistory hs → AllByRecursion Is
 have [] are whole = tt
 have (h ∷ hs) are whole = ((whole_as h.entry.marker h whole.0, are.0.settings), have hs are.1 whole.1)
 
-numbered : (next low last : ℕ) (hs : List History) → AreIdsFrom next hs → AreInOrder low last hs → AllByRecursion IsHistory hs → AreNumbered next low (map (λ h. h.entry) hs)
-numbered next low last [] ids order all = tt
-numbered next low last (h ∷ hs) ids order all = ((all.0.entry, (ids.0, order.0)), numbered (next + 1) h.entry.admitted last hs ids.1 order.1 all.1)
-
 module _ (n : Edition) (db : Database) (v : Vault) (it : AreSoundAs n db v) where
   pub its_entries : AreEntries db (map (λ h. h.entry) v.histories)
   its_entries = (
     subst (λ rows. IsPermutation rows (map entry_columns (db.trees entries_tree))) (sym (map-map entry_row (λ h. h.entry) v.histories)) it.spells.entries,
-    numbered 1 0 v.last v.histories it.spells.kept.sound.ids it.spells.kept.sound.order it.spells.kept.limits.histories,
+    numbers_of 1 0 v.last v.histories it.spells.kept.sound.ids it.spells.kept.sound.order it.spells.kept.limits.histories,
   )
 
   its_settings : AreSettings db (map (λ h. h.entry) v.histories) v.histories

@@ -21,8 +21,9 @@ use Rattle.vault_audit_model.specs.Tables.{entries_tree, settings_tree}
 use Rattle.vault_audit_model.specs.Values.{number}
 use Rattle.vault_audit_model.proofs.ValueLemmas.{agrees}
 use Rattle.vault_audit_laws.specs.Ties.{AreTied}
-use Rattle.vault_audit_walk.proofs.BesideLemmas.{agree_numbers, met_as, of_records, each}
+use Rattle.vault_audit_walk.proofs.BesideLemmas.{agree_numbers, met_as, of_records}
 use Rattle.vault_audit_entries.specs.SettingPlaces.{AreRowsOf, IsOfOne, HaveOwners}
+use Rattle.vault_audit_model.proofs.ListLemmas.{all_as}
 
 -- what ties with a number agrees with it
 tied_agrees : (u : Value) (n : ℕ) → value_cmp u (number n) ≡ Equal → agrees u (number n) ≡ true
@@ -55,7 +56,7 @@ module _ (n : Edition) (db : Database) (tied : AreTied n db) (es : List Entry) (
   owned : AllByRecursion (IsOfOne es) xs
   owned =
       let stored : AllByRecursion (λ r. IsTiedRow (setting_columns r)) (db.trees settings_tree) = all_from_map IsTied (λ r. column r 1) (db.trees settings_tree) tied.entries_of_settings in
-      each owner xs (of_records setting_row setting_columns IsTiedRow xs (db.trees settings_tree) rows stored)
+      all_as owner xs (of_records setting_row setting_columns IsTiedRow xs (db.trees settings_tree) rows stored)
 
 pub have_owners : (n : Edition) (db : Database) → AreTied n db → HaveOwners db
 have_owners n db tied = owned n db tied

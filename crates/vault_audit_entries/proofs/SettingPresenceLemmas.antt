@@ -14,10 +14,11 @@ use Rattle.vault_audit_model.specs.Values.{number}
 use Rattle.vault_audit_walk.specs.Records.{Checked}
 use Rattle.vault_audit_walk.specs.Beside.{ReportsAbsence}
 use Rattle.vault_audit_model.proofs.ValueLemmas.{agrees}
-use Rattle.vault_audit_walk.proofs.BesideLemmas.{agree_numbers, beside_row, beside_yes, beside_no, met_yes, met_no, met_as, of_records, of_stored, each}
+use Rattle.vault_audit_walk.proofs.BesideLemmas.{agree_numbers, beside_row, beside_yes, beside_no, met_yes, met_no, met_as, of_records, of_stored}
 use Rattle.vault_audit_entries.specs.SettingPlaces.{AreRowsOf, IsSetAs, DecidesPresence}
 use Rattle.vault_audit_entries.proofs.SettingTextLemmas.{settings_beside, settings_beside_is}
 use Rattle.vault_audit_model.specs.declared.schema.Edition.{Edition}
+use Rattle.vault_audit_model.proofs.ListLemmas.{all_as}
 
 -- ---- each entry beside its settings
 
@@ -34,11 +35,11 @@ module _ (db : Database) (es : List Entry) (are : AreEntries db es) (xs : List S
 
   set_yes : AllByRecursion (λ r. AllByRecursion ReportsAbsence (beside_row (col 1 4) 1 0 Settings r)) (db.trees entries_tree) → AllByRecursion (IsSetAs xs) es
   set_yes all =
-      each (λ e stated. sym (has e.id) ∙ met_yes (col 1 3) 1 0 (entry_row e) e.marker (λ s. refl) Settings stated) es (of_records entry_row entry_columns Besides es (db.trees entries_tree) are.0 all)
+      all_as (λ e stated. sym (has e.id) ∙ met_yes (col 1 3) 1 0 (entry_row e) e.marker (λ s. refl) Settings stated) es (of_records entry_row entry_columns Besides es (db.trees entries_tree) are.0 all)
 
   set_no : AllByRecursion (IsSetAs xs) es → AllByRecursion (λ r. AllByRecursion ReportsAbsence (beside_row (col 1 4) 1 0 Settings r)) (db.trees entries_tree)
   set_no all =
-      of_stored entry_row entry_columns Besides es (db.trees entries_tree) are.0 (each (λ e stated. met_no (col 1 3) 1 0 (entry_row e) e.marker (λ s. refl) Settings (has e.id ∙ stated)) es all)
+      of_stored entry_row entry_columns Besides es (db.trees entries_tree) are.0 (all_as (λ e stated. met_no (col 1 3) 1 0 (entry_row e) e.marker (λ s. refl) Settings (has e.id ∙ stated)) es all)
 
 module _ (n : Edition) (old new : State) (has : old.now.schema ≡ schema_of n) (same : IsUnchanged old new) where
   pub presence : (b : Bool) → Checked ReportsAbsence settings_beside old new b → DecidesPresence new.now b

@@ -33,7 +33,7 @@ use Rattle.vault_audit_laws.specs.Ties.{HaveParents, HaveTiedParents, AreTied}
 
 -- ---- values that SQL holds equal
 
-equal_is : (o : Ordering) → is_true (from_truth (Some (is_eq o))) ≡ true → o ≡ Equal
+pub equal_is : (o : Ordering) → is_true (from_truth (Some (is_eq o))) ≡ true → o ≡ Equal
 equal_is Less h = absurd (cc h)
 equal_is Equal h = refl
 equal_is Greater h = absurd (cc h)

@@ -12,11 +12,8 @@ use Rattle.sqlite_rules.proofs.ProbeLemmas.{has_mapped, mapped_has}
 use Rattle.vault_rules.specs.Rules.{is_rule_set, passes_if_given}
 use Rattle.vault_rules.specs.declared.rule.Rule.{Rule}
 use Rattle.vault_core_model.specs.declared.records.Bucket.{Bucket}
-use Rattle.vault_core_model.specs.declared.records.BucketConfig.{BucketConfig}
-use Rattle.vault_core_model.specs.declared.records.Caller.{Caller}
 use Rattle.vault_core_model.specs.declared.records.Entry.{Entry}
 use Rattle.vault_core_model.specs.declared.records.History.{History}
-use Rattle.vault_core_model.specs.declared.records.Note.{Note}
 use Rattle.vault_core_model.specs.declared.records.Setting.{Setting}
 use Rattle.vault_core_model.specs.declared.records.Tenure.{Tenure}
 use Rattle.vault_core_model.specs.Order.{IsAscending, name_cmp, caller_cmp, bucket_cmp, note_cmp}
@@ -164,25 +161,6 @@ one_history : (hs : List History) → IsAscending (on id_of nat_cmp) hs → (g h
 one_history hs ascending g h in_g in_h same =
     tied_same (on id_of nat_cmp) (by_number_total id_of) hs ascending g h in_g in_h (subst (λ n. nat_cmp g.entry.id n ≡ Equal) same (tied_itself nat_cmp_total g.entry.id))
 
-abbrev bucket_with : List ℕ → BucketConfig → Option (List Rule) → Bucket
-bucket_with name config rules = record { name = name; config = config; rules = rules }
-
-alike_buckets : (a b : List ℕ) (c d : BucketConfig) (e f : Option (List Rule)) → a ≡ b → c ≡ d → e ≡ f → bucket_with a c e ≡ bucket_with b d f
-alike_buckets a b c d e f p q r = rw (p, q, r) refl
-
-abbrev history_with : Entry → Option (List ℕ) → List Setting → List Tenure → History
-history_with entry content settings tenures = record { entry = entry; content = content; settings = settings; tenures = tenures }
-
-alike_histories : (a b : Entry) (c d : Option (List ℕ)) (e f : List Setting) (g h : List Tenure) → a ≡ b → c ≡ d → e ≡ f → g ≡ h → history_with a c e g ≡ history_with b d f h
-alike_histories a b c d e f g h p q r s = rw (p, q, r, s) refl
-
-abbrev vault_with : ℕ → List (List ℕ) → List Caller → List Bucket → List Note → List History → ℕ → Vault
-vault_with last departments callers buckets notes histories moves =
-    record { last = last; departments = departments; callers = callers; buckets = buckets; notes = notes; histories = histories; moves = moves }
-
-alike_vaults : (a0 a1 : ℕ) (b0 b1 : List (List ℕ)) (c0 c1 : List Caller) (d0 d1 : List Bucket) (e0 e1 : List Note) (f0 f1 : List History) (g0 g1 : ℕ) → a0 ≡ a1 → b0 ≡ b1 → c0 ≡ c1 → d0 ≡ d1 → e0 ≡ e1 → f0 ≡ f1 → g0 ≡ g1 → vault_with a0 b0 c0 d0 e0 f0 g0 ≡ vault_with a1 b1 c1 d1 e1 f1 g1
-alike_vaults a0 a1 b0 b1 c0 c1 d0 d1 e0 e1 f0 f1 g0 g1 p q r s t u w = rw (p, q, r, s, t, u, w) refl
-
 -- ---- what the one vault has the other has
 
 module _ (n : Edition) (db : Database) where
@@ -229,7 +207,7 @@ module _ (n : Edition) (db : Database) where
       let back = subst (λ n. IsWithin (rules_if_given n b.rules) (rules_in a)) (sym name) (bucket_rules w v is it b a in_w in_v (sym name)) in
       let rules : a.rules ≡ b.rules =
       same_rules_given a.name a.rules b.rules (all_has HasRuleSet v.buckets a it.kept.sound.rule_sets in_v) (all_has HasRuleSet w.buckets b is.kept.sound.rule_sets in_w) there back in
-      alike_buckets a.name b.name a.config b.config a.rules b.rules name (ap (λ r. r.config) same) rules
+      let config : a.config ≡ b.config = ap (λ r. r.config) same in rw (name, config, rules) refl
 
   buckets_within : (v w : Vault) → SpellsAs n db v → SpellsAs n db w → IsWithin v.buckets w.buckets
   buckets_within v w it is a in_v =
@@ -277,7 +255,7 @@ module _ (n : Edition) (db : Database) where
       let settings : g.settings ≡ h.settings =
       same_settings g.entry.id 1 g.settings h.settings (subst (λ i. IsWithin (settings_in g) (settings_from i 1 h.settings)) (sym id) (history_settings n db v w it is g h in_v in_w id))
       (subst (λ i. IsWithin (settings_from i 1 h.settings) (settings_in g)) (sym id) (history_settings n db w v is it h g in_w in_v (sym id))) in
-      alike_histories g.entry h.entry g.content h.content g.settings h.settings g.tenures h.tenures same content settings (same_tenures n db v w it is g h in_v in_w same)
+      rw (same, content, settings, same_tenures n db v w it is g h in_v in_w same) refl
 
   histories_within : (v w : Vault) → SpellsAs n db v → SpellsAs n db w → IsWithin v.histories w.histories
   histories_within v w it is g in_v =
@@ -298,14 +276,14 @@ same_vault_as n db v w it is =
     let first = it.kept.sound.ordered in
     let second = is.kept.sound.ordered in
     let stated = same_stated n db v w it is in
-    alike_vaults v.last w.last v.departments w.departments v.callers w.callers v.buckets w.buckets v.notes w.notes v.histories w.histories v.moves w.moves
-    (ap (λ (m : MetaRow). m.last) stated)
-    (same_ascending name_cmp nat_list_cmp_total v.departments w.departments first.departments second.departments (departments_within n db v w it is) (departments_within n db w v is it))
-    (same_ascending caller_cmp callers_total v.callers w.callers first.callers second.callers (callers_within n db v w it is) (callers_within n db w v is it))
-    (same_buckets n db v w it is)
-    (same_ascending note_cmp notes_total v.notes w.notes first.notes second.notes (notes_within n db v w it is) (notes_within n db w v is it))
-    (same_ascending (on id_of nat_cmp) (by_number_total id_of) v.histories w.histories (ordered_ids n db v it) (ordered_ids n db w is) (histories_within n db v w it is) (histories_within n db w v is it))
-    (ap (λ (m : MetaRow). m.moves) stated)
+    let last : v.last ≡ w.last = ap (λ (m : MetaRow). m.last) stated in
+    let moves : v.moves ≡ w.moves = ap (λ (m : MetaRow). m.moves) stated in
+    let departments = same_ascending name_cmp nat_list_cmp_total v.departments w.departments first.departments second.departments (departments_within n db v w it is) (departments_within n db w v is it) in
+    let callers = same_ascending caller_cmp callers_total v.callers w.callers first.callers second.callers (callers_within n db v w it is) (callers_within n db w v is it) in
+    let notes = same_ascending note_cmp notes_total v.notes w.notes first.notes second.notes (notes_within n db v w it is) (notes_within n db w v is it) in
+    let histories =
+    same_ascending (on id_of nat_cmp) (by_number_total id_of) v.histories w.histories (ordered_ids n db v it) (ordered_ids n db w is) (histories_within n db v w it is) (histories_within n db w v is it) in
+    rw (last, departments, callers, same_buckets n db v w it is, notes, histories, moves) refl
 
 pub same_vault : (db : Database) (v w : Vault) → SpellsAs newest db v → SpellsAs newest db w → v ≡ w
 same_vault db v w it is = same_vault_as newest db v w it is

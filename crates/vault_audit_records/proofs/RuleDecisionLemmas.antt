@@ -30,7 +30,7 @@ use Rattle.vault_audit_walk.proofs.PairLemmas.{pair_walked, pair_cmp, pair_cmp_t
 use Rattle.vault_audit_walk.proofs.PassLemmas.{walk_yes, walk_no, pass_yes, pass_no}
 use Rattle.vault_audit_walk.specs.Beside.{ReportsAbsence}
 use Rattle.vault_audit_model.proofs.ValueLemmas.{agrees}
-use Rattle.vault_audit_walk.proofs.BesideLemmas.{agree_texts, beside_row, beside_yes, beside_no, met_yes, met_no, met_as, of_records, of_stored, each}
+use Rattle.vault_audit_walk.proofs.BesideLemmas.{agree_texts, beside_row, beside_yes, beside_no, met_yes, met_no, met_as, of_records, of_stored}
 use Rattle.vault_audit_records.specs.RulesByPlace.{RulesSoFar, IsNextBucket, with_bucket, AreBucketRows, DecidesBucketRows, IsWhole, ComesNext, with_rule, no_rule, AreRowsOf, DecidesRuns, IsOfOne, DecidesOwners}
 use Rattle.vault_audit_records.proofs.RuleRiseLemmas.{buckets_rise, rules_rise}
 use Rattle.vault_audit_records.proofs.WholeWalkLemmas.{pass_only}
@@ -38,6 +38,7 @@ use Rattle.vault_audit_records.proofs.RuleGroupLemmas.{start, make, ascend, rows
 use Rattle.vault_audit_records.proofs.RuleTextLemmas.{buckets_walk, buckets_walk_is, buckets_walk_plain, rules_walk, rules_walk_is, rules_walk_plain, buckets_beside, buckets_beside_is}
 use Rattle.vault_audit_model.specs.declared.schema.Edition.{Edition}
 use Rattle.vault_audit_model.specs.declared.schema.Edition.TheVariants.{First, Second, Third}
+use Rattle.vault_audit_model.proofs.ListLemmas.{all_as}
 
 -- ---- the walks
 
@@ -102,11 +103,11 @@ module _ (db : Database) (bs : List BucketRow) (are : IsPermutation (map bucket_
 
   owned_yes : AllByRecursion (λ r. AllByRecursion ReportsAbsence (beside_row (lit (Int (pos 0))) 1 1 Buckets r)) (db.trees rules_tree) → AllByRecursion (IsOfOne bs) xs
   owned_yes all =
-      each (λ x stated. sym (owns x.bucket) ∙ met_yes (lit (Int (pos 0))) 1 0 (rule_row x) false (λ s. refl) Buckets stated) xs (of_records rule_row (rule_columns_as n) Owners xs (db.trees rules_tree) rows all)
+      all_as (λ x stated. sym (owns x.bucket) ∙ met_yes (lit (Int (pos 0))) 1 0 (rule_row x) false (λ s. refl) Buckets stated) xs (of_records rule_row (rule_columns_as n) Owners xs (db.trees rules_tree) rows all)
 
   owned_no : AllByRecursion (IsOfOne bs) xs → AllByRecursion (λ r. AllByRecursion ReportsAbsence (beside_row (lit (Int (pos 0))) 1 1 Buckets r)) (db.trees rules_tree)
   owned_no all =
-      of_stored rule_row (rule_columns_as n) Owners xs (db.trees rules_tree) rows (each (λ x stated. met_no (lit (Int (pos 0))) 1 0 (rule_row x) false (λ s. refl) Buckets (owns x.bucket ∙ stated)) xs all)
+      of_stored rule_row (rule_columns_as n) Owners xs (db.trees rules_tree) rows (all_as (λ x stated. met_no (lit (Int (pos 0))) 1 0 (rule_row x) false (λ s. refl) Buckets (owns x.bucket ∙ stated)) xs all)
 
 module _ (n : Edition) (old new : State) (has : old.now.schema ≡ schema_of n) (same : IsUnchanged old new) where
   pub owners : (b : Bool) → Checked ReportsAbsence buckets_beside old new b → DecidesOwners n new.now b

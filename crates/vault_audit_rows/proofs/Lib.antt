@@ -1,2 +1,3 @@
 pub mod ColumnLemmas
+pub mod LimitLemmas
 pub mod RowLemmas

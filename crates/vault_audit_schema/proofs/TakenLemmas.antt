@@ -43,8 +43,7 @@ module _ (schema : Schema) (text : List ℕ) (made : Table) (defined : table_def
   table_taken BadName (t, is, inr (reserved, bare)) = absurd (let no : is_reserved t.name ≡ false = ap (λ (x : Table). is_reserved x.name) (same t is) ∙ it.own in cc)
   table_taken TooBig (t, is, inl many) =
       let far = subst (λ (x : Table). 65536 ≤ next_tree schema + length x.uniques) (same t is) many in
-      let low = it.low in
-      absurd (grind (arith, nat_tests, low, far))
+      absurd (grind (arith, nat_tests, it.low, far))
   table_taken TooBig (t, is, inr (inl wide)) = absurd (let none : table_reals t ≡ 0 = ap table_reals (same t is) ∙ it.reals in omega (arith, none, wide))
   table_taken TooBig (t, is, inr (inr (key, has, wide))) =
       let none : table_reals t ≡ 0 = ap table_reals (same t is) ∙ it.reals in
@@ -59,8 +58,7 @@ module _ (schema : Schema) (text : List ℕ) (made : Table) (defined : table_def
   pub table_short : ¬ IsLongTable text
   table_short (t, is, long) =
       let far = subst (λ (x : Table). 10 ^ 9 ≤ 2 * length x.name + length text + 200) (same t is) long in
-      let low = it.short in
-      absurd (grind (arith, nat_tests, low, far))
+      absurd (grind (arith, nat_tests, it.short, far))
 
 -- the same of the index of the entries, where no table has a row
 none_breaks : (tables : List Table) (schema : Schema) (trees : Trees) → AllByRecursion (λ t. trees t.tree ≡ []) tables → AllByRecursion (λ t. AllByRecursion (λ row. passes Unique schema trees t row ≡ true) (trees t.tree)) tables
@@ -91,8 +89,7 @@ module _ (schema : Schema) (text : List ℕ) (table : Table) (made : Index) (def
   pub index_short : trees table.tree ≡ [] → ¬ IsLongIndex trees table text
   index_short bare (i, is, inl long) =
       let far = subst (λ (x : Index). 10 ^ 9 ≤ length x.name + length table.name + length text + 200) (same_index i is) long in
-      let low = it.short in
-      absurd (grind (arith, nat_tests, low, far))
+      absurd (grind (arith, nat_tests, it.short, far))
   index_short bare (i, is, inr (row, has, odd)) = subst (λ rows. Has rows row) bare has
 
 pub ascii : (bs : List ℕ) → all_scalars bs ≡ true → encode_utf8_all bs ≡ bs → IsUtf8 bs

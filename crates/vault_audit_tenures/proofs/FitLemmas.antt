@@ -21,6 +21,7 @@ use Rattle.vault_audit_tenures.specs.Presence.{HasSome}
 use Rattle.vault_audit_tenures.proofs.ChainLemmas.{has_id, is_some_of, apart_above, skip, own, removed_of, owner_of, end_same, row_of, at}
 use Rattle.vault_audit_tenures.proofs.HistoryLemmas.{set_more}
 use Rattle.vault_audit_tenures.proofs.OwnedEntryLemmas.{first_holds, dept_named, removed_by}
+use Rattle.vault_core_laws.proofs.Tenures.{reaches}
 
 -- ---- limits
 
@@ -46,13 +47,6 @@ rows_owned v hs = map-flat_map row_of (owned_of v) hs ∙ flat_map_same_on _ ten
 
 -- ---- of one version
 
-ends_late : (moves end : ℕ) (t : Tenure) (ts : List Tenure) → FollowOn moves end t ts → t.from ≤ end
-ends_late moves end t [] follow = follow
-ends_late moves end t (u ∷ us) follow =
-    let later = ends_late moves end u us follow.4 in
-    let first = follow.2 in
-    omega (arith, later, first)
-
 module _ (v : Vault) (buckets : AllByRecursion IsBucket v.buckets) where
   abbrev pub Ends : Option OwnedTenure → List OwnedTenure → Type 0
   Ends before ts = Fit (at v.moves v.last before) ts × AreEnded (at v.moves v.last before) ts
@@ -62,7 +56,7 @@ module _ (v : Vault) (buckets : AllByRecursion IsBucket v.buckets) where
     one = owned_in v.buckets e
 
     timely : (t : Tenure) (ts : List Tenure) → t.number ≤ v.moves → FollowOn v.moves (end_of v.last e.removal) t ts → IsTimely v.moves v.last (one t)
-    timely t ts few follow = (few, subst (λ k. t.from ≤ k) (sym (end_same v.last e.removal)) (ends_late v.moves (end_of v.last e.removal) t ts follow))
+    timely t ts few follow = (few, subst (λ k. t.from ≤ k) (sym (end_same v.last e.removal)) (reaches v.moves (end_of v.last e.removal) t ts follow))
 
     run_fits : (t : Tenure) (ts : List Tenure) → FollowOn v.moves (end_of v.last e.removal) t ts → AllByRecursion IsTenure ts → EndsAs (removed_of e) (owner_of v.buckets e) (last_tenure (t ∷ ts)) → Ends (Some (one t)) (map one ts ++ rest)
     run_fits t [] follow limits ends = on (one t) refl ends

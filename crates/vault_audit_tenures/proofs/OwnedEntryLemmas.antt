@@ -80,7 +80,7 @@ none_later name b [] all is = tt
 none_later name b (c ∷ cs) all is = (not_named b.name c.name name all.0 is, none_later name b cs all.1 is)
 
 -- buckets in the order of their names have at most one of a name
-only_one : (name : List ℕ) (bs : List Bucket) → IsAscending bucket_cmp bs → filter (is_bucket name) bs ≡ alone (bucket_in bs name)
+pub only_one : (name : List ℕ) (bs : List Bucket) → IsAscending bucket_cmp bs → filter (is_bucket name) bs ≡ alone (bucket_in bs name)
 only_one name [] up = refl
 only_one name (b ∷ bs) up = of (is_bucket name b) refl (only_one name bs up.1)
   where
@@ -101,7 +101,7 @@ module _ (source : List Values) (bs : List Bucket) (are : IsPermutation (map row
       (subst (IsPermutation (filter test (map row_of_bucket bs))) (filter-map test bucket_columns source) (IsPermutation-filter test _ _ are))
 
   -- what the join finds for a name is the bucket of that name, or a row of NULLs
-  found : (name : List ℕ) → map bucket_columns (or_nulls (filter (is_at name) source)) ≡ bucket_beside (bucket_in bs name) ∷ []
+  pub found : (name : List ℕ) → map bucket_columns (or_nulls (filter (is_at name) source)) ≡ bucket_beside (bucket_in bs name) ∷ []
   found name = of (bucket_in bs name) (subst (λ xs. IsPermutation (map row_of_bucket xs) (map bucket_columns (filter (is_at name) source))) (only_one name bs up) (matched name))
     where
       of : (o : Option Bucket) → IsPermutation (map row_of_bucket (alone o)) (map bucket_columns (filter (is_at name) source)) → map bucket_columns (or_nulls (filter (is_at name) source)) ≡ bucket_beside o ∷ []
@@ -126,11 +126,11 @@ source_is db =
     (λ r. sym (map-map (beside_bucket (entry_columns r)) bucket_columns (or_nulls (filter (λ b. agrees (column b 1) (column r 2)) (db.trees buckets_tree))))) (db.trees entries_tree)
     ∙ sym (flat_map-map (shown_for (db.trees buckets_tree)) entry_columns (db.trees entries_tree))
 
-dept_shown : (o : Option Bucket) → column (bucket_beside o) 1 ≡ text_or_null (option_map (λ c. c.dept) (option_map (λ (b : Bucket). b.config) o))
+pub dept_shown : (o : Option Bucket) → column (bucket_beside o) 1 ≡ text_or_null (option_map (λ c. c.dept) (option_map (λ (b : Bucket). b.config) o))
 dept_shown None = refl
 dept_shown (Some b) = refl
 
-each_one : {X Y : Type 0} (f : X → List Y) (g : X → Y) → ((x : X) → f x ≡ g x ∷ []) → (xs : List X) → flat_map f xs ≡ map g xs
+pub each_one : {X Y : Type 0} (f : X → List Y) (g : X → Y) → ((x : X) → f x ≡ g x ∷ []) → (xs : List X) → flat_map f xs ≡ map g xs
 each_one f g same [] = refl
 each_one f g same (x ∷ xs) = rw (same x) (ap (λ ys. g x ∷ ys) (each_one f g same xs))
 

@@ -1,17 +1,15 @@
 -- What the query on tenures shows: each tenure once, beside the entry of its id and that entry's bucket, where they are there.
-use Rattle.std.proofs.Common.{◌≡◌, ◌==◌, ℕ, List, [], ◌∷◌, ◌++◌, map, filter, flat_map, find, cond, option_map, Bool, true, false, Option, Some, None, IsPermutation, refl, sym, ap, subst, ◌∙◌, append-nil}
+use Rattle.std.proofs.Common.{◌≡◌, ◌==◌, ℕ, List, [], ◌∷◌, ◌++◌, map, filter, flat_map, find, Bool, false, Option, Some, None, IsPermutation, refl, sym, ap, subst, ◌∙◌, append-nil}
 use Rattle.std.specs.List.{AllByRecursion}
 use Rattle.std.proofs.lemmas.List.Sorted.{IsPermutation-map, IsPermutation-sym}
-use Rattle.std.proofs.lemmas.Slice.Eq.{bytes_eq-Decides}
 use Rattle.sqlite_trees.proofs.ListLemmas.{all-permutation, all_from_map}
-use Rattle.sqlite_keyed.proofs.ListLemmas.{map-map, flat_map-map, filter-map, filter_same, filter_none, IsPermutation-filter}
+use Rattle.sqlite_keyed.proofs.ListLemmas.{map-map, flat_map-map, filter_none, map_same}
 use Rattle.sqlite_value.specs.declared.value.Value.{Value}
 use Rattle.sqlite_value.specs.declared.value.Value.TheVariants.{Null, Int, Real, Text, Blob}
 use Rattle.sqlite_value.specs.Order.{Row as Values, column}
 use Rattle.sqlite_sql.specs.Ops.{binary}
 use Rattle.sqlite_sql.specs.Query.{or_nulls}
 use Rattle.sqlite.specs.Effect.{Database}
-use Rattle.sqlite.proofs.Callers.{one_permutation}
 use Rattle.vault_core_model.specs.declared.records.Bucket.{Bucket}
 use Rattle.vault_core_model.specs.declared.records.Entry.{Entry}
 use Rattle.vault_core_model.specs.declared.records.History.{History}
@@ -26,7 +24,7 @@ use Rattle.vault_audit_model.specs.Spells.{entries_in, tenures_in}
 use Rattle.vault_audit_model.specs.Tables.{buckets_tree, entries_tree, tenures_tree}
 use Rattle.vault_audit_model.specs.Values.{number, text_or_null}
 use Rattle.vault_audit_model.proofs.SameRows.{cell, number_same, number_or_null_same, text_or_null_same}
-use Rattle.vault_audit_model.proofs.ValueLemmas.{agrees, same_text}
+use Rattle.vault_audit_model.proofs.ValueLemmas.{agrees}
 use Rattle.vault_audit_entries.proofs.BesideLemmas.{is_of, is_id, is_id_number, row_beside, beside_is, find_same}
 use Rattle.vault_audit_tenures.specs.declared.owned_tenures.OwnedTenure.{OwnedTenure}
 use Rattle.vault_audit_tenures.specs.OwnedTenures.{owned_row, owned_in}
@@ -34,20 +32,9 @@ use Rattle.vault_audit_tenures.specs.Chain.{shown_beside, shown_in}
 use Rattle.vault_audit_tenures.specs.Presence.{AreRowsOf}
 use Rattle.vault_audit_tenures.proofs.ChainLemmas.{found_among, each_found, owner_of, IsOf, IsOfOne, row_of}
 use Rattle.vault_audit_tenures.proofs.FitLemmas.{all_owned, rows_owned}
-use Rattle.vault_audit_tenures.proofs.OwnedEntryLemmas.{none_mapped, given_rows, is_bucket, row_of_bucket, none_later, alone, bucket_beside}
-
--- ---- a list of no length, and one of one row, under a map
+use Rattle.vault_audit_tenures.proofs.OwnedEntryLemmas.{row_of_bucket, bucket_beside, dept_shown, each_one, found}
 
 -- ---- the bucket of a name
-
--- buckets in the order of their names have at most one of a name
-only_one : (name : List ℕ) (bs : List Bucket) → IsAscending bucket_cmp bs → filter (is_bucket name) bs ≡ alone (bucket_in bs name)
-only_one name [] up = refl
-only_one name (b ∷ bs) up = of (is_bucket name b) refl (only_one name bs up.1)
-  where
-    of : (t : Bool) → is_bucket name b ≡ t → filter (is_bucket name) bs ≡ alone (bucket_in bs name) → cond t (b ∷ filter (is_bucket name) bs) (filter (is_bucket name) bs) ≡ alone (cond t (Some b) (bucket_in bs name))
-    of true same more = ap (λ xs. b ∷ xs) (filter_none (is_bucket name) bs (none_later name b bs up.0 ((bytes_eq-Decides b.name name).0 same)))
-    of false other more = more
 
 null_apart : (u : Value) → agrees u Null ≡ false
 unfolding binary
@@ -65,22 +52,6 @@ module _ (source : List Values) (bs : List Bucket) (are : IsPermutation (map row
   abbrev is_at : Value → Values → Bool
   is_at name r = agrees (column r 1) name
 
-  matched : (name : List ℕ) → IsPermutation (map row_of_bucket (filter (is_bucket name) bs)) (map bucket_columns (filter (is_at (Text name)) source))
-  matched name =
-      let test = λ (row : Values). agrees (column row 0) (Text name) in
-      let stated : filter test (map row_of_bucket bs) ≡ map row_of_bucket (filter (is_bucket name) bs) =
-      filter-map test row_of_bucket bs ∙ ap (map row_of_bucket) (filter_same (λ (b : Bucket). test (row_of_bucket b)) (is_bucket name) (λ b. same_text b.name name) bs) in
-      subst (λ xs. IsPermutation xs (map bucket_columns (filter (is_at (Text name)) source))) stated
-      (subst (IsPermutation (filter test (map row_of_bucket bs))) (filter-map test bucket_columns source) (IsPermutation-filter test _ _ are))
-
-  -- what the join finds for a name is the bucket of that name, or a row of NULLs
-  found : (name : List ℕ) → map bucket_columns (or_nulls (filter (is_at (Text name)) source)) ≡ bucket_beside (bucket_in bs name) ∷ []
-  found name = of (bucket_in bs name) (subst (λ xs. IsPermutation (map row_of_bucket xs) (map bucket_columns (filter (is_at (Text name)) source))) (only_one name bs up) (matched name))
-    where
-      of : (o : Option Bucket) → IsPermutation (map row_of_bucket (alone o)) (map bucket_columns (filter (is_at (Text name)) source)) → map bucket_columns (or_nulls (filter (is_at (Text name)) source)) ≡ bucket_beside o ∷ []
-      of None none = let empty = none_mapped bucket_columns (filter (is_at (Text name)) source) none in rw empty refl
-      of (Some b) one = given_rows bucket_columns (filter (is_at (Text name)) source) (row_of_bucket b) (one_permutation (row_of_bucket b) (map bucket_columns (filter (is_at (Text name)) source)) one)
-
   not_found : map bucket_columns (or_nulls (filter (is_at Null) source)) ≡ bucket_beside None ∷ []
   not_found = rw (filter_none (is_at Null) source (none_null source)) refl
 
@@ -97,10 +68,6 @@ with_buckets buckets t e = map (with_both t e) (map bucket_columns (or_nulls (fi
 abbrev shown_for : List Bucket → Option Entry → Values → Values
 shown_for bs None t = column t 0 ∷ column t 1 ∷ column t 2 ∷ column t 3 ∷ Null ∷ Null ∷ Null ∷ []
 shown_for bs (Some e) t = column t 0 ∷ column t 1 ∷ column t 2 ∷ column t 3 ∷ number e.admitted ∷ removal_at e.removal ∷ text_or_null (owner_of bs e) ∷ []
-
-dept_shown : (o : Option Bucket) → column (bucket_beside o) 1 ≡ text_or_null (option_map (λ c. c.dept) (option_map (λ (b : Bucket). b.config) o))
-dept_shown None = refl
-dept_shown (Some b) = refl
 
 -- the tenure's own columns
 abbrev own_columns : Values → Values
@@ -122,14 +89,6 @@ is_shown bs (Some x) c t e =
 
 found_number : (es : List Entry) (i : ℕ) → find (is_id (number i)) es ≡ found_among es i
 found_number es i = find_same (is_id (number i)) (λ e. e.id == i) (is_id_number i) es
-
-each_one : {X Y : Type 0} (f : X → List Y) (g : X → Y) → ((x : X) → f x ≡ g x ∷ []) → (xs : List X) → flat_map f xs ≡ map g xs
-each_one f g same [] = refl
-each_one f g same (x ∷ xs) = rw (same x) (ap (λ ys. g x ∷ ys) (each_one f g same xs))
-
-map_alike : {X Y : Type 0} (f g : X → Y) → ((x : X) → f x ≡ g x) → (xs : List X) → map f xs ≡ map g xs
-map_alike f g same [] = refl
-map_alike f g same (x ∷ xs) = rw (same x, map_alike f g same xs) refl
 
 map_alike_on : {X Y : Type 0} (f g : X → Y) (xs : List X) → AllByRecursion (λ x. f x ≡ g x) xs → map f xs ≡ map g xs
 map_alike_on f g [] all = refl
@@ -191,7 +150,7 @@ module _ (n : Edition) (db : Database) (bs : List Bucket) (es : List Entry) (buc
     rows_are =
         let mine : map own_columns (map owned_row ts) ≡ map tenure_row (map row_of ts) = map-map own_columns owned_row ts ∙ sym (map-map tenure_row row_of ts) in
         let theirs : map own_columns (shown_in db) ≡ map tenure_columns stored =
-        ap (map own_columns) (source_is ∙ map-map stated tenure_columns stored) ∙ map-map own_columns (λ r. stated (tenure_columns r)) stored ∙ map_alike _ tenure_columns (λ r. own_shown bs (find (is_id (column (tenure_columns r) 0)) es) r) stored in
+        ap (map own_columns) (source_is ∙ map-map stated tenure_columns stored) ∙ map-map own_columns (λ r. stated (tenure_columns r)) stored ∙ map_same _ tenure_columns (λ r. own_shown bs (find (is_id (column (tenure_columns r) 0)) es) r) stored in
         subst (IsPermutation (map tenure_row (map row_of ts))) theirs (subst (λ xs. IsPermutation xs (map own_columns (shown_in db))) mine (IsPermutation-map own_columns _ _ are))
 
 -- ---- from histories

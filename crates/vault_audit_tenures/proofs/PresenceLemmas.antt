@@ -15,9 +15,10 @@ use Rattle.vault_audit_model.specs.Values.{number}
 use Rattle.vault_audit_model.proofs.ValueLemmas.{agrees}
 use Rattle.vault_audit_walk.specs.Records.{Checked}
 use Rattle.vault_audit_walk.specs.Beside.{ReportsAbsence}
-use Rattle.vault_audit_walk.proofs.BesideLemmas.{agree_numbers, beside_row, beside_yes, beside_no, met_yes, met_no, met_as, of_records, of_stored, each}
+use Rattle.vault_audit_walk.proofs.BesideLemmas.{agree_numbers, beside_row, beside_yes, beside_no, met_yes, met_no, met_as, of_records, of_stored}
 use Rattle.vault_audit_tenures.specs.Presence.{AreRowsOf, HasSome, DecidesPresence}
 use Rattle.vault_audit_tenures.proofs.TenureTextLemmas.{tenures_beside, tenures_beside_is}
+use Rattle.vault_audit_model.proofs.ListLemmas.{all_as}
 
 module _ (db : Database) (es : List Entry) (are : AreEntries db es) (ts : List TenureRow) (rows : AreRowsOf db ts) where
   abbrev Tenures : List Row
@@ -32,11 +33,11 @@ module _ (db : Database) (es : List Entry) (are : AreEntries db es) (ts : List T
 
   set_yes : AllByRecursion (λ r. AllByRecursion ReportsAbsence (beside_row (col 1 4) 1 0 Tenures r)) (db.trees entries_tree) → AllByRecursion (HasSome ts) es
   set_yes all =
-      each (λ e stated. sym (has e.id) ∙ met_yes (col 1 3) 1 0 (entry_row e) e.marker (λ s. refl) Tenures stated) es (of_records entry_row entry_columns Besides es (db.trees entries_tree) are.0 all)
+      all_as (λ e stated. sym (has e.id) ∙ met_yes (col 1 3) 1 0 (entry_row e) e.marker (λ s. refl) Tenures stated) es (of_records entry_row entry_columns Besides es (db.trees entries_tree) are.0 all)
 
   set_no : AllByRecursion (HasSome ts) es → AllByRecursion (λ r. AllByRecursion ReportsAbsence (beside_row (col 1 4) 1 0 Tenures r)) (db.trees entries_tree)
   set_no all =
-      of_stored entry_row entry_columns Besides es (db.trees entries_tree) are.0 (each (λ e stated. met_no (col 1 3) 1 0 (entry_row e) e.marker (λ s. refl) Tenures (has e.id ∙ stated)) es all)
+      of_stored entry_row entry_columns Besides es (db.trees entries_tree) are.0 (all_as (λ e stated. met_no (col 1 3) 1 0 (entry_row e) e.marker (λ s. refl) Tenures (has e.id ∙ stated)) es all)
 
 module _ (old new : State) (has : old.now.schema ≡ schema_of Third) (same : IsUnchanged old new) where
   pub presence : (b : Bool) → Checked ReportsAbsence tenures_beside old new b → DecidesPresence new.now b

@@ -18,6 +18,7 @@ use Rattle.vault_audit_model.specs.Relations.{AreNumbered, AreTenuresInLimits, I
 use Rattle.vault_audit_model.specs.Spells.{entries_in}
 use Rattle.vault_audit_tenures.specs.declared.sums.tenures.StatedTenure.{StatedTenure}
 use Rattle.vault_audit_tenures.specs.TenureSums.{share_where, last_share, shares_stated}
+use Rattle.sqlite_keyed.proofs.ListLemmas.{all-append}
 
 -- a tenure beside its version
 abbrev pub stated : Entry → Tenure → StatedTenure
@@ -56,10 +57,6 @@ one_version e first t (u ∷ us) rest later =
 
 -- ---- the versions after it
 
-both_all : {X : Type 0} (P : X → Type 0) (xs ys : List X) → AllByRecursion P xs → AllByRecursion P ys → AllByRecursion P (xs ++ ys)
-both_all P [] ys a b = b
-both_all P (x ∷ xs) ys a b = (a.0, both_all P xs ys a.1 b)
-
 stated_later : (id : ℕ) (e : Entry) (ts : List Tenure) → id < e.id → AllByRecursion (IsBefore id) (map (stated e) ts)
 stated_later id e [] low = tt
 stated_later id e (t ∷ ts) low = (low, stated_later id e ts low)
@@ -67,8 +64,7 @@ stated_later id e (t ∷ ts) low = (low, stated_later id e ts low)
 pub all_later : (id next low : ℕ) (hs : List History) → id < next → AreNumbered next low (entries_in hs) → AllByRecursion (IsBefore id) (flat_map stated_in hs)
 all_later id next low [] below are = tt
 all_later id next low (h ∷ hs) below are =
-    let here = are.0.1.0 in
-    both_all (IsBefore id) (stated_in h) (flat_map stated_in hs) (stated_later id h.entry h.tenures (omega (arith, below, here)))
+    all-append (IsBefore id) (stated_in h) (flat_map stated_in hs) (stated_later id h.entry h.tenures (omega (arith, below, are.0.1.0)))
     (all_later id (next + 1) h.entry.admitted hs (omega (arith, below)) are.1)
 
 -- ---- all of them
@@ -130,5 +126,5 @@ days_of v h (t ∷ ts) false same has is all =
 pub shares_dated : (v : Vault) (next low : ℕ) (hs : List History) → AreNumbered next low (entries_in hs) → AllByRecursion (IsTenured v) hs → AllByRecursion AreTenuresInLimits hs → AllByRecursion IsDated (flat_map shares_of hs)
 shares_dated v next low [] are all limits = tt
 shares_dated v next low (h ∷ hs) are all limits =
-    both_all IsDated (shares_of h) (flat_map shares_of hs) (days_of v h h.tenures h.entry.marker refl all.0 are.0.0.removal limits.0)
+    all-append IsDated (shares_of h) (flat_map shares_of hs) (days_of v h h.tenures h.entry.marker refl all.0 are.0.0.removal limits.0)
     (shares_dated v (next + 1) h.entry.admitted hs are.1 all.1 limits.1)

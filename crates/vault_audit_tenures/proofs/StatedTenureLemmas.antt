@@ -51,8 +51,7 @@ IsIn es h = IsAt es h.entry.id h.entry
 in_more : (x : Entry) (es : List Entry) (next low : ℕ) (hs : List History) → x.id < next → AreNumbered next low (entries_in hs) → AllByRecursion (IsIn es) hs → AllByRecursion (IsIn (x ∷ es)) hs
 in_more x es next low [] below are all = tt
 in_more x es next low (h ∷ hs) below are all =
-    let here = are.0.1.0 in
-    let other = other_id x.id h.entry.id (omega (arith, below, here)) in
+    let other = other_id x.id h.entry.id (omega (arith, below, are.0.1.0)) in
     (ap (λ b. cond b (Some x) (find (λ (y : Entry). y.id == h.entry.id) es)) other ∙ all.0, in_more x es (next + 1) h.entry.admitted hs (omega (arith, below)) are.1 all.1)
 
 pub each_in : (next low : ℕ) (hs : List History) → AreNumbered next low (entries_in hs) → AllByRecursion (IsIn (entries_in hs)) hs

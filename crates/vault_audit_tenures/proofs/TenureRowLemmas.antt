@@ -1,13 +1,11 @@
 -- One row holds one tenure beside its version, and the rows of tenures that come one after the other rise.
-use Rattle.std.proofs.Common.{◌≡◌, ◌<◌, ◌⊎◌, inl, inr, ℕ, pos, List, [], ◌∷◌, length, map, Option, Some, Less, refl, sym, ◌∙◌, arith}
+use Rattle.std.proofs.Common.{◌≡◌, ◌<◌, ◌⊎◌, inl, inr, ℕ, pos, List, [], ◌∷◌, map, Some, Less, refl, sym, ◌∙◌, arith}
 use Rattle.std.specs.List.{AllByRecursion}
-use Rattle.sqlite_value.specs.declared.value.Value.{Value}
-use Rattle.sqlite_value.specs.Order.{Row, column}
+use Rattle.sqlite_value.specs.Order.{Row}
 use Rattle.sqlite_value.proofs.OrderLemmas.{value_cmp-Int}
 use Rattle.sqlite_trees.specs.Tree.{IsAscending}
 use Rattle.vault_audit_model.proofs.SameRows.{cell, number_same, number_or_null_same, text_same, text_or_null_same}
 use Rattle.vault_audit_model.proofs.ValueLemmas.{int_less}
-use Rattle.vault_audit_rows.proofs.RowLemmas as rows
 use Rattle.vault_audit_walk.proofs.PairLemmas.{pair_cmp}
 use Rattle.vault_audit_entries.proofs.SettingRowLemmas.{int_same}
 use Rattle.vault_audit_tenures.specs.declared.owned_tenures.OwnedTenure.{OwnedTenure}
@@ -17,21 +15,11 @@ use Rattle.vault_audit_tenures.specs.Chain.{Follows, Fit, with_tenure}
 
 -- ---- one row holds one tenure
 
-pub row_of_7 : (r : Row) (v0 v1 v2 v3 v4 v5 v6 : Value) → length r ≡ 7 → column r 0 ≡ v0 → column r 1 ≡ v1 → column r 2 ≡ v2 → column r 3 ≡ v3 → column r 4 ≡ v4 → column r 5 ≡ v5 → column r 6 ≡ v6 → r ≡ v0 ∷ v1 ∷ v2 ∷ v3 ∷ v4 ∷ v5 ∷ v6 ∷ []
-row_of_7 = rows.row_of_7
-
-abbrev owned_as : ℕ → ℕ → List ℕ → ℕ → ℕ → Option ℕ → Option (List ℕ) → OwnedTenure
-owned_as id number dept from admitted removed owner =
-    record { id = id; tenure = record { dept = dept; from = from; number = number }; admitted = admitted; removed = removed; owner = owner }
-
-alike : (i1 i2 n1 n2 : ℕ) (d1 d2 : List ℕ) (f1 f2 a1 a2 : ℕ) (r1 r2 : Option ℕ) (o1 o2 : Option (List ℕ)) → i1 ≡ i2 → n1 ≡ n2 → d1 ≡ d2 → f1 ≡ f2 → a1 ≡ a2 → r1 ≡ r2 → o1 ≡ o2 → owned_as i1 n1 d1 f1 a1 r1 o1 ≡ owned_as i2 n2 d2 f2 a2 r2 o2
-alike i1 i2 n1 n2 d1 d2 f1 f2 a1 a2 r1 r2 o1 o2 o p q r s t u = rw (o, p, q, r, s, t, u) refl
-
 pub same_owned : (x y : OwnedTenure) → owned_row x ≡ owned_row y → x ≡ y
 same_owned x y e =
     let one = λ (at : ℕ). cell (owned_row x) (owned_row y) at e in
-    alike x.id y.id x.tenure.number y.tenure.number x.tenure.dept y.tenure.dept x.tenure.from y.tenure.from x.admitted y.admitted x.removed y.removed x.owner y.owner
-    (number_same _ _ (one 0)) (number_same _ _ (one 1)) (text_same _ _ (one 2)) (number_same _ _ (one 3)) (number_same _ _ (one 4)) (number_or_null_same _ _ (one 5)) (text_or_null_same _ _ (one 6))
+    rw (number_same x.id y.id (one 0), number_same x.tenure.number y.tenure.number (one 1), text_same x.tenure.dept y.tenure.dept (one 2), number_same x.tenure.from y.tenure.from (one 3))
+    (rw (number_same x.admitted y.admitted (one 4), number_or_null_same x.removed y.removed (one 5), text_or_null_same x.owner y.owner (one 6)) refl)
 
 pub one_tenure : (row : Row) (x y : OwnedTenure) → row ≡ owned_row x → row ≡ owned_row y → x ≡ y
 one_tenure row x y is_x is_y = same_owned x y (sym is_x ∙ is_y)

@@ -50,16 +50,8 @@ above_now sums items x is above within = let more = sum_by_push size_of items x 
 pub counted_in : (sums : Row) (items : List Item) (x y : Item) → x ≡ y → (AreBounded (items ++ x ∷ []) → IsRowOf sums (items ++ x ∷ [])) → AreBounded (items ++ y ∷ []) → IsRowOf sums (items ++ y ∷ [])
 counted_in sums items x y same counts = subst (λ i. AreBounded (items ++ i ∷ []) → IsRowOf sums (items ++ i ∷ [])) same counts
 
-abbrev row_with : ℕ → ℕ → ℕ → ℕ → ℕ → ℕ → ℕ → Row
-row_with a b c d e f g = record { admitted = a; received = b; held = c; removed = d; handed = e; weighted = f; closed = g }
-
-alike : (a1 a2 b1 b2 c1 c2 d1 d2 e1 e2 f1 f2 g1 g2 : ℕ) → a1 ≡ a2 → b1 ≡ b2 → c1 ≡ c2 → d1 ≡ d2 → e1 ≡ e2 → f1 ≡ f2 → g1 ≡ g2 → row_with a1 b1 c1 d1 e1 f1 g1 ≡ row_with a2 b2 c2 d2 e2 f2 g2
-alike a1 a2 b1 b2 c1 c2 d1 d2 e1 e2 f1 f2 g1 g2 p q r s t u v = rw (p, q, r, s, t, u, v) refl
-
 pub sums_are : (row : Row) (items : List Item) → IsRowOf row items → row ≡ sums_over items
-sums_are row items is =
-    alike row.admitted _ row.received _ row.held _ row.removed _ row.handed _ row.weighted _ row.closed _
-    is.admitted is.received is.held is.removed is.handed is.weighted is.closed
+sums_are row items is = rw (is.admitted, is.received, is.held, is.removed, is.handed, is.weighted, is.closed) refl
 
 -- what is put at a department's name is its total, and every other department keeps its own
 pub counted_at : (dept : List ℕ) (s t : Totals) (i : Item) (now : Option Row) → ((name : List ℕ) → get name_cmp t.sums name ≡ cond (is_eq (name_cmp dept name)) (Some now) (get name_cmp s.sums name))

@@ -27,7 +27,7 @@ pub struct OwnedTenure {
 }
 
 /// The tenure that a row holds.
-#[tactic(auto, using(crate::proofs::TenureRowLemmas::row_of_7))]
+#[tactic(auto, using(vault_audit_rows::proofs::RowLemmas::row_of_7))]
 pub fn read_owned(row: &Row) -> Result<OwnedTenure, Misread>
     ensures ok { IfOk result (λ t. (row.now ≡ owned_row t) × IsOwned t) }
     ensures wrong { IfErr result (λ e. e ≡ Misread.Wrong → (x : Reported) → IsOwned x → row.now ≢ owned_row x) }

@@ -8,7 +8,7 @@ use Rattle.std.proofs.lemmas.List.Sorted.{IsPermutation-map, IsPermutation-sym, 
 use Rattle.std.proofs.lemmas.Bool.Decides.{nat_tests}
 use Rattle.std.proofs.lemmas.List.Concat.{flat_map_single}
 use Rattle.sqlite_trees.specs.Tree.{Trees}
-use Rattle.sqlite_trees.proofs.ListLemmas.{map-map, map-flat_map, all-permutation, all-map, all_from_map}
+use Rattle.sqlite_trees.proofs.ListLemmas.{map-map, map-flat_map, all-permutation, all-map, all_from_map, flat_map_same_on}
 use Rattle.sqlite_value.specs.declared.value.Value.{Value}
 use Rattle.sqlite_value.specs.declared.value.Value.TheVariants.{Null, Int, Text}
 use Rattle.sqlite_value.specs.declared.keys.Collation.TheVariants.{Binary}
@@ -33,6 +33,8 @@ use Rattle.vault_audit_walk.specs.Records.{Checked}
 use Rattle.vault_audit_walk.proofs.ScanLemmas.{goes_on_to}
 use Rattle.vault_audit_walk.proofs.RecordLemmas.{between, front}
 use Rattle.vault_audit_walk.specs.Beside.{IsAbsentAs, ReportsAbsence}
+use Rattle.sqlite_keyed.proofs.ListLemmas.{all-flat_map}
+use Rattle.vault_audit_walk.proofs.JoinLemmas.{with_true}
 
 -- ---- lists
 
@@ -44,14 +46,6 @@ all_behind P (x ∷ xs) ys all = all_behind P xs ys all.1
 all_from_flat : {A B : Type 0} (P : B → Type 0) (f : A → List B) (xs : List A) → AllByRecursion P (flat_map f xs) → AllByRecursion (λ x. AllByRecursion P (f x)) xs
 all_from_flat P f [] all = tt
 all_from_flat P f (x ∷ xs) all = (front P (f x) (flat_map f xs) all, all_from_flat P f xs (all_behind P (f x) (flat_map f xs) all))
-
-all_joined : {B : Type 0} (P : B → Type 0) (xs ys : List B) → AllByRecursion P xs → AllByRecursion P ys → AllByRecursion P (xs ++ ys)
-all_joined P [] ys p q = q
-all_joined P (x ∷ xs) ys p q = (p.0, all_joined P xs ys p.1 q)
-
-all_to_flat : {A B : Type 0} (P : B → Type 0) (f : A → List B) (xs : List A) → AllByRecursion (λ x. AllByRecursion P (f x)) xs → AllByRecursion P (flat_map f xs)
-all_to_flat P f [] all = tt
-all_to_flat P f (x ∷ xs) all = all_joined P (f x) (flat_map f xs) all.0 (all_to_flat P f xs all.1)
 
 -- ---- SELECT shown, b.c FROM t AS a LEFT JOIN other AS b ON b.c = a.d
 
@@ -83,15 +77,11 @@ beside_row shown c d others r = map (pair_shown shown c r) (or_nulls (filter (λ
 abbrev pub beside_rows : ℕ → ℕ → Term → ℕ → ℕ → Trees → List Row
 beside_rows t other shown c d db = flat_map (beside_row shown c d (db other)) (db t)
 
-flat_same : {A B : Type 0} (f g : A → List B) → ((x : A) → f x ≡ g x) → (xs : List A) → flat_map f xs ≡ flat_map g xs
-flat_same f g same [] = refl
-flat_same f g same (x ∷ xs) = rw (same x, flat_same f g same xs) refl
-
 -- the matches, as they are shown
 matched : (t other : ℕ) (shown : Term) (c d : ℕ) (db : Trees) → map (eval_all (shown ∷ col 2 c ∷ [])) (matches db [] (inner t (left other (op2 (Compare Eq Binary) (col 2 c) (col 1 d) ∷ []) end)) ([] ∷ [])) ≡ beside_rows t other shown c d db
 matched t other shown c d db =
     map-flat_map (eval_all (shown ∷ col 2 c ∷ [])) (λ r. matches db [] (left other (op2 (Compare Eq Binary) (col 2 c) (col 1 d) ∷ []) end) ([] ∷ r ∷ [])) (db t)
-    ∙ flat_same _ (beside_row shown c d (db other)) (λ r.
+    ∙ flat_map_same_on _ (beside_row shown c d (db other)) (λ r.
     let some = or_nulls (filter (λ s. agrees (column s c) (column r d) && true) (db other)) in
     ap (map (eval_all (shown ∷ col 2 c ∷ []))) (flat_map_single (λ s. [] ∷ r ∷ s ∷ []) some) ∙ map-map (eval_all (shown ∷ col 2 c ∷ [])) (λ s. [] ∷ r ∷ s ∷ []) some) (db t)
 
@@ -130,7 +120,7 @@ module _ {schema : Schema} {sql : List ℕ} {t other : ℕ} {shown : Term} {c d 
         let known : new.now.schema ≡ schema = ap (λ (b : Database). b.schema) same.0.now_is ∙ has in
         let on = goes_on_to sql new schema known _ names it.command same.0.is_open (rows ++ row ∷ []) begins in
         let whole = looked new new known ((rows ++ row ∷ []) ++ on.0) on.1 in
-        let every = all-permutation Takes _ _ whole (all_to_flat Takes (beside_row shown c d (new.now.trees other)) (new.now.trees t) all) in
+        let every = all-permutation Takes _ _ whole (all-flat_map Takes (beside_row shown c d (new.now.trees other)) (new.now.trees t) all) in
         none (between Takes rows row [] (front Takes (rows ++ row ∷ []) on.0 every))
 
 -- ---- values that agree
@@ -153,10 +143,6 @@ turned : (a b : Bool) → a ≡ not b → b ≡ not a
 turned a true e = rw e refl
 turned a false e = rw e refl
 
-and_true : (b : Bool) → b && true ≡ b
-and_true true = refl
-and_true false = refl
-
 abbrev is_empty : {A : Type 0} → List A → Bool
 is_empty [] = true
 is_empty (x ∷ xs) = false
@@ -174,7 +160,7 @@ module _ (shown : Term) (c d : ℕ) (r : Row) (b : Bool) (reads_so : (s : Row) �
 
   any_same : (xs : List Row) → list_any is_beside xs ≡ is_met xs
   any_same [] = refl
-  any_same (x ∷ xs) = ap₂ ◌||◌ (and_true (agrees (column x c) (column r d))) (any_same xs)
+  any_same (x ∷ xs) = ap₂ ◌||◌ (with_true (agrees (column x c) (column r d))) (any_same xs)
 
   none_there : (others : List Row) → is_empty (filter is_beside others) ≡ not (is_met others)
   none_there others = empty_filter is_beside others ∙ ap not (any_same others)
@@ -197,7 +183,7 @@ module _ (shown : Term) (c d : ℕ) (r : Row) (b : Bool) (reads_so : (s : Row) �
   one_no s e is same = (e, reads_so s ∙ ap flag (sym same), is)
 
   there : (s : Row) → is_beside s ≡ true → IsAbsentAs false (column s c)
-  there s h = null_apart (column s c) (column r d) (sym (and_true _) ∙ h)
+  there s h = null_apart (column s c) (column r d) (sym (with_true _) ∙ h)
 
   rows_yes : (xs : List Row) → AllByRecursion (λ s. is_beside s ≡ true) xs → AllByRecursion ReportsAbsence (map Shown_by (or_nulls xs)) → is_empty xs ≡ b
   rows_yes [] all stated = one_yes [] true refl stated.0
@@ -247,8 +233,3 @@ module _ {X : Type 0} (row_of : X → Row) (columns : Row → Row) (P : Row → 
 
   pub of_stored : (xs : List X) (stored : List Row) → IsPermutation (map row_of xs) (map columns stored) → AllByRecursion (λ x. P (row_of x)) xs → AllByRecursion (λ r. P (columns r)) stored
   of_stored xs stored are all = all_from_map P columns stored (all-permutation P _ _ are (all-map P row_of xs all))
-
-module _ {X : Type 0} {P Q : X → Type 0} where
-  pub each : ((x : X) → P x → Q x) → (xs : List X) → AllByRecursion P xs → AllByRecursion Q xs
-  each f [] all = tt
-  each f (x ∷ xs) all = (f x all.0, each f xs all.1)

@@ -1,5 +1,5 @@
 -- A store that works refuses a query that it can answer for want of memory alone.
-use Rattle.std.proofs.Common.{◌≡◌, inl, inr, ℕ, List, [], ◌∷◌, length, true, false, None, Option, Ok, IsTrue, IsSome, append-nil, sym, ap, subst, ◌∙◌, arith}
+use Rattle.std.proofs.Common.{◌≡◌, ◌⊎◌, inl, inr, ℕ, List, [], ◌∷◌, length, true, false, None, Option, Ok, IsTrue, IsSome, append-nil, sym, ap, subst, ◌∙◌, arith}
 use Rattle.sqlite_schema.specs.declared.command.Command.{Command}
 use Rattle.sqlite_schema.specs.declared.command.Command.TheVariants.{Select}
 use Rattle.sqlite_schema.specs.declared.program.Program.{Program}
@@ -18,33 +18,39 @@ use Rattle.sqlite.specs.Listing.{understood, IsSourceOf}
 use Rattle.sqlite.specs.Clock.{timed}
 use Rattle.sqlite.specs.State.{State, HasCause, Survives, IsUnchanged, Fails, FailsToShow, FailsToQuery, IsNoStatement, IsNotRun, IsStatement}
 use Rattle.vault_audit_walk.specs.Health.{IsHealthy, IsMemory, IsAnswerable, IsRead, Asks}
+use Rattle.sqlite_value.specs.Order.{Row}
 
-failed : (old new : State) → IsHealthy new → HasCause old new ⊥ Io → ⊥
-failed old new well more = omega (arith, more, well.unfailed)
+by_fault : (old new : State) → IsHealthy new → HasCause old new ⊥ Io → ⊥
+by_fault old new well more = omega (arith, more, well.unfailed)
 
-by_store : (old new : State) → IsHealthy new → (e : Error) → Fails old new ⊥ e → IsMemory e
-by_store old new well e (OutOfMemory, is, cause, undone, stated) = is
-by_store old new well e (Io, is, cause, undone, stated) = absurd (failed old new well cause)
-by_store old new well e (Corrupt, is, cause, undone, stated) = absurd (failed old new well cause)
-by_store old new well e (Full, is, cause, undone, stated) = absurd (failed old new well cause)
-by_store old new well e (Broken, is, cause, undone, stated) = absurd (let is_open : IsTrue old.is_open = undone.was_open well.is_open in cc (cause, is_open))
-by_store old new well e (Unstorable, is, cause, undone, stated) = absurd cause
+-- the store fails for want of memory, or what it was given is too big for it
+pub by_size : (big : Type 0) (old new : State) → IsHealthy new → (e : Error) → Fails old new big e → IsMemory e ⊎ big
+by_size big old new well e (OutOfMemory, is, cause, undone, stated) = inl is
+by_size big old new well e (Io, is, cause, undone, stated) = absurd (by_fault old new well cause)
+by_size big old new well e (Corrupt, is, cause, undone, stated) = absurd (by_fault old new well cause)
+by_size big old new well e (Full, is, cause, undone, stated) = absurd (by_fault old new well cause)
+by_size big old new well e (Broken, is, cause, undone, stated) = absurd (let is_open : IsTrue old.is_open = undone.was_open well.is_open in cc (cause, is_open))
+by_size big old new well e (Unstorable, is, cause, undone, stated) = inr cause
 
-never_sums : (db : Trees) (q : Query) → q.group ≡ None → has_no_fold q.from ≡ true → ¬ QueryOverflows q db []
-never_sums db q none plain (inl over) = rw none at over
-never_sums db q none plain (inr over) = no_fold_overflows db q.from ([] ∷ []) plain over
+-- one that works fails for want of memory, if nothing was too big for it
+pub by_store : (big : Type 0) → ¬ big → (old new : State) → IsHealthy new → (e : Error) → Fails old new big e → IsMemory e
+by_store big small old new well e failed = elim (by_size big old new well e failed) [ inl is ↦ is | inr is_big ↦ absurd (small is_big) ]
 
-never_overflows : (db : Trees) (lets : List Let) (q : Query) → lets ≡ [] → q.group ≡ None → has_no_fold q.from ≡ true → ¬ ProgramOverflows db [] [] lets q
-never_overflows db [] q bare none plain over = never_sums _ q none plain over
-never_overflows db (l ∷ lets) q bare none plain over = absurd (cc bare)
+never_sums : (db : Trees) (q : Query) (params : Row) → q.group ≡ None → has_no_fold q.from ≡ true → ¬ QueryOverflows q db params
+never_sums db q params none plain (inl over) = rw none at over
+never_sums db q params none plain (inr over) = no_fold_overflows db q.from (params ∷ []) plain over
 
-by_query : (limit : Option ℕ) (db : Database) (p : Program) (e : Error) → limit ≡ None → lets_of p ≡ [] → accepts_program db.schema [] p.body [] ≡ true → p.body.group ≡ None → has_no_fold p.body.from ≡ true → ¬ RefusesQuery limit db p [] e
-by_query limit db p e unlimited bare typed none plain (inl refused) = let no : accepts_program db.schema [] p.body [] ≡ false = subst (λ l. accepts_program db.schema l p.body [] ≡ false) bare refused.1 in absurd (cc (typed, no))
-by_query limit db p e unlimited bare typed none plain (inr (inl over)) = never_overflows db.trees (lets_of p) p.body bare none plain over.1
-by_query limit db p e unlimited bare typed none plain (inr (inr cut)) = absurd (let some : IsSome {T = ℕ} None = subst (λ (l : Option ℕ). IsSome l) unlimited cut.1 in cc some)
+never_overflows : (db : Trees) (params : Row) (lets : List Let) (q : Query) → lets ≡ [] → q.group ≡ None → has_no_fold q.from ≡ true → ¬ ProgramOverflows db params [] lets q
+never_overflows db params [] q bare none plain over = never_sums _ q params none plain over
+never_overflows db params (l ∷ lets) q bare none plain over = absurd (cc bare)
+
+pub by_query : (limit : Option ℕ) (db : Database) (p : Program) (params : Row) (e : Error) → limit ≡ None → lets_of p ≡ [] → accepts_program db.schema [] p.body params ≡ true → p.body.group ≡ None → has_no_fold p.body.from ≡ true → ¬ RefusesQuery limit db p params e
+by_query limit db p params e unlimited bare typed none plain (inl refused) = let no : accepts_program db.schema [] p.body params ≡ false = subst (λ l. accepts_program db.schema l p.body params ≡ false) bare refused.1 in absurd (cc (typed, no))
+by_query limit db p params e unlimited bare typed none plain (inr (inl over)) = never_overflows db.trees params (lets_of p) p.body bare none plain over.1
+by_query limit db p params e unlimited bare typed none plain (inr (inr cut)) = absurd (let some : IsSome {T = ℕ} None = subst (λ (l : Option ℕ). IsSome l) unlimited cut.1 in cc some)
 
 by_command : (limit : Option ℕ) (db : Database) (k : Command) (e : Error) → limit ≡ None → IsAnswerable db.schema k → ¬ RefusesToRead limit k db [] e
-by_command limit db (Select p columns) e unlimited can refused = by_query limit db p e unlimited can.0 can.1 can.2 can.3 refused
+by_command limit db (Select p columns) e unlimited can refused = by_query limit db p [] e unlimited can.0 can.1 can.2 can.3 refused
 by_command limit db _ e unlimited can refused = can
 
 module _ (sql : List ℕ) (old new : State) (well : IsHealthy new) (limit : new.step_limit ≡ old.step_limit) (plain : IsPlain (understood old.now.schema sql)) (asks : Asks old.now.schema sql) where
@@ -67,7 +73,7 @@ module _ (sql : List ℕ) (old new : State) (well : IsHealthy new) (limit : new.
   pub cause_of : (e : Error) → FailsToQuery sql [] old new e → IsMemory e
   unfolding FailsToQuery IsNotRun
   cause_of e (inl (inl none)) = absurd (a_statement e none.0)
-  cause_of e (inl (inr failed)) = by_store old new well e failed
+  cause_of e (inl (inr failed)) = by_store ⊥ (λ none. none) old new well e failed
   cause_of e (inr (c, it, h)) = absurd (a_read c it e h)
 
 -- the same of a query of whose answer some rows were given

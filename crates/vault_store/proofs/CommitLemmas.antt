@@ -17,7 +17,7 @@ use Rattle.vault_base.specs.declared.refusal.Refusal.TheVariants.{Device}
 use Rattle.vault_audit_model.specs.Faults.{refusal_of}
 use Rattle.vault_audit_model.proofs.OutcomeLemmas.{same_value}
 use Rattle.vault_audit.specs.Health.{IsHealthy, IsMemory}
-use Rattle.vault_store_create.proofs.RefusedLemmas.{by_store, no_device}
+use Rattle.vault_store_create.proofs.RefusedLemmas.{no_device, by_store}
 
 abbrev pub commit_text : List ℕ
 commit_text = codes "COMMIT"

@@ -29,7 +29,7 @@ use Rattle.vault_store_model.specs.Edits.{and_then, at_moment}
 use Rattle.vault_store_model.specs.Changes.{summed, headed, others_at, without_entry}
 use Rattle.vault_store_model.specs.Sums.{CountsOut, last_tenure_of}
 use Rattle.vault_store_model.proofs.EntryLemmas.{found_history}
-use Rattle.vault_store_model.proofs.SumLemmas.{sums_removed}
+use Rattle.vault_store_model.proofs.SumLemmas.{sums_removed, entry_same}
 use Rattle.vault_store_model.proofs.ChangeLemmas.{is_held_there}
 use Rattle.vault_store_model.proofs.HeadAfterRemovalLemmas.{count_removed}
 use Rattle.vault_store_reads.specs.Shown.{newest_but}
@@ -100,9 +100,6 @@ left_of (Some new) old fewer = let less : old.count - 1 ≡ new.count = omega (a
 rows_left : (bucket key : List ℕ) (old : Head) (left : Option Head) (rows : List Row) → left_rows bucket key left rows ≡ headed bucket key (Some old) left rows
 rows_left bucket key old None rows = refl
 rows_left bucket key old (Some new) rows = refl
-
-entry_same : (x y : Entry) → Some x ≡ Some y → x ≡ y
-entry_same x y e = cc e
 
 -- ---- the edit
 

@@ -48,7 +48,7 @@ use Rattle.vault_audit_model.proofs.ValueLemmas.{cast_null, cast_int}
 use Rattle.vault_audit_walk.specs.Health.{IsHealthy, IsMemory}
 use Rattle.vault_store_create.specs.Create.{HasAll, HasMetaRow}
 use Rattle.vault_store_create.proofs.InsertLemmas.{task_on, others_empty}
-use Rattle.vault_store_create.proofs.RefusedLemmas.{Says, refused}
+use Rattle.vault_store_create.proofs.RefusedLemmas.{SaysWith, refused}
 use Rattle.vault_store_create.proofs.TextLemmas.{meta_row_text, meta_row_terms, meta_row_is, meta_row_plain, registrar_text, registrar_terms, registrar_is, registrar_plain}
 
 -- ---- one row that breaks no rule
@@ -207,7 +207,7 @@ meta_fit db empty = record {
   indexed = λ i listed its. absurd (not_its vault_schema.indexes 0 i refl listed its);
 }
 
-meta_says : Says vault_schema meta_row_text (Insert (place_of table.Meta) (Values meta_row_terms 6))
+meta_says : SaysWith vault_schema meta_row_text [] (Insert (place_of table.Meta) (Values meta_row_terms 6))
 unfolding understood everything
 meta_says = record { meaning = meta_row_is; plain = meta_row_plain; alone = (omega (arith), refl); unmarked = refl; silent = λ c is none. rw (is, none) refl }
 
@@ -274,7 +274,7 @@ registrar_fit db empty = record {
   indexed = its_key;
 }
 
-registrar_says : Says vault_schema registrar_text (Insert (place_of table.Callers) (Values registrar_terms 5))
+registrar_says : SaysWith vault_schema registrar_text [] (Insert (place_of table.Callers) (Values registrar_terms 5))
 unfolding understood everything
 registrar_says = record { meaning = registrar_is; plain = registrar_plain; alone = (omega (arith), refl); unmarked = refl; silent = λ c is none. rw (is, none) refl }
 

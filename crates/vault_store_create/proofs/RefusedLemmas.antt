@@ -1,8 +1,7 @@
 -- A store that works refuses a statement of a making for want of memory alone.
-use Rattle.std.proofs.Common.{◌≡◌, ◌≢◌, inl, inr, ℕ, ◌+◌, List, [], length, Bool, true, false, None, Some, Option, Ok, Err, Result, IfErr, IsTrue, refl, sym, ap, subst, ◌∙◌, arith}
+use Rattle.std.proofs.Common.{◌≡◌, ◌≢◌, ◌⊎◌, ◌≤◌, append-nil, inl, inr, ℕ, ◌+◌, List, [], length, Bool, true, false, None, Some, Option, Ok, Err, Result, IfErr, refl, sym, ap, subst, ◌∙◌}
 use Rattle.std.specs.List.{AllByRecursion}
 use Rattle.sqlite_trees.specs.Tree.{Trees}
-use Rattle.sqlite_trees.specs.declared.error.StoreError.TheVariants.{OutOfMemory, Io, Corrupt, Full, Broken, Unstorable}
 use Rattle.sqlite_schema.specs.declared.command.Command.{Command}
 use Rattle.sqlite_schema.specs.declared.command.Command.TheVariants.{Begin, Commit, Rollback, Release, RollbackTo, CreateTable, CreateIndex}
 use Rattle.sqlite_schema.specs.declared.schema.Schema.{Schema}
@@ -12,8 +11,7 @@ use Rattle.sqlite_catalog.specs.Change.{created}
 use Rattle.sqlite.specs.declared.error.Error.{Error}
 use Rattle.sqlite.specs.Does.{Does, lacks_sequence}
 use Rattle.sqlite.specs.Listing.{understood}
-use Rattle.sqlite.specs.Steps.{FailsToCommit}
-use Rattle.sqlite.specs.State.{State, HasCause, IsMisplaced, Fails, IsNoStatement, IsNotRun, IsStatement, RunsCommand, ExecutesIn, ExecutesInside, EndsScope, Escapes, shows_rows, text_of, mode_of}
+use Rattle.sqlite.specs.State.{State, IsMisplaced, IsNoStatement, IsNotRun, IsStatement, RunsCommand, ExecutesIn, ExecutesInside, EndsScope, Escapes, shows_rows, text_of, mode_of}
 use Rattle.sqlite.proofs.Callers.{IsPlain, command_of, statement_of}
 use Rattle.vault_base.specs.declared.refusal.Refusal.TheVariants.{Memory, Device}
 use Rattle.vault_base.specs.declared.refusal.Table.{Table}
@@ -27,25 +25,12 @@ use Rattle.vault_audit_schema.proofs.TakenLemmas.{table_taken, table_short, inde
 use Rattle.vault_audit_walk.specs.Health.{IsHealthy, IsMemory}
 use Rattle.vault_store_create.specs.Create.{HasFirst}
 use Rattle.vault_store_create.proofs.TextLemmas.{uncounted}
+use Rattle.sqlite_value.specs.Order.{Row}
+use Rattle.sqlite_resolve.specs.declared.error.CompileError.{CompileError}
+use Rattle.vault_audit_walk.proofs.CauseLemmas.{by_size}
+pub use Rattle.vault_audit_walk.proofs.CauseLemmas.{by_store}
 
 -- ---- of the store
-
-pub by_fault : (old new : State) → IsHealthy new → HasCause old new ⊥ Io → ⊥
-by_fault old new well more = omega (arith, more, well.unfailed)
-
--- one that works fails for want of memory, if nothing was too big for it
-pub by_store : (big : Type 0) → ¬ big → (old new : State) → IsHealthy new → (e : Error) → Fails old new big e → IsMemory e
-by_store big small old new well e (OutOfMemory, is, cause, undone, stated) = is
-by_store big small old new well e (Io, is, cause, undone, stated) = absurd (by_fault old new well cause)
-by_store big small old new well e (Corrupt, is, cause, undone, stated) = absurd (by_fault old new well cause)
-by_store big small old new well e (Full, is, cause, undone, stated) = absurd (by_fault old new well cause)
-by_store big small old new well e (Broken, is, cause, undone, stated) = absurd (let is_open : IsTrue old.is_open = undone.was_open well.is_open in cc (cause, is_open))
-by_store big small old new well e (Unstorable, is, cause, undone, stated) = absurd (small cause)
-
--- so does a commit of what is inside a transaction
-pub by_commit : (old new : State) → IsHealthy new → IsTrue old.in_transaction → (e : Error) → FailsToCommit old new e → IsMemory e
-by_commit old new well inside e (inl failed) = by_store ⊥ (λ none. none) old new well e failed
-by_commit old new well inside e (inr (is, outside, same)) = absurd (cc (inside, outside))
 
 -- want of memory is reported as such
 pub no_device : (e : Error) → IsMemory e → refusal_of e ≢ Device
@@ -75,16 +60,26 @@ marks_if_escapes s k (inl (inr undoes)) = ap marks undoes
 marks_if_escapes s k (inr (name, inl releases, held)) = ap marks releases
 marks_if_escapes s k (inr (name, inr returns, held)) = ap marks returns
 
--- what is known of a text without parameters
-pub record Says (schema : Schema) (text : List ℕ) (command : Command) : Type 0 where
+-- the text is one statement, with as many parameters
+abbrev pub IsAloneWith : List ℕ → Row → Result Compiled CompileError → Type 0
+IsAloneWith text params (Ok c) = (length text ≤ c.tail) × (length params ≡ length c.names)
+IsAloneWith text params (Err e) = ⊥
+
+-- what is known of a text with these parameters
+pub record SaysWith (schema : Schema) (text : List ℕ) (params : Row) (command : Command) : Type 0 where
   pub meaning : command_of (understood schema text) ≡ command
   pub plain : IsPlain (understood schema text)
-  pub alone : IsAlone text (understood schema text)
+  pub alone : IsAloneWith text params (understood schema text)
   pub unmarked : marks command ≡ false
   pub silent : (c : Compiled) → c.command ≡ command → c.returning ≡ None → shows_rows false c ≡ false
 
-module _ (text : List ℕ) (old new : State) (well : IsHealthy new) (schema : Schema) (has : old.now.schema ≡ schema) (command : Command) (says : Says schema text command)
-    (never : (stop : Option Error) → ¬ Does old.step_limit (mode_of old) [] old.now (statement_of text (understood schema text)) None command (Err stop)) where
+module _ (text : List ℕ) (params : Row) (old new : State) (well : IsHealthy new) (schema : Schema) (has : old.now.schema ≡ schema) (command : Command) (says : SaysWith schema text params command) where
+  abbrev DoesNot : Option Error → Type 0
+  DoesNot stop = Does old.step_limit (mode_of old) params old.now (statement_of text (understood schema text)) None command (Err stop)
+
+  abbrev IsFor : Error → Type 0
+  IsFor e = IsMemory e ⊎ ((stop : Option Error) × DoesNot stop)
+
   meant : (c : Compiled) → understood old.now.schema text ≡ Ok c → understood schema text ≡ Ok c
   meant c is = ap (λ s. understood s text) (sym has) ∙ is
 
@@ -94,44 +89,57 @@ module _ (text : List ℕ) (old new : State) (well : IsHealthy new) (schema : Sc
   bare_of : (c : Compiled) → understood old.now.schema text ≡ Ok c → IsPlain (Ok c)
   bare_of c is = subst IsPlain (meant c is) says.plain
 
-  alone_of : (c : Compiled) → understood old.now.schema text ≡ Ok c → IsAlone text (Ok c)
-  alone_of c is = subst (IsAlone text) (meant c is) says.alone
+  alone_of : (c : Compiled) → understood old.now.schema text ≡ Ok c → IsAloneWith text params (Ok c)
+  alone_of c is = subst (IsAloneWith text params) (meant c is) says.alone
 
-  a_statement : (e : Error) → ¬ IsNoStatement old text [] e
-  a_statement e (inl (fault, is, stated)) = subst (IsAlone text) (ap (λ s. understood s text) (sym has) ∙ is) says.alone
+  a_statement : (e : Error) → ¬ IsNoStatement old text params e
+  a_statement e (inl (fault, is, stated)) = subst (IsAloneWith text params) (ap (λ s. understood s text) (sym has) ∙ is) says.alone
   a_statement e (inr (c, is, inl part)) = part.0 (alone_of c is).0
-  a_statement e (inr (c, is, inr (inl given))) = given.0 (sym (ap length (alone_of c is).1))
+  a_statement e (inr (c, is, inr (inl given))) = given.0 (alone_of c is).1
   a_statement e (inr (c, is, inr (inr timely))) = timely.0 (bare_of c is).1
 
   unmarked_of : (c : Compiled) → understood old.now.schema text ≡ Ok c → marks c.command ≡ false
   unmarked_of c is = ap marks (commands c is) ∙ says.unmarked
 
-  does_as : (c : Compiled) → IsStatement old text [] c → (stop : Option Error) → Does old.step_limit (mode_of old) [] old.now (text_of text c) c.returning c.command (Err stop)
-      → Does old.step_limit (mode_of old) [] old.now (statement_of text (understood schema text)) None command (Err stop)
+  does_as : (c : Compiled) → IsStatement old text params c → (stop : Option Error) → Does old.step_limit (mode_of old) params old.now (text_of text c) c.returning c.command (Err stop) → DoesNot stop
   does_as c it stop does =
-      let first = subst (λ k. Does old.step_limit (mode_of old) [] old.now (text_of text c) c.returning k (Err stop)) (commands c it.is) does in
-      let second = subst (λ r. Does old.step_limit (mode_of old) [] old.now (text_of text c) r command (Err stop)) (bare_of c it.is).0 first in
-      subst (λ t. Does old.step_limit (mode_of old) [] old.now t None command (Err stop)) (sym (ap (statement_of text) (meant c it.is))) second
+      let first = subst (λ k. Does old.step_limit (mode_of old) params old.now (text_of text c) c.returning k (Err stop)) (commands c it.is) does in
+      let second = subst (λ r. Does old.step_limit (mode_of old) params old.now (text_of text c) r command (Err stop)) (bare_of c it.is).0 first in
+      subst (λ t. Does old.step_limit (mode_of old) params old.now t None command (Err stop)) (sym (ap (statement_of text) (meant c it.is))) second
 
-  runs : (c : Compiled) → IsStatement old text [] c → (e : Error) → RunsCommand old new text c [] (Err e) → IsMemory e
+  runs : (c : Compiled) → IsStatement old text params c → (e : Error) → RunsCommand old new text c params (Err e) → IsFor e
   runs c it e (inl (inl misplaced, same)) = absurd (let no = unmarked_of c it.is in let is = marks_if_misplaced old c.command e misplaced in cc (no, is))
-  runs c it e (inl (inr (may, does), same)) = absurd (never (Some e) (does_as c it (Some e) does))
-  runs c it e (inr failed) = by_store _ (λ does. never None (does_as c it None does)) old new well e failed
+  runs c it e (inl (inr (may, does), same)) = inr (Some e, does_as c it (Some e) does)
+  runs c it e (inr failed) = elim (by_size _ old new well e failed) [ inl is ↦ inl is | inr does ↦ inr (None, does_as c it None does) ]
 
-  executes : (e : Error) → ExecutesIn false text [] old new (Err e) → IsMemory e
+  executes : (e : Error) → ExecutesIn false text params old new (Err e) → IsFor e
   unfolding ExecutesIn IsNotRun
   executes e (inl (inl none)) = absurd (a_statement e none.0)
-  executes e (inl (inr failed)) = by_store ⊥ (λ none. none) old new well e failed
+  executes e (inl (inr failed)) = inl (by_store ⊥ (λ none. none) old new well e failed)
   executes e (inr (c, it, h)) =
       let bare = bare_of c it.is in
       let silent = says.silent c (commands c it.is) bare.0 in
-      runs c it e (rw (bare.1, silent) at h)
+      runs c it e (rw (bare.1, silent, append-nil params) at h)
 
-  pub refused : (r : Result ℕ Error) → ExecutesInside 0 text [] old new r → IfErr r IsMemory
+  pub refused_as : (r : Result ℕ Error) → ExecutesInside 0 text params old new r → IfErr r IsFor
   unfolding EndsScope
-  refused (Ok count) h = tt
-  refused (Err e) (inl (h, left)) = executes e h
-  refused (Err e) (inr ((c, it, escapes), is, same)) = absurd (let no = unmarked_of c it.is in let is_one = marks_if_escapes old c.command escapes in cc (no, is_one))
+  refused_as (Ok count) h = tt
+  refused_as (Err e) (inl (h, left)) = executes e h
+  refused_as (Err e) (inr ((c, it, escapes), is, same)) = absurd (let no = unmarked_of c it.is in let is_one = marks_if_escapes old c.command escapes in cc (no, is_one))
+
+-- a statement without parameters that the database never refuses is refused for want of memory alone
+pub refused : (text : List ℕ) (old new : State) → IsHealthy new → (schema : Schema) → old.now.schema ≡ schema → (command : Command) → SaysWith schema text [] command
+    → ((stop : Option Error) → ¬ Does old.step_limit (mode_of old) [] old.now (statement_of text (understood schema text)) None command (Err stop))
+    → (r : Result ℕ Error) → ExecutesInside 0 text [] old new r → IfErr r IsMemory
+refused text old new well schema has command says never (Ok count) h = tt
+refused text old new well schema has command says never (Err e) h = elim (refused_as text [] old new well schema has command says (Err e) h) [
+  | inl is ↦ is
+  | inr stopped ↦ absurd (never stopped.0 stopped.1)
+]
+
+alone_with : (text : List ℕ) (r : Result Compiled CompileError) → IsAlone text r → IsAloneWith text [] r
+alone_with text (Ok c) alone = (alone.0, sym (ap length alone.1))
+alone_with text (Err e) alone = alone
 
 -- ---- of tables and the index
 
@@ -152,10 +160,10 @@ table_never t text it old has stop (inl (s, inr (after, made, counts), is)) =
 pub table_refused : (t : Table) (text : List ℕ) → IsCreationOf t text → (old new : State) → IsHealthy new → HasFirst (place_of t) old.now → (r : Result ℕ Error) → ExecutesInside 0 text [] old new r → IfErr r IsMemory
 table_refused t text it old new well was r h =
     let schema = schema_of_first (place_of t) in
-    let says : Says schema text CreateTable = record {
+    let says : SaysWith schema text [] CreateTable = record {
       meaning = commanded_is (understood schema text) ∙ it.command;
       plain = it.plain;
-      alone = it.alone;
+      alone = alone_with text (understood schema text) it.alone;
       unmarked = refl;
       silent = λ c is none. rw (is, none) refl;
     } in
@@ -174,10 +182,10 @@ pub index_refused : (text : List ℕ) → IsIndexCreation text → (old new : St
 index_refused text it old new well was r h =
     let schema = schema_of_first 11 in
     let command = CreateIndex (place_of table.Entries) in
-    let says : Says schema text command = record {
+    let says : SaysWith schema text [] command = record {
       meaning = commanded_is (understood schema text) ∙ it.command;
       plain = it.plain;
-      alone = it.alone;
+      alone = alone_with text (understood schema text) it.alone;
       unmarked = refl;
       silent = λ c is none. rw (is, none) refl;
     } in

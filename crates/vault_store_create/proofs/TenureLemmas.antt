@@ -1,11 +1,9 @@
 -- The query for entries beside their buckets shows the one tenure that each version has where no bucket was moved.
-use Rattle.std.proofs.Common.{◌≡◌, inl, inr, ℕ, List, [], ◌∷◌, map, filter, flat_map, cond, Bool, true, false, ◌&&◌, Option, None, Some, option_to_list, option_map, Equal, IsPermutation, refl, sym, ap, ap₂, subst, ◌∙◌}
+use Rattle.std.proofs.Common.{◌≡◌, inl, inr, ℕ, List, [], ◌∷◌, map, filter, flat_map, cond, Bool, true, false, ◌&&◌, Option, None, Some, option_to_list, option_map, IsPermutation, refl, sym, ap, ap₂, subst, ◌∙◌}
 use Rattle.std.specs.List.{AllByRecursion, list_all}
 use Rattle.std.specs.Str.{bytes_eq}
 use Rattle.std.proofs.lemmas.Bool.{cases_Bool}
-use Rattle.std.proofs.lemmas.Cmp.{nat_list_cmp_total, tied_itself}
 use Rattle.std.proofs.lemmas.List.Sorted.{IsPermutation-refl, IsPermutation-append, IsPermutation-map, IsPermutation-trans}
-use Rattle.std.proofs.lemmas.Slice.Eq.{bytes_eq-Decides}
 use Rattle.sqlite_keyed.proofs.ListLemmas.{map-map, map-flat_map, flat_map-map, filter-map, filter_same, flat_map_same_on, IsPermutation-flat_map, IsPermutation-filter}
 use Rattle.sqlite_trees.specs.Tree.{Trees}
 use Rattle.sqlite_value.specs.declared.value.Value.TheVariants.{Null, Text}
@@ -19,7 +17,7 @@ use Rattle.sqlite.proofs.Callers.{reads_as}
 use Rattle.vault_core_model.specs.declared.records.Bucket.{Bucket}
 use Rattle.vault_core_model.specs.declared.records.Entry.{Entry}
 use Rattle.vault_core_model.specs.declared.records.History.{History}
-use Rattle.vault_core_model.specs.Order.{IsAscending, name_cmp, bucket_cmp}
+use Rattle.vault_core_model.specs.Order.{IsAscending, bucket_cmp}
 use Rattle.vault_core_model.specs.Vault.{Vault, bucket_in}
 use Rattle.vault_audit_model.specs.declared.schema.Edition.{Edition}
 use Rattle.vault_audit_model.specs.Rows.{bucket_row, entry_row, tenure_row, bucket_columns, entry_columns}
@@ -32,6 +30,7 @@ use Rattle.vault_store_model.proofs.ScanLemmas.{uncovered}
 use Rattle.vault_store_reads.proofs.FindLemmas.{at_most_one}
 use Rattle.vault_store_create.specs.Listings.{first_tenures_listing}
 use Rattle.vault_store_create.proofs.ListingLemmas.{pairs, pairs_are, pairs_unlisted, pairs_plain}
+use Rattle.vault_store_reads.proofs.NameLemmas.{tied_names}
 
 -- ---- what the query shows, by the columns of rows
 
@@ -106,9 +105,6 @@ with_false : (b : Bool) → (b && (false && true)) ≡ false
 with_false true = refl
 with_false false = refl
 
-tied : (a b name : List ℕ) → bytes_eq a name ≡ true → bytes_eq b name ≡ true → name_cmp a b ≡ Equal
-tied a b name p q = rw ((bytes_eq-Decides a name).0 p, (bytes_eq-Decides b name).0 q) (tied_itself nat_list_cmp_total name)
-
 -- the tests on the row of a bucket
 abbrev is_its : Bool → List ℕ → Bucket → Bool
 is_its marker name b = agrees (Text b.name) (Text name) && (agrees (flag marker) (number 0) && true)
@@ -122,7 +118,7 @@ is_none name b = rw (same_number 1 0) (with_false (agrees (Text b.name) (Text na
 its_bucket : (marker : Bool) (name : List ℕ) (bs : List Bucket) → IsAscending bucket_cmp bs → filter (is_its marker name) bs ≡ option_to_list (unless_marker marker (bucket_in bs name))
 its_bucket true name bs up = none_kept (is_its true name) (is_none name) bs
 its_bucket false name bs up =
-    filter_same (is_its false name) (λ b. bytes_eq b.name name) (is_named name) bs ∙ at_most_one bucket_cmp (λ (b : Bucket). bytes_eq b.name name) (λ a b. tied a.name b.name name) bs up
+    filter_same (is_its false name) (λ b. bytes_eq b.name name) (is_named name) bs ∙ at_most_one bucket_cmp (λ (b : Bucket). bytes_eq b.name name) (λ a b. tied_names a.name b.name name) bs up
 
 -- ---- its tenure
 

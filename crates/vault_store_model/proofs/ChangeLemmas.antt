@@ -16,13 +16,12 @@ use Rattle.vault_core_model.specs.declared.records.Head.{Head}
 use Rattle.vault_core_model.specs.declared.records.History.{History}
 use Rattle.vault_core_model.specs.declared.records.Removal.{Removal}
 use Rattle.vault_core_model.specs.declared.records.Setting.{Setting}
-use Rattle.vault_core_model.specs.declared.records.Tenure.{Tenure}
 use Rattle.vault_core_model.specs.declared.change.Admission.{Admission}
 use Rattle.vault_core_model.specs.declared.change.Change.{Change}
 use Rattle.vault_core_model.specs.declared.change.Change.TheVariants.{AddDept, AddCaller, CloseCaller, AddBucket, MoveBucket, SetDefault, SetRules, Admit, AddSetting, Remove}
 use Rattle.vault_core_model.specs.Allowed.{Allows, IsAdmission, IsMove, IsRemoval}
-use Rattle.vault_core_model.specs.Change.{changed, with_setting, tenured_by, tenured_if, next_tenure, removed_by, removed_if}
-use Rattle.vault_core_model.specs.Places.{is_held, is_held_at, is_held_version_in}
+use Rattle.vault_core_model.specs.Change.{changed, with_setting, tenured_if, next_tenure, removed_by, removed_if}
+use Rattle.vault_core_model.specs.Places.{is_held, is_held_at}
 use Rattle.vault_core_model.specs.Reads.{entry_of, head_of, head_over}
 use Rattle.vault_core_model.specs.Sound.{Sound}
 use Rattle.vault_core_model.specs.Vault.{Vault, history_of}
@@ -44,6 +43,7 @@ use Rattle.vault_store_model.proofs.RecordLemmas.{dept_added, caller_added, call
 use Rattle.vault_store_model.proofs.HeadsByEntry.{held_of_key, heads_by, heads_are, last_of, head_over_entries, head_of_entries}
 use Rattle.vault_store_model.proofs.HeadLemmas.{heads_changed}
 use Rattle.vault_store_model.proofs.HeadParts.{is_elsewhere}
+use Rattle.vault_core_laws.proofs.Moves.{entry-tenured}
 
 -- ---- a setting more
 
@@ -53,13 +53,10 @@ heads_of_setting v t id s =
 
 -- ---- a move
 
-entry_stays : (name : List ℕ) (t : Tenure) (h : History) → (tenured_if name t h).entry ≡ h.entry
-entry_stays name t h = elim (is_held_version_in name h.entry) as (λ b. (if b then tenured_by t h else h).entry ≡ h.entry) [ true ↦ refl | false ↦ refl ]
-
 heads_stay : (v : Vault) (t : ℕ) (name dept : List ℕ) → heads_in (changed v t (MoveBucket name dept)) ≡ heads_in v
 heads_stay v t name dept =
     heads_are (changed v t (MoveBucket name dept))
-    ∙ ap heads_by (map_unread (λ (h : History). h.entry) (tenured_if name (next_tenure v t dept)) (entry_stays name (next_tenure v t dept)) v.histories) ∙ sym (heads_are v)
+    ∙ ap heads_by (map_unread (λ (h : History). h.entry) (tenured_if name (next_tenure v t dept)) (entry-tenured name (next_tenure v t dept)) v.histories) ∙ sym (heads_are v)
 
 heads_of_move : (v : Vault) (t : ℕ) (name dept : List ℕ) → IsMove v name dept → IsPermutation (rows_of (changed v t (MoveBucket name dept)) table.Heads) (edit_of v t (MoveBucket name dept) (rows_of v) table.Heads)
 heads_of_move v t name dept is =

@@ -27,6 +27,7 @@ use Rattle.vault_store_model.specs.Edits.{changed_if, pushed}
 use Rattle.vault_store_model.specs.Tests.{is_named, with_default_columns}
 use Rattle.vault_store_model.specs.Changes.{edit_of}
 use Rattle.vault_store_model.proofs.ListLemmas.{second_first, pushed_in_front, map_rows, map_unread, flat_map_unread, filter-append}
+use Rattle.std.proofs.lemmas.Bool.{not_from_false}
 
 -- ---- a default
 
@@ -101,14 +102,11 @@ unset : (name : List ℕ) (rules : Option (List Rule)) (bs : List Bucket) → Al
 unset name rules [] all = refl
 unset name rules (b ∷ bs) all = rw (all.0, unset name rules bs all.1) refl
 
-negated : (b : Bool) → b ≡ false → not b ≡ true
-negated b e = ap not e
-
 set_first : (name : List ℕ) (rules : Option (List Rule)) (b : Bucket) (bs : List Bucket) → bytes_eq b.name name ≡ true → AllByRecursion (λ c. bytes_eq c.name name ≡ false) bs
     → IsPermutation (flat_map rules_in (record b { rules = rules } ∷ map (with_rules name rules) bs)) (rules_if_given name rules ++ flat_map rules_in (filter (λ c. not (bytes_eq c.name name)) bs))
 set_first name rules b bs here others =
     let kept : filter (λ (c : Bucket). not (bytes_eq c.name name)) bs ≡ bs =
-    filter_all (λ (c : Bucket). not (bytes_eq c.name name)) bs (all_weaker (λ c. bytes_eq c.name name ≡ false) (λ c. not (bytes_eq c.name name) ≡ true) (λ c e. negated (bytes_eq c.name name) e) bs others) in
+    filter_all (λ (c : Bucket). not (bytes_eq c.name name)) bs (all_weaker (λ c. bytes_eq c.name name ≡ false) (λ c. not (bytes_eq c.name name) ≡ true) (λ c e. not_from_false (bytes_eq c.name name) e) bs others) in
     IsPermutation-same _ _ (ap (λ l. rules_if_given b.name rules ++ flat_map rules_in l) (unset name rules bs others)
     ∙ ap (λ n. rules_if_given n rules ++ flat_map rules_in bs) ((bytes_eq-Decides b.name name).0 here) ∙ ap (λ l. rules_if_given name rules ++ flat_map rules_in l) (sym kept))
 

@@ -17,7 +17,7 @@ by_table : (b : Bool) (edit : List Row → List Row) → ((xs ys : List Row) →
 by_table true edit keeps xs ys same = keeps xs ys same
 by_table false edit keeps xs ys same = same
 
-with_rows_ignores : (t : Table) (edit : List Row → List Row) → ((xs ys : List Row) → IsPermutation xs ys → IsPermutation (edit xs) (edit ys)) → IgnoresOrder (with_rows t edit)
+pub with_rows_ignores : (t : Table) (edit : List Row → List Row) → ((xs ys : List Row) → IsPermutation xs ys → IsPermutation (edit xs) (edit ys)) → IgnoresOrder (with_rows t edit)
 with_rows_ignores t edit keeps xs ys same s = by_table (place_of t == place_of s) edit keeps (xs s) (ys s) (same s)
 
 pub with_row_ignores : (t : Table) (row : Row) → IgnoresOrder (with_row t row)

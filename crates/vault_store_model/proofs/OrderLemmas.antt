@@ -1,5 +1,5 @@
 -- Edits that ignore the order in which rows stand.
-use Rattle.std.proofs.Common.{ℕ, ◌+◌, ◌==◌, List, [], ◌∷◌, map, cond, not, Bool, true, false, Option, Some, None, IsPermutation}
+use Rattle.std.proofs.Common.{ℕ, ◌+◌, List, [], ◌∷◌, map, not, Bool, true, false, Option, Some, None, IsPermutation}
 use Rattle.std.proofs.lemmas.List.Sorted.{IsPermutation-cons, IsPermutation-map}
 use Rattle.sqlite_trees.proofs.ListLemmas.{IsPermutation-filter}
 use Rattle.sqlite_value.specs.Order.{Row}
@@ -15,23 +15,15 @@ use Rattle.vault_core_model.specs.declared.change.Change.TheVariants.{AddDept, A
 use Rattle.vault_core_model.specs.Change.{changed, new_bucket}
 use Rattle.vault_core_model.specs.Reads.{entry_of, head_of, head_over}
 use Rattle.vault_core_model.specs.Vault.{Vault, config_of, next_id}
-use Rattle.vault_audit_model.specs.Order.{place_of}
 use Rattle.vault_audit_model.specs.Rows.{caller_row, bucket_row, rule_row, entry_row, content_row, setting_row, note_row, tenure_row}
 use Rattle.vault_audit_model.specs.Spells.{bucket_of, rules_if_given, settings_in, tenures_in, department_in}
-use Rattle.vault_store_model.specs.Edits.{with_rows, changed_if, IgnoresOrder, pushed, with_each, at_moment}
+use Rattle.vault_store_model.specs.Edits.{changed_if, IgnoresOrder, pushed, with_each, at_moment}
 use Rattle.vault_store_model.specs.Copies.{is_held_version, moved_row}
 use Rattle.vault_store_model.specs.Tests.{is_named, is_numbered, is_of_key, every, with_last, with_last_and_next, with_last_and_moves, with_sums, closed_row, with_default_columns, with_owner, removed_row, with_head_columns}
-use Rattle.vault_store_model.proofs.EditLemmas.{with_row_ignores, with_changed_ignores, without_ignores, with_copies_ignores, and_then_ignores}
+use Rattle.vault_store_model.proofs.EditLemmas.{with_row_ignores, with_changed_ignores, without_ignores, with_copies_ignores, and_then_ignores, with_rows_ignores}
 use Rattle.vault_store_model.specs.Changes.{added_if_given, with_row_if_given, summed, with_sums_of, headed, with_head, head_with, others_at, with_history, without_entry, with_department_sums, with_move, edit_of}
 
 -- ---- lists of rows
-
-pub rows_ignore : (t : Table) (edit : List Row → List Row) → ((xs ys : List Row) → IsPermutation xs ys → IsPermutation (edit xs) (edit ys)) → IgnoresOrder (with_rows t edit)
-rows_ignore t edit same xs ys are s =
-    elim (place_of t == place_of s) as (λ b. IsPermutation (cond b (edit (xs s)) (xs s)) (cond b (edit (ys s)) (ys s))) [
-      | true ↦ same (xs s) (ys s) (are s)
-      | false ↦ are s
-    ]
 
 pushed_same : (more xs ys : List Row) → IsPermutation xs ys → IsPermutation (pushed more xs) (pushed more ys)
 pushed_same [] xs ys same = same
@@ -55,19 +47,19 @@ headed_same bucket key (Some old) (Some new) xs ys same = IsPermutation-map (cha
 -- ---- edits
 
 pub each_ignores : (t : Table) (more : List Row) → IgnoresOrder (with_each t more)
-each_ignores t more = rows_ignore t (pushed more) (pushed_same more)
+each_ignores t more = with_rows_ignores t (pushed more) (pushed_same more)
 
 pub if_given_ignores : {A : Type 0} (t : Table) (row : A → Row) (given : Option A) → IgnoresOrder (with_row_if_given t row given)
-if_given_ignores t row given = rows_ignore t (added_if_given row given) (added_same row given)
+if_given_ignores t row given = with_rows_ignores t (added_if_given row given) (added_same row given)
 
 pub moment_ignores : (t : ℕ) → IgnoresOrder (at_moment t)
 moment_ignores t = with_changed_ignores table.Meta every (with_last t)
 
 pub sums_ignore : (v : Vault) (marker : Bool) (config : Option BucketConfig) → IgnoresOrder (with_sums_of v marker config)
-sums_ignore v marker config = rows_ignore table.Departments (summed v marker config) (summed_same v marker config)
+sums_ignore v marker config = with_rows_ignores table.Departments (summed v marker config) (summed_same v marker config)
 
 pub head_ignores : (bucket key : List ℕ) (old new : Option Head) → IgnoresOrder (with_head bucket key old new)
-head_ignores bucket key old new = rows_ignore table.Heads (headed bucket key old new) (headed_same bucket key old new)
+head_ignores bucket key old new = with_rows_ignores table.Heads (headed bucket key old new) (headed_same bucket key old new)
 
 department_ignores : (v : Vault) (dept : List ℕ) → IgnoresOrder (with_department_sums v dept)
 department_ignores v dept = with_changed_ignores table.Departments (is_named dept) (with_sums (department_in v dept).sums)

@@ -30,16 +30,8 @@ use Rattle.vault_store_model.proofs.TenureLemmas.{EndsOne, ends_behind, ends_bef
 
 -- ---- a row of sums
 
-abbrev sums : ℕ → ℕ → ℕ → ℕ → ℕ → ℕ → ℕ → Sums
-sums a b c d e f g = record { admitted = a; received = b; held = c; removed = d; handed = e; weighted = f; closed = g }
-
-same_sums : (a b c d e f g h i j k l m n : ℕ) → a ≡ h → b ≡ i → c ≡ j → d ≡ k → e ≡ l → f ≡ m → g ≡ n → sums a b c d e f g ≡ sums h i j k l m n
-same_sums a b c d e f g h i j k l m n o p q r s t u = rw (o, p, q, r, s, t, u) refl
-
 pub row_is : (row : Sums) (items : List Item) → IsRowOf row items → row ≡ sums_over items
-row_is row items is =
-    same_sums row.admitted row.received row.held row.removed row.handed row.weighted row.closed _ _ _ _ _ _ _
-    is.admitted is.received is.held is.removed is.handed is.weighted is.closed
+row_is row items is = rw (is.admitted, is.received, is.held, is.removed, is.handed, is.weighted, is.closed) refl
 
 -- ---- an admission
 
@@ -108,7 +100,7 @@ ends_in n id r (h ∷ hs) g t ids found held last =
       | false ↦ λ other. ends_later id r g h t hs other (ends_in (n + 1) id r hs g t ids.1 (found_later (eqb h.entry.id id) h g (find (λ x. x.entry.id == id) hs) other found) held last)
     ] refl
 
-entry_same : (x y : Entry) → Some x ≡ Some y → x ≡ y
+pub entry_same : (x y : Entry) → Some x ≡ Some y → x ≡ y
 entry_same x y e = cc e
 
 -- the version's last tenure ends

@@ -33,10 +33,11 @@ use Rattle.vault_audit_laws.proofs.Uniqueness.{ids_numbered}
 use Rattle.vault_audit_walk.specs.Records.{ReportsOne}
 use Rattle.vault_store_reads.specs.Queries.{FindsRows}
 use Rattle.vault_store_reads.proofs.FindLemmas.{records_found, at_most_one, first_found, none_found, read_found}
-use Rattle.vault_store_reads.proofs.LimitLemmas.{all_filtered, all_found, contents_limited, first_limited}
+use Rattle.vault_store_reads.proofs.LimitLemmas.{all_found, first_limited}
 use Rattle.vault_store_reads.proofs.ListLemmas.{filter_parts}
 use Rattle.vault_store_reads.proofs.TextLemmas.{where_is, entry_text, entry_shown, entry_selects, content_text, content_shown, content_selects, note_text, note_shown, note_selects}
 use Rattle.vault_audit_model.proofs.ValueLemmas.{same_text, same_number}
+use Rattle.vault_audit_rows.proofs.LimitLemmas.{all_filtered, contents_limited}
 
 abbrev pub id_of : History → ℕ
 id_of h = h.entry.id

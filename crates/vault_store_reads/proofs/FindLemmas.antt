@@ -12,14 +12,7 @@ use Rattle.vault_core_model.specs.Order.{IsAscending}
 use Rattle.vault_store_reads.specs.Queries.{select_from}
 use Rattle.vault_store_model.specs.Scans.{passes, shows}
 use Rattle.vault_store_model.proofs.ScanLemmas.{scanned}
-
-filter_same : {A : Type 0} (p q : A → Bool) → ((x : A) → p x ≡ q x) → (xs : List A) → filter p xs ≡ filter q xs
-filter_same p q same [] = refl
-filter_same p q same (x ∷ xs) = rw (same x, filter_same p q same xs) refl
-
-map_same : {A B : Type 0} (f g : A → B) → ((x : A) → f x ≡ g x) → (xs : List A) → map f xs ≡ map g xs
-map_same f g same [] = refl
-map_same f g same (x ∷ xs) = rw (same x, map_same f g same xs) refl
+use Rattle.sqlite_keyed.proofs.ListLemmas.{filter_same, map_same}
 
 -- ---- the records whose rows a query shows
 

@@ -8,7 +8,7 @@ use Rattle.std.proofs.lemmas.Bool.{and_parts}
 use Rattle.std.proofs.lemmas.Bool.Decides.{nat_tests}
 use Rattle.std.proofs.lemmas.Slice.Eq.{bytes_eq-Decides}
 use Rattle.sqlite_rules.specs.Lists.{Has}
-use Rattle.sqlite_rules.proofs.ListLemmas.{all_from}
+use Rattle.sqlite_rules.proofs.ListLemmas.{all_from, has_filtered, has_kept, has_found}
 use Rattle.sqlite_tied.proofs.RuleLemmas.{and_true}
 use Rattle.sqlite_trees.proofs.ListLemmas.{map-map}
 use Rattle.sqlite_value.specs.declared.value.Value.TheVariants.{Text}
@@ -35,10 +35,11 @@ use Rattle.vault_audit_walk.specs.Records.{ReportsOne}
 use Rattle.vault_store_reads.specs.Queries.{FindsRows}
 use Rattle.vault_store_reads.proofs.FindLemmas.{records_found}
 use Rattle.vault_store_reads.proofs.EntryLemmas.{id_of, ascending_ids, same_if}
-use Rattle.vault_store_reads.proofs.LimitLemmas.{all_filtered, first_limited}
-use Rattle.vault_store_reads.proofs.ListLemmas.{has_filtered, filtered_has, found_has, first_of, none_of}
+use Rattle.vault_store_reads.proofs.LimitLemmas.{first_limited}
+use Rattle.vault_store_reads.proofs.ListLemmas.{first_of, none_of}
 use Rattle.vault_store_reads.proofs.TextLemmas.{where_is, head_text, head_shown, head_selects}
 use Rattle.vault_audit_model.proofs.ValueLemmas.{same_text}
+use Rattle.vault_audit_rows.proofs.LimitLemmas.{all_filtered}
 
 -- ---- the last of entries by rising id
 
@@ -46,17 +47,10 @@ head_over-last : (h : History) (hs : List History) → head_over (h ∷ hs) ≡ 
 head_over-last h [] = refl
 head_over-last h (g ∷ gs) = ap (λ (o : Option Head). option_map (λ x. record { newest = x.newest; count = length (h ∷ g ∷ gs) }) o) (head_over-last g gs)
 
-all_left : {X : Type 0} (P : X → Type 0) (p : X → Bool) (xs : List X) → AllByRecursion P xs → AllByRecursion P (filter p xs)
-all_left P p [] all = tt
-all_left P p (x ∷ xs) all = elim (p x) as (λ b. AllByRecursion P (cond b (x ∷ filter p xs) (filter p xs))) [
-  | true ↦ (all.0, all_left P p xs all.1)
-  | false ↦ all_left P p xs all.1
-]
-
 ascending_left : {X : Type 0} (cmp : X → X → Ordering) (p : X → Bool) (xs : List X) → IsAscending cmp xs → IsAscending cmp (filter p xs)
 ascending_left cmp p [] ascending = tt
 ascending_left cmp p (x ∷ xs) ascending = elim (p x) as (λ b. IsAscending cmp (cond b (x ∷ filter p xs) (filter p xs))) [
-  | true ↦ (all_left (λ y. cmp x y ≡ Less) p xs ascending.0, ascending_left cmp p xs ascending.1)
+  | true ↦ (all_filtered (λ y. cmp x y ≡ Less) p xs ascending.0, ascending_left cmp p xs ascending.1)
   | false ↦ ascending_left cmp p xs ascending.1
 ]
 
@@ -78,7 +72,7 @@ newest_last h f (g ∷ gs) ascending (inr there) newest = newest_last h g gs asc
 
 -- what a test leaves is nothing, so nothing passes it
 none_left : {X : Type 0} (p : X → Bool) (xs : List X) → length (filter p xs) ≡ 0 → (x : X) → Has xs x → p x ≡ true → ⊥
-none_left p xs none x there passes = gone (filter p xs) none (filtered_has p xs x there passes)
+none_left p xs none x there passes = gone (filter p xs) none (has_kept p xs x there passes)
   where
     gone : (ys : List _) → length ys ≡ 0 → Has ys x → ⊥
     gone [] e h = h
@@ -126,7 +120,7 @@ module _ (v : Vault) (bucket key : List ℕ) (sound : Sound v) where
       ap (λ gs. length (filter (λ (g : History). nat_lt h.entry.id g.entry.id) gs)) (sym place) ∙ same_if _ 0 both.1 in
       let newest : IsNewest h (held_at v bucket key) =
       all_from (λ (g : History). nat_lt h.entry.id g.entry.id ≡ true → ⊥) (held_at v bucket key) (none_left (λ (g : History). nat_lt h.entry.id g.entry.id) (held_at v bucket key) none) in
-      head_is (held_at v bucket key) refl h (filtered_has here v.histories h there (held_there h p both.0)) newest
+      head_is (held_at v bucket key) refl h (has_kept here v.histories h there (held_there h p both.0)) newest
       ∙ ap (λ gs. Some (record { newest = h.entry.id; count = length gs })) (sym place)
 
   -- where no current entry has the key, it has no head
@@ -137,9 +131,9 @@ module _ (v : Vault) (bucket key : List ℕ) (sound : Sound v) where
       go None e = refl
       go (Some hd) e =
           let it = current-head v bucket key hd sound e in
-          let found = found_has (is_current v) (held_at v bucket key) it.0 it.1 in
+          let found = has_found (is_current v) (held_at v bucket key) it.0 it.1 in
           let held = has_filtered here v.histories it.0 found.0 in
-          let left = filtered_has is_of_key (filter (is_current v) v.histories) it.0 (filtered_has (is_current v) v.histories it.0 held.0 found.1) (of_key it.0 held.1) in
+          let left = has_kept is_of_key (filter (is_current v) v.histories) it.0 (has_kept (is_current v) v.histories it.0 held.0 found.1) (of_key it.0 held.1) in
           absurd (subst (λ hs. Has hs it.0) none left)
 
 -- ---- its rows
@@ -164,16 +158,13 @@ module _ (v : Vault) (bucket key : List ℕ) (rows : List Row) (finds : FindsRow
       finds.0 (filter (is_current v) v.histories) rows (subst (λ xs. IsPermutation xs (map head_columns (finds.0.trees heads_tree))) (map-map head_row (head_in v) (filter (is_current v) v.histories)) finds.1.heads)
       (finds.2 _ head_selects)
 
-  same_head : (a b c d : ℕ) → a ≡ c → b ≡ d → ◌≡◌ {A = Head} (record { newest = a; count = b }) (record { newest = c; count = d })
-  same_head a b c d p q = rw (p, q) refl
-
   pub head_read : (row : Row) (x : HeadRow) → slice_get rows 0 ≡ Some row → row ≡ head_row x → Some x.head ≡ head_of v bucket key
   head_read row x first reads =
       let it = first_of row_of (filter is_its (filter (is_current v) v.histories)) rows row head_found first in
       let its = has_filtered is_its (filter (is_current v) v.histories) it.0 it.1 in
       let current = has_filtered (is_current v) v.histories it.0 its.0 in
       let e : head_row x ≡ head_row (head_in v it.0) = sym reads ∙ it.2 in
-      let one : x.head ≡ (head_in v it.0).head = same_head x.head.newest x.head.count _ _ (number_same _ _ (ap (λ r. column r 2) e)) (number_same _ _ (ap (λ r. column r 3) e)) in
+      let one : x.head ≡ (head_in v it.0).head = rw (number_same x.head.newest (head_in v it.0).head.newest (ap (λ r. column r 2) e), number_same x.head.count (head_in v it.0).head.count (ap (λ r. column r 3) e)) refl in
       ap Some one ∙ sym (current_head v bucket key finds.1.spells.kept.sound it.0 current.0 current.1 its.1)
 
   pub head_limited : (row : Row) → slice_get rows 0 ≡ Some row → ReportsOne head_row IsHeadRow row

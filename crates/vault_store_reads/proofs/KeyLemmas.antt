@@ -59,7 +59,7 @@ test bucket after c = is_true (binary (Compare Eq Binary) (column c 0) (Text buc
 abbrev keep : List ℕ → List ℕ → HeadRow → Bool
 keep bucket after x = bytes_eq x.bucket bucket && is_behind x.key after
 
-two : (a b c d : Bool) → a ≡ c → b ≡ d → (a && (b && true)) ≡ (c && d)
+pub two : (a b c d : Bool) → a ≡ c → b ≡ d → (a && (b && true)) ≡ (c && d)
 two a true c d p q = rw (p, sym q) refl
 two a false c d p q = rw (p, sym q) refl
 

@@ -32,10 +32,12 @@ use Rattle.vault_store_model.proofs.DepartmentLemmas.{no_items}
 use Rattle.vault_audit_walk.specs.Records.{ReportsOne}
 use Rattle.vault_store_reads.specs.Queries.{FindsRows}
 use Rattle.vault_store_reads.proofs.FindLemmas.{records_found, at_most_one, first_found, none_found, read_found}
-use Rattle.vault_store_reads.proofs.LimitLemmas.{all_filtered, all_found, first_limited}
-use Rattle.vault_store_reads.proofs.ListLemmas.{has_filtered, first_of, none_of}
+use Rattle.vault_store_reads.proofs.LimitLemmas.{all_found, first_limited}
+use Rattle.vault_store_reads.proofs.ListLemmas.{first_of, none_of}
 use Rattle.vault_store_reads.proofs.TextLemmas.{where_is, department_text, department_shown, department_selects, caller_text, caller_shown, caller_selects, bucket_text, bucket_shown, bucket_selects}
 use Rattle.vault_audit_model.proofs.ValueLemmas.{same_text}
+use Rattle.vault_audit_rows.proofs.LimitLemmas.{all_filtered}
+use Rattle.sqlite_rules.proofs.ListLemmas.{has_filtered}
 
 -- a row whose first column is the name
 abbrev has_name : List ℕ → Row → Bool
@@ -44,7 +46,7 @@ has_name name r = is_true (binary (Compare Eq Binary) (column r 0) (Text name))
 named : (a name : List ℕ) → bytes_eq a name ≡ true → a ≡ name
 named a name e = (bytes_eq-Decides a name).0 e
 
-tied_names : (a b name : List ℕ) → bytes_eq a name ≡ true → bytes_eq b name ≡ true → name_cmp a b ≡ Equal
+pub tied_names : (a b name : List ℕ) → bytes_eq a name ≡ true → bytes_eq b name ≡ true → name_cmp a b ≡ Equal
 tied_names a b name p q = rw (named a name p, named b name q) (tied_itself nat_list_cmp_total name)
 
 -- ---- departments

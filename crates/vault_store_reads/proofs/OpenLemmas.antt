@@ -12,7 +12,9 @@ use Rattle.sqlite_sql.specs.Query.{Query}
 use Rattle.vault_core_model.specs.Vault.{Vault}
 use Rattle.vault_store_model.specs.Keeping.{Keeps}
 use Rattle.vault_store_reads.specs.Queries.{Selects}
-use Rattle.vault_store_reads.specs.Quiet.{IsQuiet}
+use Rattle.vault_store_reads.specs.Quiet.{IsQuiet, OnlyReads, ReadsQuietly}
+use Rattle.sqlite_trees.specs.declared.store.Store.{Ghosts}
+use Rattle.sqlite.specs.Held.{Held}
 
 shows_open : (old new : State) (sql : List ℕ) (c : Compiled) (params : Row) (rows : List Row) (o : Option Returning) → ShowsRows old new sql c params rows o → IsTrue new.is_open
 shows_open old new sql c params rows None it = it.3.0.is_open
@@ -39,3 +41,7 @@ quiet_then a b c keeps stays one two =
 
 pub of_vault : (a b : State) → Survives a b (IsQuiet a) → (v : Vault) → Keeps a v → Survives a b (λ _. ¬ IsTrue a.is_open)
 of_vault a b s v was = survives_weaker a b _ _ (λ _ db q. q v was) s
+
+-- a read that is quiet changes nothing of a vault that was kept
+pub only_reads : {S : Type 0} {g : Ghosts S} {old new : Held S} → ReadsQuietly g old new → OnlyReads g old new
+only_reads read = record { same = read.same; honest = read.honest; mode = read.mode; crash = λ v was. of_vault _ _ read.survives v was }

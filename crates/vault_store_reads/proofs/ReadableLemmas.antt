@@ -1,5 +1,5 @@
 -- The rows that the ordered reads find of a vault are in their limits.
-use Rattle.std.proofs.Common.{ℕ, ◌≤◌, List, [], ◌∷◌, length, map, filter, take, reverse, Bool, true, false, Some, None, Option, option_to_list, IfSome, IsTrue, ◌==◌, not, Ordering, Less, Equal, Greater, nat_cmp, refl, sym, subst, ◌∙◌, arith}
+use Rattle.std.proofs.Common.{ℕ, ◌≤◌, List, [], ◌∷◌, length, map, filter, take, reverse, Some, None, Option, option_to_list, IfSome, IsTrue, ◌==◌, not, Ordering, Less, Equal, Greater, nat_cmp, refl, sym, subst, ◌∙◌, arith}
 use Rattle.std.specs.Prelude.{option_map}
 use Rattle.std.specs.List.{AllByRecursion}
 use Rattle.std.specs.Cmp.Lexicographic.{slice_cmp}
@@ -16,15 +16,17 @@ use Rattle.vault_core_model.specs.declared.records.Bucket.{Bucket}
 use Rattle.vault_core_model.specs.declared.records.Head.{Head}
 use Rattle.vault_core_model.specs.declared.records.History.{History}
 use Rattle.vault_core_model.specs.declared.records.Setting.{Setting}
-use Rattle.vault_audit_model.specs.Limits.{IsBucket, IsBucketName, IsSizedAs, IsHistory, IsObjectKey, IsRetention, IsRuleRow, IsSetting, IsSettingRow, IsTenureRow}
+use Rattle.vault_audit_model.specs.Limits.{IsBucket, IsBucketName, IsHistory, IsObjectKey, IsRetention, IsRuleRow, IsSetting, IsSettingRow, IsTenureRow}
 use Rattle.vault_audit_model.specs.Rows.{rule_row, setting_row, tenure_row}
 use Rattle.vault_audit_model.specs.Spells.{IsKept, rules_in, settings_in, tenures_in}
 use Rattle.vault_audit_model.proofs.ListLemmas.{all_as}
 use Rattle.vault_audit_walk.specs.Records.{ReportsOne}
 use Rattle.vault_store_reads.specs.Readable.{AreReadable, IsHeldRow, IsLastSetting}
 use Rattle.vault_store_reads.specs.Shown.{entry_shown, held_row, id_row, ids_at, key_row, last_row, name_row, newest_but, without_lock}
-use Rattle.vault_store_reads.proofs.LimitLemmas.{all_filtered, all_given, all_last, all_mapped, all_part, all_reversed, all_taken, most_of, rules_limited, settings_limited, tenures_limited, wholes}
+use Rattle.vault_store_reads.proofs.LimitLemmas.{all_given, all_last, all_part, all_reversed, all_taken}
 use Rattle.vault_store_reads.proofs.OrderedListLemmas.{last, part_of}
+use Rattle.vault_audit_rows.proofs.LimitLemmas.{all_filtered, all_mapped, most_of, rules_limited, settings_limited, tenures_limited, wholes}
+use Rattle.vault_audit_rows.proofs.ColumnLemmas.{sized_within}
 
 pub reported : {X : Type 0} (row_of : X → Row) (Is : X → Type 0) (xs : List X) → AllByRecursion Is xs → AreReadable row_of Is (map row_of xs)
 reported row_of Is [] all = tt
@@ -42,13 +44,8 @@ by_settings (s ∷ ss) all few = (record { count = (omega arith, few); retention
 
 -- ---- sizes
 
-small_as : (marker : Bool) (size : ℕ) (digest : Option (List ℕ)) → IsSizedAs marker size digest → size ≤ most_content
-small_as true size digest is = subst (λ n. n ≤ most_content) (sym is.0) (omega arith)
-small_as false size None is = absurd is
-small_as false size (Some d) is = is.0
-
 pub small : (h : History) → IsHistory h → h.entry.size ≤ most_content
-small h is = small_as h.entry.marker h.entry.size h.entry.digest is.entry.sized
+small h is = sized_within h.entry.marker h.entry.size h.entry.digest is.entry.sized
 
 -- ---- keys
 

@@ -1,25 +1,19 @@
 -- A store that works refuses a query that it can answer for want of memory alone, whatever the parameters are.
-use Rattle.std.proofs.Common.{◌≡◌, inl, inr, ℕ, List, [], ◌∷◌, true, false, None, Option, Ok, Err, Result, IfErr, IsTrue, IsSome, append-nil, refl, sym, ap, subst, ◌∙◌, arith}
+use Rattle.std.proofs.Common.{◌≡◌, inl, inr, ℕ, List, [], true, false, None, Option, Ok, Err, Result, IfErr, IsTrue, append-nil, refl, sym, ap, subst, ◌∙◌}
 use Rattle.sqlite_value.specs.Order.{Row}
 use Rattle.sqlite_schema.specs.declared.command.Command.{Command}
 use Rattle.sqlite_schema.specs.declared.command.Command.TheVariants.{Select}
-use Rattle.sqlite_schema.specs.declared.program.Program.{Program}
-use Rattle.sqlite_schema.specs.Program.{lets_of}
 use Rattle.sqlite_resolve.specs.declared.compiled.Compiled.{Compiled}
 use Rattle.sqlite_typing.specs.Types.{accepts_program}
-use Rattle.sqlite_sql.specs.Query.{Query, has_no_fold}
-use Rattle.sqlite_sql.specs.Program.{Let, QueryOverflows, ProgramOverflows}
-use Rattle.sqlite_sql.proofs.QueryLemmas.{no_fold_overflows}
-use Rattle.sqlite_trees.specs.Tree.{Trees}
-use Rattle.sqlite_trees.specs.declared.error.StoreError.TheVariants.{OutOfMemory, Io, Corrupt, Full, Broken, Unstorable}
+use Rattle.sqlite_trees.specs.declared.error.StoreError.TheVariants.{OutOfMemory}
 use Rattle.sqlite.specs.declared.error.Error.{Error}
 use Rattle.sqlite.specs.declared.error.Error.TheVariants.{SqliteFailure}
 use Rattle.sqlite.specs.declared.error.ErrorCode.TheVariants as code
-use Rattle.sqlite.specs.Effect.{Database, RefusesQuery, RefusesToRead}
+use Rattle.sqlite.specs.Effect.{Database, RefusesToRead}
 use Rattle.sqlite.specs.Given.{IsPlain}
 use Rattle.sqlite.specs.Listing.{understood, reads_listing, IsSourceOf}
 use Rattle.sqlite.specs.Clock.{timed}
-use Rattle.sqlite.specs.State.{State, HasCause, Fails, FailsToShow, FailsToQuery, IsNoStatement, IsNotRun, IsStatement}
+use Rattle.sqlite.specs.State.{State, FailsToShow, FailsToQuery, IsNoStatement, IsNotRun, IsStatement}
 use Rattle.vault_core_model.specs.Vault.{Vault}
 use Rattle.vault_audit_model.specs.Tables.{vault_schema}
 use Rattle.vault_audit_rows.specs.declared.misread.Misread.{Misread}
@@ -28,34 +22,7 @@ use Rattle.vault_audit_walk.specs.Health.{IsHealthy, IsMemory}
 use Rattle.vault_store_model.specs.Keeping.{Keeps}
 use Rattle.vault_store_reads.specs.Wants.{IsQueryWith, IsReadWith, IsAskedWith}
 use Rattle.vault_store_reads.proofs.QueryLemmas.{failed}
-
--- ---- of the store
-
-failed_more : (old new : State) → IsHealthy new → HasCause old new ⊥ Io → ⊥
-failed_more old new well more = omega (arith, more, well.unfailed)
-
-by_store : (old new : State) → IsHealthy new → (e : Error) → Fails old new ⊥ e → IsMemory e
-by_store old new well e (OutOfMemory, is, cause, undone, stated) = is
-by_store old new well e (Io, is, cause, undone, stated) = absurd (failed_more old new well cause)
-by_store old new well e (Corrupt, is, cause, undone, stated) = absurd (failed_more old new well cause)
-by_store old new well e (Full, is, cause, undone, stated) = absurd (failed_more old new well cause)
-by_store old new well e (Broken, is, cause, undone, stated) = absurd (let is_open : IsTrue old.is_open = undone.was_open well.is_open in cc (cause, is_open))
-by_store old new well e (Unstorable, is, cause, undone, stated) = absurd cause
-
--- ---- of a query
-
-never_sums : (db : Trees) (q : Query) (params : Row) → q.group ≡ None → has_no_fold q.from ≡ true → ¬ QueryOverflows q db params
-never_sums db q params none plain (inl over) = rw none at over
-never_sums db q params none plain (inr over) = no_fold_overflows db q.from (params ∷ []) plain over
-
-never_overflows : (db : Trees) (params : Row) (lets : List Let) (q : Query) → lets ≡ [] → q.group ≡ None → has_no_fold q.from ≡ true → ¬ ProgramOverflows db params [] lets q
-never_overflows db params [] q bare none plain over = never_sums _ q params none plain over
-never_overflows db params (l ∷ lets) q bare none plain over = absurd (cc bare)
-
-by_query : (limit : Option ℕ) (db : Database) (p : Program) (params : Row) (e : Error) → limit ≡ None → lets_of p ≡ [] → accepts_program db.schema [] p.body params ≡ true → p.body.group ≡ None → has_no_fold p.body.from ≡ true → ¬ RefusesQuery limit db p params e
-by_query limit db p params e unlimited bare typed none plain (inl refused) = let no : accepts_program db.schema [] p.body params ≡ false = subst (λ l. accepts_program db.schema l p.body params ≡ false) bare refused.1 in absurd (cc (typed, no))
-by_query limit db p params e unlimited bare typed none plain (inr (inl over)) = never_overflows db.trees params (lets_of p) p.body bare none plain over.1
-by_query limit db p params e unlimited bare typed none plain (inr (inr cut)) = absurd (let some : IsSome {T = ℕ} None = subst (λ (l : Option ℕ). IsSome l) unlimited cut.1 in cc some)
+use Rattle.vault_audit_walk.proofs.CauseLemmas.{by_store, by_query}
 
 by_command : (limit : Option ℕ) (db : Database) (k : Command) (params : Row) (e : Error) → limit ≡ None → db.schema ≡ vault_schema → IsQueryWith params k → ¬ RefusesToRead limit k db params e
 by_command limit db (Select p columns) params e unlimited has can refused =
@@ -90,7 +57,7 @@ module _ (sql : List ℕ) (params : Row) (old new : State) (well : IsHealthy new
   known_cause : (e : Error) → FailsToQuery sql params old new e → IsMemory e
   unfolding FailsToQuery IsNotRun
   known_cause e (inl (inl none)) = absurd (a_statement e none.0)
-  known_cause e (inl (inr fails)) = by_store old new well e fails
+  known_cause e (inl (inr fails)) = by_store ⊥ (λ none. none) old new well e fails
   known_cause e (inr (c, it, h)) = absurd (a_read c it e h)
 
 -- of a connection that keeps a vault

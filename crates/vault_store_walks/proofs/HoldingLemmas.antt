@@ -40,10 +40,11 @@ use Rattle.vault_store_reads.proofs.OrderedEntryLemmas.{row_of}
 use Rattle.vault_store_reads.proofs.OrderedListLemmas.{always, last}
 use Rattle.vault_store_walks.proofs.WalkTexts.{later_tests, sized_is, sized_query, sized_tests, sized_text}
 use Rattle.vault_store_reads.proofs.SelectLemmas.{of_records}
-use Rattle.vault_store_reads.proofs.StatedLemmas.{found_each}
 use Rattle.vault_store_reads.proofs.TenureLemmas.{stated_last, tenure_in}
 use Rattle.vault_store_reads.proofs.TenureLemmas as tenures
 use Rattle.vault_store_reads.proofs.ValueLemmas.{lower_number}
+use Rattle.vault_store_reads.proofs.KeyLemmas.{two}
+use Rattle.vault_core_laws.proofs.Newest.{finds_itself}
 
 -- ---- lists
 
@@ -161,10 +162,6 @@ unfolding unary
 none_is zero = refl
 none_is (suc n) = ap (λ k. is_true (unary Not (Int (pos k)))) (let one : min 1 (suc n) ≡ 1 = omega arith in one) ∙ sym (ne_eqb (suc n) 0 (omega arith))
 
-two : (a b c d : Bool) → a ≡ c → b ≡ d → (a && (b && true)) ≡ (c && d)
-two a true c d p q = rw (p, sym q) refl
-two a false c d p q = rw (p, sym q) refl
-
 module _ (ts : List Row) (all : List TenureRow) (are : IsPermutation (map tenure_row all) (map tenure_columns ts)) where
   abbrev later_than : TenureRow → Row → Bool
   later_than t d = is_true (binary (Compare Eq Binary) (column d 0) (number t.id)) && (is_true (binary (Compare Lt Binary) (number t.tenure.number) (column d 1)) && true)
@@ -219,7 +216,7 @@ found_sized v bucket rows (db, sound, answers) =
     ∙ flat_map_same_on (λ h. held_of ts bucket (row_of h)) (λ h. cond (keep h) (of_entry ts (row_of h)) []) (λ (h : History). ap (λ b. cond b (of_entry ts (row_of h)) []) (test_is bucket h.entry)) v.histories
     ∙ parts_where keep (λ h. of_entry ts (row_of h)) v.histories in
     let P : History → Type 0 = λ h. IsPermutation (map sized_row (sized_of h)) (of_entry ts (row_of h)) in
-    let each = All-filter P keep v.histories (all_weaker (λ h. find (λ g. g.entry.id == h.entry.id) v.histories ≡ Some h) P (of_history v db sound) v.histories (found_each 1 v.histories sound.spells.kept.sound.ids)) in
+    let each = All-filter P keep v.histories (all_weaker (λ h. find (λ g. g.entry.id == h.entry.id) v.histories ≡ Some h) P (of_history v db sound) v.histories (finds_itself 1 v.histories sound.spells.kept.sound.ids)) in
     let own = each_permuted (λ h. map sized_row (sized_of h)) (λ h. of_entry ts (row_of h)) hs each in
     let left = subst₂ IsPermutation (sym (map-flat_map sized_row sized_of hs)) (sym stated) own in
     IsPermutation-trans _ _ _ left (IsPermutation-trans _ _ _ (IsPermutation-flat_map (held_of ts bucket) _ _ sound.spells.entries) read)

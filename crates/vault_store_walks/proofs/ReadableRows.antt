@@ -17,9 +17,10 @@ use Rattle.vault_audit_model.specs.Spells.{IsKept}
 use Rattle.vault_audit_model.proofs.ListLemmas.{all_as, all_both}
 use Rattle.vault_audit_walk.specs.Records.{ReportsOne}
 use Rattle.vault_store_reads.specs.Readable.{AreReadable}
-use Rattle.vault_store_reads.proofs.LimitLemmas.{all_filtered, all_flat, all_mapped, at_seam, tenured}
+use Rattle.vault_store_reads.proofs.LimitLemmas.{at_seam}
 use Rattle.vault_store_reads.proofs.ReadableLemmas.{reported, small}
 use Rattle.vault_store_walks.specs.Sized.{IsSizedRow, sized_of, sized_row, sized_with}
+use Rattle.vault_audit_rows.proofs.LimitLemmas.{all_filtered, all_flat, all_mapped, tenured}
 
 last_sized : (size : ℕ) (ts : List Tenure) → size ≤ most_content → AllByRecursion IsTenure ts → AllByRecursion IsSizedRow (map (sized_with size) (option_to_list (last_tenure ts)))
 last_sized size [] low all = tt

@@ -25,7 +25,7 @@ pub struct OwnedEntry {
 }
 
 /// The entry that a row holds.
-#[tactic(auto, using(crate::proofs::SumRowLemmas::row_of_6))]
+#[tactic(auto, using(vault_audit_rows::proofs::RowLemmas::row_of_6))]
 pub fn read_owned(row: &Row) -> Result<OwnedEntry, Misread>
     ensures ok { IfOk result (λ e. row.now ≡ owned_row e) }
     ensures wrong { IfErr result (λ e. e ≡ Misread.Wrong → (x : Reported) → IsOwned x → row.now ≢ owned_row x) }

@@ -52,7 +52,7 @@ pub struct TenurePass {
 }
 
 /// The tenure that a row holds.
-#[tactic(auto, using(crate::proofs::SumRowLemmas::row_of_6))]
+#[tactic(auto, using(vault_audit_rows::proofs::RowLemmas::row_of_6))]
 pub fn read_stated(row: &Row) -> Result<StatedTenure, Misread>
     ensures ok { IfOk result (λ t. row.now ≡ stated_row t) }
     ensures wrong { IfErr result (λ e. e ≡ Misread.Wrong → (x : Reported) → IsStated x → row.now ≢ stated_row x) }

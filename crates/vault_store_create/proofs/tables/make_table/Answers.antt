@@ -18,6 +18,5 @@ pub returns-clause-memory : goal.returns-clause-memory
 returns-clause-memory g c well inside was =
     let old = state g.S.Store c.args.tx.now.conn.now in
     let new = state g.S.Store c.execute.new.self.conn.now in
-    let t = c.args.table in
     let text = c.creation.result.now in
-    table_refused t text c.creation.ensures old new well was c.execute.result (c.execute.ensures.runs well.clean inside)
+    table_refused c.args.table text c.creation.ensures old new well was c.execute.result (c.execute.ensures.runs well.clean inside)

@@ -10,12 +10,11 @@ use Rattle.vault_core_model.specs.Vault.{Vault}
 use Rattle.vault_audit_walk.specs.Health.{IsHealthy, IsMemory}
 use Rattle.vault_store_model.specs.Keeping.{Keeps}
 use Rattle.vault_store_reads.specs.Quiet.{IsQuiet}
-use Rattle.vault_store_walks.proofs.WalkTexts.{sized_asked}
+use Rattle.vault_store_walks.proofs.WalkTexts.{sized_asked, sized_is, sized_query, sized_text}
 use Rattle.vault_store_walks.proofs.HandLemmas.{undone}
 use Rattle.vault_store_walks.proofs.HoldingLemmas.{found_sized}
 use Rattle.vault_store_walks.proofs.HoldingSums.{bytes_are, bytes_in, bytes_more, fits, weight_in, weight_is, weight_more}
 use Rattle.vault_store_reads.proofs.OpenLemmas.{quiet}
-use Rattle.vault_store_walks.proofs.WalkTexts.{sized_is, sized_query, sized_text}
 use Rattle.vault_store_reads.proofs.QueryLemmas.{finds, unchanged_keeps}
 use Rattle.vault_store_walks.proofs.StreamLemmas.{begun, given_found, refused_keeps, refused_why}
 use Rattle.vault_store_reads.proofs.WantLemmas.{cause_of}
@@ -75,8 +74,7 @@ returns-in_default-clause-value g c clean v was =
     let params : Row = Text c.args.bucket.now ∷ [] in
     let moved = c.next.follows.holds-at-none in
     let now = c.next.follows.lender-at-none.conn.now in
-    let end = c.conn-in_default-1.given.0 in
-    let same : now ≡ end = search rules in
+    let same : now ≡ c.conn-in_default-1.given.0 = search rules in
     let late : HasCleanDisk (state g.S.Store now) = search rules in
     let it = c.rows.invariant.3 (omega (arith, moved.survives.clean)) v was in
     let shown = (rw (c.in_ok-row.was, c.in_default.is) at (moved.ok late)) sized_text params it.0 it.1 in
@@ -108,19 +106,16 @@ returns-in_default-clause-read g c = record {
       let old = state g.S.Store c.args.conn.now in
       let moved = c.next.follows.holds-at-none in
       let now = c.next.follows.lender-at-none.conn.now in
-      let end = c.conn-in_default-1.given.0 in
-      let same : now ≡ end = search rules in
+      let same : now ≡ c.conn-in_default-1.given.0 = search rules in
       subst (λ (h : Held g.row.S.Denot). Survives old (state g.S.Store h) (IsQuiet old)) same (survives_then old _ (state g.S.Store now) _ _ _ (λ _ db q. q) (λ _ db none. absurd none) c.rows.invariant.1 moved.survives);
 }
 
 pub returns-in_default-clause-open : goal.returns-in_default-clause-open
 returns-in_default-clause-open g c clean =
-    let moved = c.next.follows.holds-at-none in
     let now = c.next.follows.lender-at-none.conn.now in
-    let end = c.conn-in_default-1.given.0 in
-    let same : now ≡ end = search rules in
+    let same : now ≡ c.conn-in_default-1.given.0 = search rules in
     let late : HasCleanDisk (state g.S.Store now) = search rules in
-    let still = rw c.in_ok-row.was at (moved.same late) in
+    let still = rw c.in_ok-row.was at (c.next.follows.holds-at-none.same late) in
     subst (λ (h : Held g.row.S.Denot). IsTrue (state g.S.Store h).is_open) same still.0.is_open
 
 -- the row isn't that of an entry, or the sums go beyond 64 bits
@@ -147,8 +142,7 @@ returns-in_default-with_row-clause-read g c = record {
       let old = state g.S.Store c.args.conn.now in
       let moved = c.next.follows.holds-at-none in
       let now = c.next.follows.lender-at-none.conn.now in
-      let end = c.conn-in_default-with_row-1.given.0 in
-      let same : now ≡ end = search rules in
+      let same : now ≡ c.conn-in_default-with_row-1.given.0 = search rules in
       subst (λ (h : Held g.row.S.Denot). Survives old (state g.S.Store h) (IsQuiet old)) same (survives_then old _ (state g.S.Store now) _ _ _ (λ _ db q. q) (λ _ db none. absurd none) c.rows.invariant.1 moved.survives);
 }
 
@@ -157,8 +151,7 @@ returns-in_default-with_row-clause-memory g c well v was =
     let params : Row = Text c.args.bucket.now ∷ [] in
     let moved = c.next.follows.holds-at-none in
     let now = c.next.follows.lender-at-none.conn.now in
-    let end = c.conn-in_default-with_row-1.given.0 in
-    let same : now ≡ end = search rules in
+    let same : now ≡ c.conn-in_default-with_row-1.given.0 = search rules in
     let late : HasCleanDisk (state g.S.Store now) = subst (λ (h : Held g.row.S.Denot). HasCleanDisk (state g.S.Store h)) (sym same) well.clean in
     let it = c.rows.invariant.3 (omega (arith, moved.survives.clean)) v was in
     let given = (rw (c.in_ok-row.was, c.in-Some.is) at (moved.ok late)) sized_text params it.0 it.1 in
@@ -191,8 +184,7 @@ returns-in_err-row-clause-read g c = record {
       let old = state g.S.Store c.args.conn.now in
       let moved = c.next.follows.holds-at-none in
       let now = c.next.follows.lender-at-none.conn.now in
-      let end = c.conn-in_err-row-1.given.0 in
-      let same : now ≡ end = search rules in
+      let same : now ≡ c.conn-in_err-row-1.given.0 = search rules in
       subst (λ (h : Held g.row.S.Denot). Survives old (state g.S.Store h) (IsQuiet old)) same (survives_then old _ (state g.S.Store now) _ _ _ (λ _ db q. q) (λ _ db none. absurd none) c.rows.invariant.1 moved.survives);
 }
 
@@ -216,9 +208,7 @@ returns-clause-read g c = record {
   mode = λ alone. search rules;
   survives =
       let old = state g.S.Store c.args.conn.now in
-      let now = c.rows.rows.conn.now in
-      let end = c.conn-2-1.given.0 in
-      let same : now ≡ end = search rules in
+      let same : c.rows.rows.conn.now ≡ c.conn-2-1.given.0 = search rules in
       subst (λ (h : Held g.row.S.Denot). Survives old (state g.S.Store h) (IsQuiet old)) same c.rows.invariant.1;
 }
 
@@ -241,8 +231,7 @@ returns-in_err-row-clause-memory g c well v was =
     let params : Row = Text c.args.bucket.now ∷ [] in
     let moved = c.next.follows.holds-at-none in
     let now = c.next.follows.lender-at-none.conn.now in
-    let end = c.conn-in_err-row-1.given.0 in
-    let same : now ≡ end = search rules in
+    let same : now ≡ c.conn-in_err-row-1.given.0 = search rules in
     let late : IsHealthy (state g.S.Store now) = subst (λ (h : Held g.row.S.Denot). IsHealthy (state g.S.Store h)) (sym same) well in
     let it = c.rows.invariant.3 (omega (arith, moved.survives.clean, late.clean)) v was in
     let failed = (rw c.in_err-row.was at (moved.err late.clean)) sized_text params it.0 it.1 in

@@ -15,8 +15,7 @@ use Rattle.vault_store_model.specs.Keeping.{Keeps}
 use Rattle.vault_store_reads.specs.Quiet.{IsQuiet}
 use Rattle.vault_store_walks.proofs.RemovedLemmas.{removed_query}
 use Rattle.vault_store_reads.proofs.OpenLemmas.{quiet}
-use Rattle.vault_store_walks.proofs.WalkTexts.{removed_text, removed_is, removed_plain}
-use Rattle.vault_store_walks.proofs.WalkTexts.{removed_asked}
+use Rattle.vault_store_walks.proofs.WalkTexts.{removed_text, removed_is, removed_plain, removed_asked}
 use Rattle.vault_store_walks.proofs.ReadableRows.{removed_readable}
 use Rattle.vault_store_reads.proofs.WantLemmas.{cause_of}
 use Rattle.vault_store_reads.proofs.QueryLemmas.{unchanged_keeps}
@@ -64,8 +63,7 @@ pub returns-in_default-clause-done : goal.returns-in_default-clause-done
 returns-in_default-clause-done g c clean v was =
     let moved = c.next.follows.holds-at-none in
     let now = c.next.follows.lender-at-none.conn.now in
-    let end = c.conn-in_default-1.given.0 in
-    let same : now ≡ end = search rules in
+    let same : now ≡ c.conn-in_default-1.given.0 = search rules in
     let late : HasCleanDisk (state g.S.Store now) = search rules in
     let it = c.rows.invariant.3 (omega (arith, moved.survives.clean)) v was in
     let shown = (rw (c.in_ok-row.was, c.in_default.is) at (moved.ok late)) removed_text [] it.0 it.1 in
@@ -78,8 +76,7 @@ returns-in_default-clause-leaves g c = record {
   same = λ clean v was.
       let moved = c.next.follows.holds-at-none in
       let now = c.next.follows.lender-at-none.conn.now in
-      let end = c.conn-in_default-1.given.0 in
-      let same : now ≡ end = search rules in
+      let same : now ≡ c.conn-in_default-1.given.0 = search rules in
       let late : HasCleanDisk (state g.S.Store now) = search rules in
       let it = c.rows.invariant.3 (omega (arith, moved.survives.clean)) v ∣ was ∣₁ in
       let still = rw c.in_ok-row.was at (moved.same late) in
@@ -88,12 +85,10 @@ returns-in_default-clause-leaves g c = record {
 
 pub returns-in_default-clause-open : goal.returns-in_default-clause-open
 returns-in_default-clause-open g c clean =
-    let moved = c.next.follows.holds-at-none in
     let now = c.next.follows.lender-at-none.conn.now in
-    let end = c.conn-in_default-1.given.0 in
-    let same : now ≡ end = search rules in
+    let same : now ≡ c.conn-in_default-1.given.0 = search rules in
     let late : HasCleanDisk (state g.S.Store now) = search rules in
-    let still = rw c.in_ok-row.was at (moved.same late) in
+    let still = rw c.in_ok-row.was at (c.next.follows.holds-at-none.same late) in
     subst (λ (h : Held g.row.S.Denot). IsTrue (state g.S.Store h).is_open) same still.0.is_open
 
 -- the sink refuses
@@ -102,8 +97,7 @@ pub returns-then-not-branch-clause-done : goal.returns-then-not-branch-clause-do
 returns-then-not-branch-clause-done g c clean v was =
     let moved = c.next.follows.holds-at-none in
     let now = c.next.follows.lender-at-none.conn.now in
-    let end = c.conn-then-not-branch-1.given.0 in
-    let same : now ≡ end = search rules in
+    let same : now ≡ c.conn-then-not-branch-1.given.0 = search rules in
     let late : HasCleanDisk (state g.S.Store now) = search rules in
     let it = c.rows.invariant.3 (omega (arith, moved.survives.clean)) v was in
     let given = (rw (c.in_ok-row.was, c.in-Some.is) at (moved.ok late)) removed_text [] it.0 it.1 in
@@ -119,8 +113,7 @@ returns-then-not-branch-clause-leaves g c = record {
   same = λ clean v was.
       let moved = c.next.follows.holds-at-none in
       let now = c.next.follows.lender-at-none.conn.now in
-      let end = c.conn-then-not-branch-1.given.0 in
-      let same : now ≡ end = search rules in
+      let same : now ≡ c.conn-then-not-branch-1.given.0 = search rules in
       let late : HasCleanDisk (state g.S.Store now) = search rules in
       let it = c.rows.invariant.3 (omega (arith, moved.survives.clean)) v ∣ was ∣₁ in
       let still = rw c.in_ok-row.was at (moved.same late) in
@@ -129,24 +122,20 @@ returns-then-not-branch-clause-leaves g c = record {
 
 pub returns-then-not-branch-clause-open : goal.returns-then-not-branch-clause-open
 returns-then-not-branch-clause-open g c clean =
-    let moved = c.next.follows.holds-at-none in
     let now = c.next.follows.lender-at-none.conn.now in
-    let end = c.conn-then-not-branch-1.given.0 in
-    let same : now ≡ end = search rules in
+    let same : now ≡ c.conn-then-not-branch-1.given.0 = search rules in
     let late : HasCleanDisk (state g.S.Store now) = search rules in
-    let still = rw c.in_ok-row.was at (moved.same late) in
+    let still = rw c.in_ok-row.was at (c.next.follows.holds-at-none.same late) in
     subst (λ (h : Held g.row.S.Denot). IsTrue (state g.S.Store h).is_open) same still.0.is_open
 
 -- it failed at an entry
 
 pub returns-in_err-hand-clause-some : goal.returns-in_err-hand-clause-some
 returns-in_err-hand-clause-some g c clean = some_err g.T.Sink.takes c.args.sink.now _ (state g.S.Store c.args.conn.now) _ (λ v was.
-    let moved = c.next.follows.holds-at-none in
     let now = c.next.follows.lender-at-none.conn.now in
-    let end = c.conn-in_err-hand-1.given.0 in
-    let same : now ≡ end = search rules in
+    let same : now ≡ c.conn-in_err-hand-1.given.0 = search rules in
     let late : HasCleanDisk (state g.S.Store now) = search rules in
-    let it = c.rows.invariant.3 (omega (arith, moved.survives.clean)) v was in
+    let it = c.rows.invariant.3 (omega (arith, c.next.follows.holds-at-none.survives.clean)) v was in
     let on = given_removed g.S.Store c.args.conn.now _ v was it.2 it.0 it.1 in
     let kept : c.rows.sink ≡ c.hand.new.sink = search rules in
     subst (λ s. TakesSome g.T.Sink.takes c.args.sink.now (removed_entries v) s) kept (some_taken g.T.Sink.takes c.args.sink.now c.rows.sink it.0 on.0 (removed_entries v) it.3 on.1))
@@ -157,8 +146,7 @@ returns-in_err-hand-clause-leaves g c = record {
   same = λ clean v was.
       let moved = c.next.follows.holds-at-none in
       let now = c.next.follows.lender-at-none.conn.now in
-      let end = c.conn-in_err-hand-1.given.0 in
-      let same : now ≡ end = search rules in
+      let same : now ≡ c.conn-in_err-hand-1.given.0 = search rules in
       let late : HasCleanDisk (state g.S.Store now) = search rules in
       let it = c.rows.invariant.3 (omega (arith, moved.survives.clean)) v ∣ was ∣₁ in
       let still = rw c.in_ok-row.was at (moved.same late) in
@@ -169,12 +157,10 @@ returns-in_err-hand-clause-leaves g c = record {
 
 pub returns-in_err-row-clause-some : goal.returns-in_err-row-clause-some
 returns-in_err-row-clause-some g c clean = some_err g.T.Sink.takes c.args.sink.now _ (state g.S.Store c.args.conn.now) _ (λ v was.
-    let moved = c.next.follows.holds-at-none in
     let now = c.next.follows.lender-at-none.conn.now in
-    let end = c.conn-in_err-row-1.given.0 in
-    let same : now ≡ end = search rules in
+    let same : now ≡ c.conn-in_err-row-1.given.0 = search rules in
     let late : HasCleanDisk (state g.S.Store now) = search rules in
-    let it = c.rows.invariant.3 (omega (arith, moved.survives.clean)) v was in
+    let it = c.rows.invariant.3 (omega (arith, c.next.follows.holds-at-none.survives.clean)) v was in
     let on = given_removed g.S.Store c.args.conn.now _ v was it.2 it.0 it.1 in
     some_taken g.T.Sink.takes c.args.sink.now c.rows.sink it.0 on.0 (removed_entries v) it.3 on.1)
 
@@ -184,8 +170,7 @@ returns-in_err-row-clause-leaves g c = record {
   same = λ clean v was.
       let moved = c.next.follows.holds-at-none in
       let now = c.next.follows.lender-at-none.conn.now in
-      let end = c.conn-in_err-row-1.given.0 in
-      let same : now ≡ end = search rules in
+      let same : now ≡ c.conn-in_err-row-1.given.0 = search rules in
       let late : HasCleanDisk (state g.S.Store now) = search rules in
       let it = c.rows.invariant.3 (omega (arith, moved.survives.clean)) v ∣ was ∣₁ in
       let kept = rw c.in_err-row.was at (moved.kept late) in
@@ -197,8 +182,7 @@ returns-in_err-hand-clause-survives g c =
     let old = state g.S.Store c.args.conn.now in
     let moved = c.next.follows.holds-at-none in
     let now = c.next.follows.lender-at-none.conn.now in
-    let end = c.conn-in_err-hand-1.given.0 in
-    let same : now ≡ end = search rules in
+    let same : now ≡ c.conn-in_err-hand-1.given.0 = search rules in
     subst (λ (h : Held g.row.S.Denot). Survives old (state g.S.Store h) (IsQuiet old)) same (survives_then old _ (state g.S.Store now) _ _ _ (λ _ db q. q) (λ _ db none. absurd none) c.rows.invariant.1 moved.survives)
 
 pub returns-then-not-branch-clause-survives : goal.returns-then-not-branch-clause-survives
@@ -206,8 +190,7 @@ returns-then-not-branch-clause-survives g c =
     let old = state g.S.Store c.args.conn.now in
     let moved = c.next.follows.holds-at-none in
     let now = c.next.follows.lender-at-none.conn.now in
-    let end = c.conn-then-not-branch-1.given.0 in
-    let same : now ≡ end = search rules in
+    let same : now ≡ c.conn-then-not-branch-1.given.0 = search rules in
     subst (λ (h : Held g.row.S.Denot). Survives old (state g.S.Store h) (IsQuiet old)) same (survives_then old _ (state g.S.Store now) _ _ _ (λ _ db q. q) (λ _ db none. absurd none) c.rows.invariant.1 moved.survives)
 
 pub returns-in_err-rows-clause-leaves : goal.returns-in_err-rows-clause-leaves
@@ -231,8 +214,7 @@ returns-clause-leaves g c = record {
   honest = search rules;
   same = λ clean v was.
       let now = c.rows.rows.conn.now in
-      let end = c.conn-2-1.given.0 in
-      let same : now ≡ end = search rules in
+      let same : now ≡ c.conn-2-1.given.0 = search rules in
       let late : HasCleanDisk (state g.S.Store now) = search rules in
       let it = c.rows.invariant.3 late v ∣ was ∣₁ in
       subst (λ (h : Held g.row.S.Denot). Keeps (state g.S.Store h) v) same (unchanged_keeps (state g.S.Store c.args.conn.now) (state g.S.Store now) v (inl it.2) was);
@@ -255,8 +237,7 @@ pub returns-in_err-row-clause-memory : goal.returns-in_err-row-clause-memory
 returns-in_err-row-clause-memory g c well v was =
     let moved = c.next.follows.holds-at-none in
     let now = c.next.follows.lender-at-none.conn.now in
-    let end = c.conn-in_err-row-1.given.0 in
-    let same : now ≡ end = search rules in
+    let same : now ≡ c.conn-in_err-row-1.given.0 = search rules in
     let late : IsHealthy (state g.S.Store now) = subst (λ (h : Held g.row.S.Denot). IsHealthy (state g.S.Store h)) (sym same) well in
     let it = c.rows.invariant.3 (omega (arith, moved.survives.clean, late.clean)) v ∣ was ∣₁ in
     let failed = (rw c.in_err-row.was at (moved.err late.clean)) removed_text [] it.0 it.1 in
@@ -268,8 +249,7 @@ pub returns-in_err-hand-clause-memory : goal.returns-in_err-hand-clause-memory
 returns-in_err-hand-clause-memory g c well v was =
     let moved = c.next.follows.holds-at-none in
     let now = c.next.follows.lender-at-none.conn.now in
-    let end = c.conn-in_err-hand-1.given.0 in
-    let same : now ≡ end = search rules in
+    let same : now ≡ c.conn-in_err-hand-1.given.0 = search rules in
     let late : HasCleanDisk (state g.S.Store now) = subst (λ (h : Held g.row.S.Denot). HasCleanDisk (state g.S.Store h)) (sym same) well.clean in
     let it = c.rows.invariant.3 (omega (arith, moved.survives.clean)) v ∣ was ∣₁ in
     let given = (rw (c.in_ok-row.was, c.in-Some.is) at (moved.ok late)) removed_text [] it.0 it.1 in

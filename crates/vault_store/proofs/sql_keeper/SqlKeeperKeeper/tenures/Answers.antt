@@ -1,8 +1,7 @@
-use Rattle.std.proofs.Common.{◌≡◌, false, sym, ◌∙◌, refl, rules}
+use Rattle.std.proofs.Common.{sym, ◌∙◌, rules}
 use Rattle.std.proofs.Math.Logic.{∥∥₁_elim}
 use Rattle.std.specs.Coded.{Coded-set, coded_list}
 use Rattle.vault_core_model.specs.contracts.records.Tenure as tenure
-use Rattle.vault_core_model.specs.Halts.{is_device_fault}
 use Rattle.vault_store.proofs.KeptLemmas.{no_failure, read_kept}
 use Rattle.vault_store.proofs.KnownLemmas.{known_still}
 use Rattle.vault_store.proofs.sql_keeper.SqlKeeperKeeper.tenures.Goals as goal
@@ -25,18 +24,6 @@ invariant_of-self-in-Err g c = record {
 
 pub returns-in-Ok-clause-value : goal.returns-in-Ok-clause-value
 returns-in-Ok-clause-value g c clean = rw c.in_ok-check_open.ensures.read.leaves.same at (∥∥₁_elim c.check_open.new.self.kept (Coded-set (coded_list tenure.the_row.coded) _ _) (λ kept. c.in-Ok.ensures.value clean _ (kept (c.read_tenures.ensures.read.honest clean)).keeps))
-
-pub returns-in_err-check_open-clause-read : goal.returns-in_err-check_open-clause-read
-returns-in_err-check_open-clause-read g c = record {
-  leaves = search rules;
-  healthy = λ well.
-      let none : is_device_fault c.in_err-check_open.field-0.0 ≡ false = c.in_err-check_open.ensures.read.healthy well in
-      search rules;
-  refused = c.in_err-check_open.ensures.read.refused;
-}
-
-pub returns-in-Ok-clause-read : goal.returns-in-Ok-clause-read
-returns-in-Ok-clause-read g c = record { leaves = search rules; healthy = λ well. refl; refused = c.in_ok-check_open.ensures.read.refused }
 
 pub returns-in-Err-clause-read : goal.returns-in-Err-clause-read
 returns-in-Err-clause-read g c = record { leaves = search rules; healthy = λ well. no_failure g.S.Store c.check_open.new.self.conn _ _ _ _ c.check_open.new.self.kept (c.read_tenures.ensures.read.honest well.clean) (λ w keeps. c.in-Err.ensures.memory well w keeps) c.blame.ensures.reported; refused = c.in_ok-check_open.ensures.read.refused }

@@ -4,8 +4,7 @@ use Rattle.sqlite.specs.Held.{state}
 use Rattle.sqlite.proofs.StateLemmas.{survives_then}
 use Rattle.vault_core_model.specs.declared.change.Change.TheVariants as change
 use Rattle.vault_store_apply.specs.Applies.{Changes, IsChanged}
-use Rattle.vault_store_edits.proofs.TransactionLemmas.{on_err_here}
-use Rattle.vault_store_edits.proofs.TransactionLemmas.{on_err_all}
+use Rattle.vault_store_edits.proofs.TransactionLemmas.{on_err_here, on_err_all}
 use Rattle.vault_store_apply.proofs.ApplyLemmas.{on_ok_then, shut_leaves}
 use Rattle.vault_store_apply.proofs.AdmissionLemmas.{edits_admission}
 use Rattle.vault_store_apply.proofs.LimitLemmas.{admission_in_limits}

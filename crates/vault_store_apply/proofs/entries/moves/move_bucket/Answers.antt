@@ -3,12 +3,10 @@ use Rattle.sqlite.specs.State.{HasCleanDisk}
 use Rattle.sqlite.specs.Held.{state}
 use Rattle.sqlite.proofs.StateLemmas.{survives_then}
 use Rattle.vault_core_model.specs.declared.change.Change.TheVariants as change
-use Rattle.vault_core_model.specs.Vault.{Vault}
-use Rattle.vault_store_model.specs.Keeping.{Keeps}
 use Rattle.vault_store_apply.specs.Applies.{Changes, IsChanged}
 use Rattle.vault_store_edits.proofs.TransactionLemmas.{on_err_all, on_err_here}
 use Rattle.vault_store_apply.proofs.ApplyLemmas.{on_ok_then, shut_leaves}
-use Rattle.vault_store_apply.proofs.ReadLemmas.{keeps_now, read_then}
+use Rattle.vault_store_apply.proofs.ReadLemmas.{reads_then}
 use Rattle.vault_store_apply.proofs.MoveLemmas.{edits_move}
 use Rattle.vault_store_apply.proofs.entries.moves.move_bucket.Goals as goal
 
@@ -37,19 +35,18 @@ returns-clause-done g c clean =
 pub returns-clause-crash : goal.returns-clause-crash
 returns-clause-crash g c v was =
     let old = state g.S.Store c.args.conn.now in
-    let h1 = c.read_load.new.conn in
     let h2 = c.read_hands.new.conn in
     let new = state g.S.Store c.commit_part-moved.new.conn in
     let t = c.args.at in
     let it = change.MoveBucket c.args.name.now c.args.dept.now in
     let load = c.in_ok-load.load in
     let hands = c.in_ok-hands.hands in
-    let was1 = keeps_now g.S.Store h1 v (g.met.S.Store.shut_if_dirty h1.store) (λ clean. c.in_ok-load.ensures.read.same clean v was) in
-    let reads = read_then old (state g.S.Store h1) (state g.S.Store h2) c.in_ok-load.ensures.open (c.in_ok-load.ensures.read.crash v was) (c.in_ok-hands.ensures.read.crash v was1) in
+    let reads = reads_then (g.met.S.Store.shut_if_dirty c.read_load.new.conn.store) (λ clean _. c.in_ok-load.ensures.open clean) c.in_ok-load.ensures.read c.in_ok-hands.ensures.read in
     survives_then old (state g.S.Store h2) new _ _ (IsChanged old v t it) (λ _ trees shut is_open. absurd (shut is_open))
     (λ late trees stated was_open later allowed.
     let clean2 : HasCleanDisk (state g.S.Store h2) = omega (arith, late, c.commit_part-moved.ensures.crash.clean) in
     let clean1 = c.in_ok-hands.ensures.read.honest clean2 in
+    let was1 = c.in_ok-load.ensures.read.same clean1 v was in
     let was2 = c.in_ok-hands.ensures.read.same clean2 v was1 in
     stated.1 v it stated.0.0 stated.0.1 was2 later allowed
     (λ is_open.
@@ -58,7 +55,7 @@ returns-clause-crash g c v was =
     let read = c.in_ok-hands.ensures.value clean2 v was1 known in
     edits_move v t c.args.name.now c.args.dept.now hands.config hands.giver hands.taker c.without_load-handed.result c.with_load-received.result load.bytes load.weight load.number
     (was2 is_open).0.spells.kept.sound later stated.0.0 allowed read.0 read.1 read.2 load_is.0 load_is.1 load_is.2 c.without_load-handed.ensures c.with_load-received.ensures))
-    reads c.commit_part-moved.ensures.crash
+    (reads.crash v was) c.commit_part-moved.ensures.crash
 
 pub returns-clause-nothing : goal.returns-clause-nothing
 returns-clause-nothing g c clean =
@@ -73,18 +70,13 @@ returns-in_err-load-clause-crash g c v was =
 
 pub returns-in_err-hands-clause-crash : goal.returns-in_err-hands-clause-crash
 returns-in_err-hands-clause-crash g c v was =
-    let old = state g.S.Store c.args.conn.now in
-    let h1 = c.read_load.new.conn in
-    let s2 = state g.S.Store c.read_hands.new.conn in
-    let was1 = keeps_now g.S.Store h1 v (g.met.S.Store.shut_if_dirty h1.store) (λ clean. c.in_ok-load.ensures.read.same clean v was) in
-    shut_leaves old s2 v c.args.at (change.MoveBucket c.args.name.now c.args.dept.now)
-    (read_then old (state g.S.Store h1) s2 c.in_ok-load.ensures.open (c.in_ok-load.ensures.read.crash v was) (c.in_err-hands.ensures.read.crash v was1))
+    let reads = reads_then (g.met.S.Store.shut_if_dirty c.read_load.new.conn.store) (λ clean _. c.in_ok-load.ensures.open clean) c.in_ok-load.ensures.read c.in_err-hands.ensures.read in
+    shut_leaves _ _ v c.args.at (change.MoveBucket c.args.name.now c.args.dept.now) (reads.crash v was)
 
 pub returns-in_err-load-clause-nothing : goal.returns-in_err-load-clause-nothing
 returns-in_err-load-clause-nothing g c clean = on_err_here _ (c.in_err-load.ensures.read.same clean)
 
 pub returns-in_err-hands-clause-nothing : goal.returns-in_err-hands-clause-nothing
 returns-in_err-hands-clause-nothing g c clean =
-    let keeps : (v : Vault) → Keeps (state g.S.Store c.args.conn.now) v → Keeps (state g.S.Store c.read_hands.new.conn) v =
-    λ v was. c.in_err-hands.ensures.read.same clean v (c.in_ok-load.ensures.read.same (c.in_err-hands.ensures.read.honest clean) v was) in
-    on_err_here _ keeps
+    let reads = reads_then (g.met.S.Store.shut_if_dirty c.read_load.new.conn.store) (λ clean _. c.in_ok-load.ensures.open clean) c.in_ok-load.ensures.read c.in_err-hands.ensures.read in
+    on_err_here _ (reads.same clean)

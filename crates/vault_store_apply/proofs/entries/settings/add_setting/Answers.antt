@@ -6,8 +6,7 @@ use Rattle.vault_core_model.specs.declared.change.Change.TheVariants as change
 use Rattle.vault_core_model.specs.Reads.{count_of_settings}
 use Rattle.vault_store_apply.specs.EntryParts.{setting_added}
 use Rattle.vault_store_apply.specs.Applies.{Changes, IsChanged}
-use Rattle.vault_store_edits.proofs.TransactionLemmas.{on_err_here}
-use Rattle.vault_store_edits.proofs.TransactionLemmas.{on_err_all}
+use Rattle.vault_store_edits.proofs.TransactionLemmas.{on_err_here, on_err_all}
 use Rattle.vault_store_apply.proofs.ApplyLemmas.{on_ok_then, shut_leaves}
 use Rattle.vault_store_apply.proofs.LimitLemmas.{setting_in_limits}
 use Rattle.vault_store_apply.proofs.entries.settings.add_setting.Goals as goal

@@ -1,5 +1,4 @@
 use Rattle.std.proofs.Common.{◌≡◌, rules}
-use Rattle.sqlite.specs.Held.{state}
 use Rattle.vault_store_create.proofs.CopyLemmas.{made, made_then, fails_after}
 use Rattle.vault_store_edits.proofs.QueryLemmas.{survives_more}
 use Rattle.vault_store_create.proofs.copy.tables.copy_last.Goals as goal
@@ -30,10 +29,4 @@ returns-in_err-copy_table-3-clause-refused g c =
     fails_after n 8 10 (made_then (made n 8 9 did1.look.same did1.look.crash did1.survives did1.copied) (made n 9 10 did2.look.same did2.look.crash did2.survives did2.copied)) last.look.crash last.survives c.copy_table-3.result c.from_residual-in_err-copy_table-3.result same last.refused
 
 pub returns-clause-survives : goal.returns-clause-survives
-returns-clause-survives g c =
-    let t0 = state g.S.Store c.args.tx.now.conn.now in
-    let t1 = state g.S.Store c.copy_table.new.tx.conn.now in
-    let t2 = state g.S.Store c.copy_table-2.new.tx.conn.now in
-    let t3 = state g.S.Store c.copy_table-3.new.tx.conn.now in
-    let up_to2 = survives_more t0 t1 t2 c.in_ok-copy_table.ensures.survives c.in_ok-copy_table-2.ensures.survives in
-    survives_more t0 t2 t3 up_to2 c.in_ok-copy_table-3.ensures.survives
+returns-clause-survives g c = survives_more _ _ _ (survives_more _ _ _ c.in_ok-copy_table.ensures.survives c.in_ok-copy_table-2.ensures.survives) c.in_ok-copy_table-3.ensures.survives

@@ -1,5 +1,4 @@
 use Rattle.std.proofs.Common.{◌≡◌, rules}
-use Rattle.sqlite.specs.Held.{state}
 use Rattle.vault_store_create.proofs.CopyLemmas.{made, made_then, fails_after}
 use Rattle.vault_store_edits.proofs.QueryLemmas.{survives_more}
 use Rattle.vault_store_create.proofs.copy.tables.copy_second.Goals as goal
@@ -42,22 +41,10 @@ returns-in_err-copy_table-4-clause-refused g c =
 
 pub returns-clause-survives : goal.returns-clause-survives
 returns-clause-survives g c =
-    let t0 = state g.S.Store c.args.tx.now.conn.now in
-    let t1 = state g.S.Store c.copy_table.new.tx.conn.now in
-    let t2 = state g.S.Store c.copy_table-2.new.tx.conn.now in
-    let t3 = state g.S.Store c.copy_table-3.new.tx.conn.now in
-    let t4 = state g.S.Store c.copy_table-4.new.tx.conn.now in
-    let up_to2 = survives_more t0 t1 t2 c.in_ok-copy_table.ensures.survives c.in_ok-copy_table-2.ensures.survives in
-    let up_to3 = survives_more t0 t2 t3 up_to2 c.in_ok-copy_table-3.ensures.survives in
-    survives_more t0 t3 t4 up_to3 c.in_ok-copy_table-4.ensures.survives
+    let up_to3 = survives_more _ _ _ (survives_more _ _ _ c.in_ok-copy_table.ensures.survives c.in_ok-copy_table-2.ensures.survives) c.in_ok-copy_table-3.ensures.survives in
+    survives_more _ _ _ up_to3 c.in_ok-copy_table-4.ensures.survives
 
 pub returns-in_err-copy_table-4-clause-survives : goal.returns-in_err-copy_table-4-clause-survives
 returns-in_err-copy_table-4-clause-survives g c =
-    let t0 = state g.S.Store c.args.tx.now.conn.now in
-    let t1 = state g.S.Store c.copy_table.new.tx.conn.now in
-    let t2 = state g.S.Store c.copy_table-2.new.tx.conn.now in
-    let t3 = state g.S.Store c.copy_table-3.new.tx.conn.now in
-    let t4 = state g.S.Store c.copy_table-4.new.tx.conn.now in
-    let up_to2 = survives_more t0 t1 t2 c.in_ok-copy_table.ensures.survives c.in_ok-copy_table-2.ensures.survives in
-    let up_to3 = survives_more t0 t2 t3 up_to2 c.in_ok-copy_table-3.ensures.survives in
-    survives_more t0 t3 t4 up_to3 c.copy_table-4.ensures.survives
+    let up_to3 = survives_more _ _ _ (survives_more _ _ _ c.in_ok-copy_table.ensures.survives c.in_ok-copy_table-2.ensures.survives) c.in_ok-copy_table-3.ensures.survives in
+    survives_more _ _ _ up_to3 c.copy_table-4.ensures.survives

@@ -1,10 +1,5 @@
-use Rattle.vault_store_reads.proofs.OpenLemmas.{of_vault}
+use Rattle.vault_store_reads.proofs.OpenLemmas.{only_reads}
 use Rattle.vault_store_reads.proofs.rows_in_order.reads.read_ids.Goals as goal
 
 pub returns-clause-read : goal.returns-clause-read
-returns-clause-read g c = record {
-  same = c.find_ids.ensures.read.same;
-  honest = λ clean. c.find_ids.ensures.read.honest clean;
-  mode = λ alone. c.find_ids.ensures.read.mode alone;
-  crash = λ v was. of_vault _ _ c.find_ids.ensures.read.survives v was;
-}
+returns-clause-read g c = only_reads c.find_ids.ensures.read

@@ -1,25 +1,11 @@
-use Rattle.std.proofs.Common.{arith}
-use Rattle.sqlite.specs.State.{HasCleanDisk}
-use Rattle.sqlite.specs.Held.{state}
-use Rattle.vault_store_model.proofs.EditLemmas.{edits_then}
-use Rattle.vault_store_edits.proofs.TransactionLemmas.{kept_after, on_err_here}
+use Rattle.vault_store_edits.proofs.TransactionLemmas.{on_err_here}
+use Rattle.vault_store_edits.proofs.ReadyLemmas.{part_then, sound_part}
 use Rattle.vault_store_apply.proofs.parts.bucket.NewDefaultPart.make.Goals as goal
 
 pub returns-clause-edits : goal.returns-clause-edits
 returns-clause-edits g c clean inside ready =
-    let old = state g.S.Store c.args.tx.now.conn.now in
-    let mid = state g.S.Store c.set_default.new.tx.conn.now in
-    let new = state g.S.Store c.set_last.new.tx.conn.now in
-    let early : HasCleanDisk mid = omega (arith, clean, c.set_last.ensures.edit.survives.clean) in
-    let first = c.in_ok-set_default.ensures.edit.edits early inside ready.sound in
-    let sound = c.in_ok-set_default.ensures.edit.sound early inside ready.sound ready.schema in
-    (edits_then old mid new _ _ first (c.in_ok-set_last.ensures.edit.edits clean first.inside sound), c.in_ok-set_last.ensures.edit.sound clean first.inside sound (first.schema ready.schema))
+    let did = (part_then _ (sound_part _ c.in_ok-set_default.ensures.edit) (sound_part _ c.in_ok-set_last.ensures.edit)).edits clean inside ready in
+    (did.0, did.1.sound)
 
 pub returns-in_err-set_last-clause-kept : goal.returns-in_err-set_last-clause-kept
-returns-in_err-set_last-clause-kept g c clean inside ready =
-    let old = state g.S.Store c.args.tx.now.conn.now in
-    let mid = state g.S.Store c.set_default.new.tx.conn.now in
-    let new = state g.S.Store c.set_last.new.tx.conn.now in
-    let early : HasCleanDisk mid = omega (arith, clean, c.set_last.ensures.edit.survives.clean) in
-    let first = c.in_ok-set_default.ensures.edit.edits early inside ready.sound in
-    on_err_here _ (kept_after old mid new _ first (c.in_err-set_last.ensures.edit.kept clean first.inside))
+returns-in_err-set_last-clause-kept g c clean inside ready = on_err_here _ ((part_then _ (sound_part _ c.in_ok-set_default.ensures.edit) (sound_part _ c.in_err-set_last.ensures.edit)).kept clean inside ready)
