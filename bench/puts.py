@@ -17,14 +17,20 @@ def kinds(entries):
 
 
 def by_size(wanted, vaults, results, same_pages=False):
-    """Puts on new keys, and on keys that have a version, in vaults of rising size. The peer's file has the pages that
-    SQLite gives to a new one."""
+    """Puts on new keys, and on keys that have a version, in vaults of rising size, each time on new copies, so that a
+    small vault stays small. The peer's file has the pages that SQLite gives to a new one."""
     for size in wanted.sizes:
-        shape = fixture.Shape(size)
-        pair = Pair(vaults.program, vaults.of(shape), vaults.folder, same_pages=same_pages)
-        pair.measure(results, "put, new key", size, lines.put_new(shape), wanted.turns, wanted.ops)
-        pair.measure(results, "put, key with versions", size, lines.put_again(shape), wanted.turns, wanted.ops)
-        pair.end(results, "put, new key", size)
+        for _ in range(wanted.repeat):
+            once(fixture.Shape(size), wanted, vaults, results, same_pages)
+
+
+def once(shape, wanted, vaults, results, same_pages):
+    """The turns over one copy each."""
+    size = shape.entries
+    pair = Pair(vaults.program, vaults.of(shape), vaults.folder, same_pages=same_pages)
+    pair.measure(results, "put, new key", size, lines.put_new(shape), wanted.turns, wanted.ops)
+    pair.measure(results, "put, key with versions", size, lines.put_again(shape), wanted.turns, wanted.ops)
+    pair.end(results, "put, new key", size)
 
 
 def by_size_of_our_pages(wanted, vaults, results):

@@ -66,6 +66,14 @@ def median(found, who, kind):
     return statistics.median(taken) if taken else None
 
 
+def times(found, one, other, kind):
+    """How often the other's time is in the one's: the median over the turns, in each of which both did the same, one
+    right after the other. Where they are exchanged it is the reciprocal."""
+    taken = zip(found.get(one, {}).get(kind, []), found.get(other, {}).get(kind, []))
+    ratios = [it / by for it, by in taken if it and by]
+    return statistics.median(ratios) if ratios else None
+
+
 def shown(number, digits=0):
     return "-" if not number else f"{number:,.{digits}f}"
 
@@ -73,10 +81,10 @@ def shown(number, digits=0):
 def cells(found, both):
     """The cells of a row: of the program, what stands beside it, one by the other, and the memory of both."""
     numbers = [median(found, who, kind) for who in both for kind in ("wall", "processor")]
-    times = [one / other if one and other else None for one, other in zip(numbers, numbers[2:])]
+    ratios = [times(found, *both, kind) for kind in ("wall", "processor")]
     memory = [found.get(who, {}).get("memory") for who in both]
     few = 1 if any(it and it < 10 for it in numbers) else 0
-    return [shown(it, few) for it in numbers] + [shown(it, 2) for it in times] + [shown(it, 1) for it in memory]
+    return [shown(it, few) for it in numbers] + [shown(it, 2) for it in ratios] + [shown(it, 1) for it in memory]
 
 
 def measured(rows):
@@ -90,8 +98,8 @@ def measured(rows):
 
 
 def table(part, kept):
-    """The rows of a part: of the program and what stands beside it the median and the processor's time in it, how often
-    the one is in the other, and the most memory of both."""
+    """The rows of a part: of the program and what stands beside it the median by the clock and of a processor, how often
+    the other's is in the program's, and the most memory of both."""
     both = (PROGRAM, kept.get("beside", PEER))
     lines = [
         *measured(kept["rows"]),
@@ -129,24 +137,23 @@ def room(points):
 
 def times_of(rows):
     """How often the peer's time is in the program's, for each put, by the size of the vault."""
-    times = {}
+    found = {}
     for row in rows:
-        one, other = (median(row, who, "wall") for who in (PROGRAM, PEER))
-        times.setdefault(row["what"], {})[row["size"]] = one / other
-    return times
+        found.setdefault(row["what"], {})[row["size"]] = times(row, PROGRAM, PEER, "wall")
+    return found
 
 
 def aim(rows, of_our_pages):
     """How often the peer's time is in the program's, for each put by the size of the vault, where the peer's file is as
     SQLite makes it and where it has the program's pages; what is aimed at; and how many are above that."""
-    times, others = times_of(rows), times_of(of_our_pages)
-    sizes = sorted({size for found in times.values() for size in found})
+    ratios, others = times_of(rows), times_of(of_our_pages)
+    sizes = sorted({size for found in ratios.values() for size in found})
     lines = [f"{'':42}" + "".join(f"{it:>10,}" for it in sizes)]
-    for what, found in times.items():
+    for what, found in ratios.items():
         rows = ((what, found), (f"{what}, our pages", others.get(what, {})), ("aimed at, at most", AIMS[what]))
         for name, numbers in rows:
             lines.append(f"{name:42}" + "".join(f"{shown(numbers.get(it), 2):>10}" for it in sizes))
-    every = [it > AIMS[what][size] for what, found in times.items() for size, it in found.items() if size in AIMS[what]]
+    every = [it > AIMS[what][size] for what, found in ratios.items() for size, it in found.items() if size in AIMS[what]]
     lines.append(f"above what is aimed at: {sum(every)} of {len(every)}")
     return "".join(it.rstrip() + "\n" for it in lines)
 

@@ -5,6 +5,7 @@ other, so that what the machine and its disk do meanwhile troubles both alike. E
 version, whose time counts too: without it the last replies would be held back."""
 
 import itertools
+import os
 import sys
 
 import fixture
@@ -40,6 +41,8 @@ class Pair:
             if who == PEER and not same_pages:
                 fixture.with_stock_pages(path)
             self.talks[who] = talk.Talk(words(who, program, path))
+        # What was copied is on the disk before either begins.
+        os.sync()
 
     def measure(self, results, what, size, source, turns, ops, alone=False):
         """Has them, or the program alone, take that many lines of a source in each turn, and notes the times for one
