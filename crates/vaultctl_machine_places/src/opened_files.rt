@@ -1,5 +1,5 @@
 //! The files of a vault by their names, as they were when they were opened.
-ghost use Rattle.std.specs.Prelude.{◌≡◌, ◌≢◌, ◌↔◌};
+ghost use Rattle.std.specs.Prelude.{◌≡◌, ◌≢◌, ◌↔◌, IsTrue, IfOk, OnErr, false};
 ghost use Rattle.std.specs.IoError.{error_kind};
 
 use crate::watched_keeper::Watch;
@@ -24,6 +24,17 @@ fn id_at(rt: &HostRuntime, path: &str) -> io::Result<FileId> {
     })
 }
 
+/// Whether a look at a name found that file.
+fn is_same(found: io::Result<FileId>, id: FileId) -> bool
+    ensures same { IfOk found (λ it. IsTrue result ↔ (it ≡ id)) }
+    ensures gone { OnErr found (result ≡ false) }
+{
+    match found {
+        Ok(found) => found == id,
+        Err(_) => false,
+    }
+}
+
 /// A name, and the file that stood there.
 #[derive(Drop)]
 struct NamedFile {
@@ -40,10 +51,7 @@ impl NamedFile {
 
     /// Whether the same file stands there.
     fn is_in_place(&self, rt: &HostRuntime) -> bool {
-        match id_at(rt, self.path.as_str()) {
-            Ok(id) => id == self.id,
-            Err(_) => false,
-        }
+        is_same(id_at(rt, self.path.as_str()), self.id)
     }
 }
 
@@ -92,6 +100,8 @@ impl<'a> OpenedFiles<'a> {
 
 impl Watch for OpenedFiles<'_> {
     ghost saw = { λ _ _. Unit {0} };
+
+    ghost warned = { λ _. Unit {0} };
 
     fn are_in_place(&self) -> bool {
         self.file.is_in_place(self.rt) && self.log.is_in_place(self.rt)

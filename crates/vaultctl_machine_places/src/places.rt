@@ -1,10 +1,12 @@
 //! What stands at a path before its files are opened: so nothing is made or changed where no vault can be.
-ghost use Rattle.std.specs.Prelude.{◌≡◌, IfOk, IsTrue, is_some, not};
+ghost use Rattle.std.specs.Prelude.{◌≡◌, ◌≢◌, ◌↔◌, ◌==◌, Ok, Err, Some, None, IfOk, IfErr, OnOk, IsTrue, false, true, is_some, not, option_map};
+ghost use Rattle.std.specs.Fs.{IsFile, file_type, metadata_len};
+ghost use Rattle.std.specs.IoError.{error_kind};
 ghost use Rattle.std.specs.Str.{bytes_eq};
 ghost use Rattle.vaultctl_machine_places.specs.Places as spec;
 
 use crate::cause::Cause;
-use std::fs;
+use std::fs::{self, Metadata};
 use std::io::{self, ErrorKind, Read};
 
 /// How many bytes of a file are looked at.
@@ -105,24 +107,66 @@ fn are_first_bytes(bytes: &[u8]) -> bool
     bytes == b"SQLite format 3\0".as_slice()
 }
 
+/// Whether a file begins as one that holds tables, by what came of reading so many of its bytes. A shorter one doesn't.
+fn begins_as_read(read: io::Result<()>, first: &[u8]) -> io::Result<bool>
+    ensures whole { OnOk read (result ≡ Ok (bytes_eq first.now spec.first_bytes)) }
+    ensures short { IfErr read (λ e. error_kind e ≡ ErrorKind.UnexpectedEof → result ≡ Ok false) }
+    ensures fails { IfErr read (λ e. error_kind e ≢ ErrorKind.UnexpectedEof → result ≡ Err e) }
+{
+    match read {
+        Ok(()) => Ok(are_first_bytes(first)),
+        Err(error) if error.kind() == ErrorKind::UnexpectedEof => Ok(false),
+        Err(error) => Err(error),
+    }
+}
+
 /// Whether a file begins as one that holds tables. The error is that it can't be read.
 fn begins_well(rt: &HostRuntime, file: &str) -> io::Result<bool> {
     let mut opened = fs::open(rt, file)?;
     let mut first = [0u8; FIRST_BYTES];
-    match opened.read_exact(&mut first) {
-        Ok(()) => Ok(are_first_bytes(&first)),
-        Err(error) if error.kind() == ErrorKind::UnexpectedEof => Ok(false),
+    let read = opened.read_exact(&mut first);
+    begins_as_read(read, &first)
+}
+
+/// What a look at a path found, if anything is there. Any other error of the look stays one.
+fn unless_missing<T>(found: io::Result<T>) -> io::Result<Option<T>>
+    ensures there { IfOk found (λ it. result ≡ Ok (Some it)) }
+    ensures none { IfErr found (λ e. error_kind e ≡ ErrorKind.NotFound → result ≡ Ok None) }
+    ensures fails { IfErr found (λ e. error_kind e ≢ ErrorKind.NotFound → result ≡ Err e) }
+{
+    match found {
+        Ok(found) => Ok(Some(found)),
+        Err(error) if error.kind() == ErrorKind::NotFound => Ok(None),
         Err(error) => Err(error),
+    }
+}
+
+/// How many bytes are in a file, if there is one.
+fn size_of(found: &Option<Metadata>) -> Option<u64>
+    ensures { result ≡ option_map metadata_len found.now }
+{
+    match found {
+        Some(found) => Some(found.len()),
+        None => None,
     }
 }
 
 /// How many bytes are in the log beside a file, if there is one.
 fn log_size(rt: &HostRuntime, file: &str) -> io::Result<Option<u64>> {
     let log = format!(in rt.alloc(); "{file}-wal")?;
-    match fs::metadata(rt, log.as_str()) {
-        Ok(found) => Ok(Some(found.len())),
-        Err(error) if error.kind() == ErrorKind::NotFound => Ok(None),
-        Err(error) => Err(error),
+    let found = unless_missing(fs::metadata(rt, log.as_str()))?;
+    Ok(size_of(&found))
+}
+
+/// What stands at a path where no file is, beside a log of that many bytes.
+fn missing_with(log: Option<u64>) -> Place
+    ensures { result ≡ record { is_there = false; is_free = true; begins_well = false; log = log } }
+{
+    Place {
+        is_there: false,
+        is_free: true,
+        begins_well: false,
+        log,
     }
 }
 
@@ -131,38 +175,46 @@ fn missing(rt: &HostRuntime, path: &str) -> io::Result<Place>
     ensures { IfOk result spec.IsMissing }
 {
     let log = log_size(rt, path)?;
-    Ok(Place {
-        is_there: false,
-        is_free: true,
-        begins_well: false,
+    Ok(missing_with(log))
+}
+
+/// What was found, which is a file. Whoever opens what is no file may have to wait for another program.
+fn plain(found: Metadata) -> io::Result<Metadata>
+    ensures same { IfOk result (λ it. it ≡ found) }
+    ensures file { OnOk result (IsFile (file_type found)) }
+{
+    if !found.is_file() {
+        return Err(io::Error::from(ErrorKind::Unsupported));
+    }
+    Ok(found)
+}
+
+/// What stands at a path where that file is, beside a log of that many bytes.
+fn there_with(found: &Metadata, begins_well: bool, log: Option<u64>) -> Place
+    ensures { result ≡ record { is_there = true; is_free = (metadata_len found.now == 0); begins_well = begins_well; log = log } }
+{
+    Place {
+        is_there: true,
+        is_free: found.len() == 0,
+        begins_well,
         log,
-    })
+    }
 }
 
 /// What stands at a path that leads to something, by no link.
 fn there(rt: &HostRuntime, file: &str) -> io::Result<Place>
     ensures { IfOk result (λ place. IsTrue place.is_there) }
 {
-    let found = fs::metadata(rt, file)?;
-    // Whoever opens what is no file may have to wait for another program.
-    if !found.is_file() {
-        return Err(io::Error::from(ErrorKind::Unsupported));
-    }
+    let found = plain(fs::metadata(rt, file)?)?;
     let begins_well = begins_well(rt, file)?;
     let log = log_size(rt, file)?;
-    Ok(Place {
-        is_there: true,
-        is_free: found.len() == 0,
-        begins_well,
-        log,
-    })
+    Ok(there_with(&found, begins_well, log))
 }
 
 /// What stands at a path. What is no file, as a folder, is an error, and so is what can't be read.
 pub fn place_at(rt: &HostRuntime, path: &str) -> io::Result<Place> {
-    match fs::canonicalize(rt, path) {
-        Ok(file) => there(rt, file.as_str()),
-        Err(error) if error.kind() == ErrorKind::NotFound => missing(rt, path),
-        Err(error) => Err(error),
+    match unless_missing(fs::canonicalize(rt, path))? {
+        Some(file) => there(rt, file.as_str()),
+        None => missing(rt, path),
     }
 }

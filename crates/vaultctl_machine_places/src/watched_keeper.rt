@@ -22,12 +22,16 @@ pub trait Watch {
     /// What a look at them may have found: whether they are.
     ghost saw: { Self → Bool → Type 0 };
 
+    /// That it was reported that they aren't.
+    ghost warned: { Self → Type 0 };
+
     /// Whether they are.
     fn are_in_place(&self) -> bool
         ensures { saw self.now result };
 
     /// Reports that they aren't.
-    fn report(&self);
+    fn report(&self)
+        ensures { warned self.now };
 }
 
 /// A keeper that looks before each change whether the vault's files are still those that were opened. From the first
@@ -81,6 +85,8 @@ fn is_lost<W: Watch>(watch: &W, refused: u64) -> bool
     ensures later { 0 < refused → IsTrue result }
     // None is made but after a look that found the files in place.
     ensures seen { result ≡ false → W.saw watch.now true }
+    // For the first that is refused it was reported why.
+    ensures reported { refused ≡ 0 → IsTrue result → W.warned watch.now }
 {
     if refused > 0 {
         return true;
