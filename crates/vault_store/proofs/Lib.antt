@@ -1,5 +1,6 @@
 pub mod KeptLemmas
 mod KnownLemmas
+mod ReadLemmas
 mod AcknowledgedLemmas
 mod RollbackLemmas
 mod TableLemmas

@@ -1,9 +1,6 @@
 use Rattle.std.proofs.Common.{sym, ◌∙◌, rules}
-use Rattle.std.proofs.Math.Logic.{∥∥₁_elim}
-use Rattle.std.specs.Coded.{Coded-set, coded_option}
+use Rattle.vault_store.proofs.ReadLemmas.{∥∥₁_elim, Coded-set, coded_option, no_failure, read_kept, known_still}
 use Rattle.vault_core_model.specs.contracts.records.Caller as caller
-use Rattle.vault_store.proofs.KeptLemmas.{no_failure, read_kept}
-use Rattle.vault_store.proofs.KnownLemmas.{known_still}
 use Rattle.vault_store.proofs.sql_keeper.SqlKeeperKeeper.caller.Goals as goal
 
 pub invariant_of-self : goal.invariant_of-self

@@ -1,8 +1,5 @@
 use Rattle.std.proofs.Common.{sym, ◌∙◌, rules}
-use Rattle.std.proofs.Math.Logic.{∥∥₁_elim}
-use Rattle.std.specs.Coded.{Coded-set, coded_ℕ}
-use Rattle.vault_store.proofs.KeptLemmas.{no_failure, read_kept}
-use Rattle.vault_store.proofs.KnownLemmas.{known_still}
+use Rattle.vault_store.proofs.ReadLemmas.{∥∥₁_elim, Coded-set, coded_ℕ, no_failure, read_kept, known_still}
 use Rattle.vault_store.proofs.sql_keeper.SqlKeeperKeeper.moves.Goals as goal
 
 pub invariant_of-self : goal.invariant_of-self

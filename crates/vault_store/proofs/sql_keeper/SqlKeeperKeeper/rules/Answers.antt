@@ -1,9 +1,6 @@
 use Rattle.std.proofs.Common.{sym, ◌∙◌, rules}
-use Rattle.std.proofs.Math.Logic.{∥∥₁_elim}
-use Rattle.std.specs.Coded.{Coded-set, coded_list, coded_option}
+use Rattle.vault_store.proofs.ReadLemmas.{∥∥₁_elim, Coded-set, coded_list, coded_option, no_failure, read_kept, known_still}
 use Rattle.vault_rules.specs.contracts.rule.Rule as rule
-use Rattle.vault_store.proofs.KeptLemmas.{no_failure, read_kept}
-use Rattle.vault_store.proofs.KnownLemmas.{known_still}
 use Rattle.vault_store.proofs.sql_keeper.SqlKeeperKeeper.rules.Goals as goal
 
 pub invariant_of-self : goal.invariant_of-self

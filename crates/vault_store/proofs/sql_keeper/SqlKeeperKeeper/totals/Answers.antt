@@ -1,8 +1,6 @@
 use Rattle.std.proofs.Common.{sym, ◌∙◌, rules}
-use Rattle.std.proofs.Math.Logic.{∥∥₁_elim}
+use Rattle.vault_store.proofs.ReadLemmas.{∥∥₁_elim, no_failure, read_kept, known_then}
 use Rattle.vault_core_laws.proofs.SoundProp.{IsRowOf-prop}
-use Rattle.vault_store.proofs.KeptLemmas.{no_failure, read_kept}
-use Rattle.vault_store.proofs.KnownLemmas.{known_then}
 use Rattle.vault_store.proofs.sql_keeper.SqlKeeperKeeper.totals.Goals as goal
 
 pub invariant_of-self : goal.invariant_of-self
