@@ -508,6 +508,15 @@ def lost_files(server):
     os.rename(away, log)
     is_there(server, kept, "the log was removed, and copied back out of the running server")
 
+    def link():
+        os.rename(file, away)
+        os.symlink(away, file)
+
+    # Whoever opens the link finds the file where the link leads, and no log beside it.
+    kept = lose(server, link)
+    os.rename(away, file)
+    is_there(server, kept, "the file was moved, with a link to it in its place, and moved back")
+
     def replace():
         shutil.copy(file, away)
         os.rename(away, file)

@@ -26,7 +26,7 @@ fn id_at(rt: &HostRuntime, path: &str) -> io::Result<FileId> {
 
 /// Whether a look at a name found that file.
 fn is_same(found: io::Result<FileId>, id: FileId) -> bool
-    ensures same { IfOk found (λ it. IsTrue result ↔ (it ≡ id)) }
+    ensures there { IfOk found (λ it. IsTrue result ↔ (it ≡ id)) }
     ensures gone { OnErr found (result ≡ false) }
 {
     match found {

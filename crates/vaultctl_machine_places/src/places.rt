@@ -180,7 +180,7 @@ fn missing(rt: &HostRuntime, path: &str) -> io::Result<Place>
 
 /// What was found, which is a file. Whoever opens what is no file may have to wait for another program.
 fn plain(found: Metadata) -> io::Result<Metadata>
-    ensures same { IfOk result (λ it. it ≡ found) }
+    ensures kept { IfOk result (λ it. it ≡ found) }
     ensures file { OnOk result (IsFile (file_type found)) }
 {
     if !found.is_file() {
