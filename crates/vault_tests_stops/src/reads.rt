@@ -1,6 +1,6 @@
 //! How often a vault's files are read for what a keeper is asked, where one page of them has room in memory: as often
 //! with many entries as with few, for the first removed entry less often than for all, and not at all for what a put
-//! made known.
+//! made known. Nor does a change ask again for what is known: neither a put nor a move.
 use sqlite::{Alter, Connection, FileStore, Files, Options, Unknown};
 use sqlite_disk::Disk;
 use std::alloc::Global;
@@ -26,6 +26,14 @@ const OPENING: &str = r#"
 const KEY_LENGTH: usize = 900;
 
 const FEW: u64 = 6;
+
+/// The puts after the few whose reads are counted.
+const MORE: u64 = 12;
+
+/// The reads of a put of a new key in a script, among few entries: for its caller, for its key, and for what it writes to.
+/// The bucket, the sums of its department and the row of `meta` are known. To ask the tables for one of them takes a read
+/// more, or several.
+const READS_OF_PUT: u64 = 39;
 
 const MANY: u64 = 100;
 
@@ -131,6 +139,18 @@ fn reads_of_totals<K: Keeper>(
     Ok(media.reads().saturating_sub(before))
 }
 
+/// The least reads of some puts of new keys: of some the log is copied too.
+fn reads_of_put<K: Keeper>(alloc: Global, keeper: &mut K, media: &Media) -> Result<u64, Fail> {
+    let mut least = u64::MAX;
+    for number in FEW..MORE {
+        let line = put(alloc, number.saturating_add(1))?;
+        let before = media.reads();
+        replies(alloc, keeper, line.as_bytes())?;
+        least = least.min(media.reads().saturating_sub(before));
+    }
+    Ok(least)
+}
+
 /// The reads for the first five keys of a bucket.
 fn reads_of_keys<K: Keeper>(keeper: &mut K, media: &Media, names: &Names) -> Result<u64, Fail> {
     let before = media.reads();
@@ -159,7 +179,16 @@ fn is_alike(few: u64, many: u64) -> bool {
     few != 0 && many <= few.saturating_mul(3)
 }
 
-/// Fails unless the sums and the keys are read as well among many entries as among few.
+/// Fails if a put reads more than it has to.
+fn read_put<K: Keeper>(alloc: Global, keeper: &mut K, media: &Media) -> Result<(), Fail> {
+    let reads = reads_of_put(alloc, keeper, media)?;
+    if reads != 0 && reads <= READS_OF_PUT {
+        return Ok(());
+    }
+    Err(Fail::new(format_args!("{reads} reads of a put")))
+}
+
+/// Fails unless the sums and the keys are read as well among many entries as among few, and puts read little.
 fn read_among_few_and_many<K: Keeper>(
     alloc: Global,
     keeper: &mut K,
@@ -169,7 +198,8 @@ fn read_among_few_and_many<K: Keeper>(
     put_each(alloc, keeper, 0, FEW)?;
     read_nothing_known(keeper, media, names)?;
     let few = reads_among(keeper, media, names, FEW)?;
-    put_each(alloc, keeper, FEW, MANY)?;
+    read_put(alloc, keeper, media)?;
+    put_each(alloc, keeper, MORE, MANY)?;
     let many = reads_among(keeper, media, names, MANY)?;
     if is_alike(few.totals, many.totals) && is_alike(few.keys, many.keys) {
         return Ok(());
@@ -224,6 +254,47 @@ fn read_removed<K: Keeper>(alloc: Global, keeper: &mut K, media: &Media) -> Resu
     Err(Fail::new(format_args!("{first} reads for the first, {all} for all")))
 }
 
+/// The line that makes another department.
+const TAKER: &str = r#"
+{"at":"2024-01-17T00:00:00Z","as":"registrar","do":"add-dept","dept":"court"}
+  {"ok":{}}
+"#;
+
+/// The line by which it gets the bucket.
+const MOVE: &str = r#"
+{"at":"2024-01-17T00:00:00Z","as":"registrar","do":"move-bucket","bucket":"docs","dept":"court"}
+  {"ok":{"bytes":50}}
+"#;
+
+/// The reads for what the bucket holds.
+fn reads_of_held<K: Keeper>(keeper: &mut K, media: &Media, names: &Names) -> Result<u64, Fail> {
+    let before = media.reads();
+    let held = keeper.bucket_held(&names.bucket).ok().ok_or("no sums")?;
+    if held.0 != MANY - REMOVED {
+        return Err(Fail::new("other sums"));
+    }
+    Ok(media.reads().saturating_sub(before))
+}
+
+/// Fails unless a move whose bucket's sums are known leaves it at that. To change the rows takes as many reads as the sums
+/// took, so a move that asked for them again would read twice as much.
+fn read_moved<K: Keeper>(
+    alloc: Global,
+    keeper: &mut K,
+    media: &Media,
+    names: &Names,
+) -> Result<(), Fail> {
+    play(alloc, keeper, TAKER)?;
+    let held = reads_of_held(keeper, media, names)?;
+    let before = media.reads();
+    play(alloc, keeper, MOVE)?;
+    let moved = media.reads().saturating_sub(before);
+    if held != 0 && moved <= held.saturating_add(held / 2) {
+        return Ok(());
+    }
+    Err(Fail::new(format_args!("{held} reads of what is held, {moved} of a move")))
+}
+
 fn judge<K: Keeper>(
     alloc: Global,
     keeper: &mut K,
@@ -232,7 +303,8 @@ fn judge<K: Keeper>(
 ) -> Result<(), Fail> {
     play(alloc, keeper, OPENING)?;
     read_among_few_and_many(alloc, keeper, media, names)?;
-    read_removed(alloc, keeper, media)
+    read_removed(alloc, keeper, media)?;
+    read_moved(alloc, keeper, media, names)
 }
 
 /// Opens the files with room for one page of them.

@@ -1,13 +1,16 @@
 //! What a report reads, and what is read of one key, takes as many steps in a large vault as in a small one, and of a key with
-//! many removed versions as of a fresh one. So do a few ids of a key with many held ones. What a bucket holds is summed by one
-//! statement, whose steps grow with the tenures of its versions.
+//! many removed versions as of a fresh one. So do a few ids of a key with many held ones, and a few keys after one before which
+//! there are many. What a bucket holds is summed by one statement, whose steps grow with the tenures of its versions. Neither
+//! this nor the statement that gives them tenures takes a step for the entries of another bucket.
 use sqlite::{Alter, Connection, Error, params};
 use std::alloc::Global;
 use std::process::Abort;
 use std::test::Fail;
+use vault_base::moment::Moment;
 use vault_base::name::{BucketName, DeptName, KeyPrefix, ObjectKey, VersionId};
 use vault_base::refusal::Refusal;
 use vault_store::create::fill;
+use vault_store_edits::tenures::put_tenures;
 use vault_store_reads::heads::read_head;
 use vault_store_reads::meta::read_last;
 use vault_store_reads::names::{has_department, read_totals};
@@ -15,13 +18,14 @@ use vault_store_reads::rows_in_order::reads::{read_entries, read_ids, read_keys,
 use vault_store_walks::held::read_bucket_held;
 use vault_tests_tables_stores::disks::{let_go, opened_empty};
 
-/// A department, its bucket, a key of it, and where the bucket's keys begin.
+/// A department, its bucket, a key of it, where the bucket's keys begin, and a place between them.
 #[derive(Drop)]
 struct Names {
     dept: DeptName,
     bucket: BucketName,
     key: ObjectKey,
     start: KeyPrefix,
+    later: KeyPrefix,
 }
 
 /// What is read for a command.
@@ -33,6 +37,8 @@ enum Reading {
     /// The newest held entry besides another one, which a removal asks for.
     Newest,
     Keys,
+    /// Keys after a place between them.
+    LaterKeys,
     /// All ids of the key, and those older than one that is newer than all.
     Ids,
     OlderIds,
@@ -102,8 +108,13 @@ fn reads_newest<S: Alter>(conn: &mut Connection<S>, names: &Names) -> bool {
     read_newest_but(conn, &names.bucket, &names.key, another).is_ok_and(|found| found.is_some())
 }
 
-fn reads_keys<S: Alter>(conn: &mut Connection<S>, alloc: Global, names: &Names) -> bool {
-    read_keys(conn, alloc, &names.bucket, &names.start, 5).is_ok_and(|found| found.len() == 5)
+fn reads_keys<S: Alter>(
+    conn: &mut Connection<S>,
+    alloc: Global,
+    names: &Names,
+    after: &KeyPrefix,
+) -> bool {
+    read_keys(conn, alloc, &names.bucket, after, 5).is_ok_and(|found| found.len() == 5)
 }
 
 /// Whether `found` ids of the key are read that are older than one: each is, where that has the number 0.
@@ -134,7 +145,8 @@ fn can<S: Alter>(conn: &mut Connection<S>, alloc: Global, names: &Names, reading
         Reading::Head => reads_head(conn, names),
         Reading::Entries => reads_entries(conn, alloc, names),
         Reading::Newest => reads_newest(conn, names),
-        Reading::Keys => reads_keys(conn, alloc, names),
+        Reading::Keys => reads_keys(conn, alloc, names, &names.start),
+        Reading::LaterKeys => reads_keys(conn, alloc, names, &names.later),
         Reading::Ids => reads_ids(conn, alloc, names, 0, 2, 1),
         Reading::OlderIds => reads_ids(conn, alloc, names, GREATEST, 2, 1),
         Reading::OfMany(than) => reads_ids(conn, alloc, names, than, 3, 3),
@@ -193,17 +205,19 @@ fn read_names(alloc: Global) -> Result<Names, Fail> {
         bucket: bucket_name(alloc, "docs")?,
         key: object_key(alloc, "k7")?,
         start: key_prefix(alloc, "")?,
+        later: key_prefix(alloc, "k4")?,
     })
 }
 
 /// The steps that are enough for each reading.
-fn enough_for_each<S: Alter>(conn: &mut Connection<S>, alloc: Global, names: &Names) -> [u64; 7] {
+fn enough_for_each<S: Alter>(conn: &mut Connection<S>, alloc: Global, names: &Names) -> [u64; 8] {
     [
         enough_steps(conn, alloc, names, Reading::Report),
         enough_steps(conn, alloc, names, Reading::Head),
         enough_steps(conn, alloc, names, Reading::Entries),
         enough_steps(conn, alloc, names, Reading::Newest),
         enough_steps(conn, alloc, names, Reading::Keys),
+        enough_steps(conn, alloc, names, Reading::LaterKeys),
         enough_steps(conn, alloc, names, Reading::Ids),
         enough_steps(conn, alloc, names, Reading::OlderIds),
     ]
@@ -348,6 +362,32 @@ fn sums_within<S: Alter>(conn: &mut Connection<S>, names: &Names, steps: u64, da
     read.is_ok_and(|held| held.0 == MANY && MANY.checked_mul(day) == Some(held.1))
 }
 
+/// As many entries of another bucket as there are. Each of these, and each removed version, gets a tenure.
+const OF_ANOTHER: &str =
+    "INSERT INTO buckets VALUES ('maps', 'records', 0, NULL, NULL); INSERT INTO entries SELECT id + 20480, 'maps', key, marker, size, digest, admitted, by_rule, admitted_by, removed, cause, cause_by FROM entries; INSERT INTO tenures SELECT id, 0, 'records', 1600000000 FROM entries WHERE id > 10240";
+
+/// Gives each version that the bucket holds a tenure, and takes it back.
+fn gives<S: Alter>(conn: &mut Connection<S>, names: &Names) -> bool {
+    let Some(at) = Moment::from_secs(1_800_000_000) else {
+        return false;
+    };
+    if !conn.is_autocommit() {
+        return false;
+    }
+    let mut tx = conn.transaction();
+    let given = put_tenures(&mut tx, &names.bucket, 2, &names.dept, at);
+    tx.rollback();
+    given.is_ok()
+}
+
+/// Whether `steps` are enough to give the versions of the grown bucket a tenure each.
+fn gives_within<S: Alter>(conn: &mut Connection<S>, names: &Names, steps: u64) -> bool {
+    limit(conn, Some(steps));
+    let given = gives(conn, names);
+    limit(conn, None);
+    given
+}
+
 #[test]
 fn what_a_bucket_holds_is_summed_by_one_statement(rt: HostRuntime) -> Result<(), Fail> {
     let mut conn = opened_empty(rt.alloc())?;
@@ -369,7 +409,8 @@ fn summed_in_one_pass<S: Alter>(
 }
 
 /// Five steps a version are in one statement: a limit of four isn't enough, as it would be if each version were asked for by
-/// itself. A tenure more takes four, and a removed version one.
+/// itself. A tenure more takes four, a removed version one, and the entry of another bucket none. To give tenures takes four
+/// steps a version where as many were removed: those of another bucket would take three more.
 fn judge_sums<S: Alter>(
     rt: &impl Abort,
     conn: &mut Connection<S>,
@@ -382,6 +423,9 @@ fn judge_sums<S: Alter>(
     batch(conn, LATER_TENURES)?;
     assert!(rt; sums_within(conn, names, 9 * MANY + 10, 19_675));
     batch(conn, REMOVED_VERSIONS)?;
+    batch(conn, OF_ANOTHER)?;
     assert!(rt; sums_within(conn, names, 10 * MANY + 10, 19_675));
+    assert!(rt; !gives_within(conn, names, MANY));
+    assert!(rt; gives_within(conn, names, 5 * MANY));
     Ok(())
 }
