@@ -36,7 +36,7 @@ ReportsPast last row = (e : Entry) × (row ≡ entry_row e) × IsPast last e
 past_too : (db : Database) (last : ℕ) (es : List Entry) → ArePast db last → AreEntries db es → AllByRecursion (IsPast last) es
 past_too db last es past are =
     let xs = past.0 in
-    let stated = all-map (ReportsPast last) entry_row xs (each (IsEntryBy last) (λ e. ReportsPast last (entry_row e)) (λ e its. (e, refl, its.1)) xs past.2) in
+    let stated = all-map (ReportsPast last) entry_row xs (all_as {P = IsEntryBy last} {Q = λ e. ReportsPast last (entry_row e)} (λ e its. (e, refl, its.1)) xs past.2) in
     let rows = all-permutation (ReportsPast last) _ _ (IsPermutation-trans _ _ _ past.1 (IsPermutation-sym _ _ are.0)) stated in
     all_as (λ (e : Entry) (its : ReportsPast last (entry_row e)). subst (IsPast last) (sym (same_entry e its.0 its.1)) its.2) es (all_from_map (ReportsPast last) entry_row es rows)
 
