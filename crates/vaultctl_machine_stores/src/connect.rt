@@ -30,6 +30,20 @@ const NO_MEMORY: Error = Error::SqliteFailure(ErrorCode::OutOfMemory);
 
 const CANNOT_OPEN: Error = Error::SqliteFailure(ErrorCode::CannotOpen);
 
+/// What it is reported as that files can't be opened or made.
+fn unpaired(error: OpenError) -> Error
+    ensures memory { error ≡ OpenError.OutOfMemory → result ≡ Error.SqliteFailure ErrorCode.OutOfMemory }
+    ensures busy { error ≡ OpenError.Busy → result ≡ Error.SqliteFailure ErrorCode.DatabaseBusy }
+    ensures journal { error ≡ OpenError.HotJournal → result ≡ Error.SqliteFailure ErrorCode.CannotOpen }
+{
+    match error {
+        OpenError::OutOfMemory => NO_MEMORY,
+        OpenError::Busy => Error::SqliteFailure(ErrorCode::DatabaseBusy),
+        OpenError::HotJournal => CANNOT_OPEN,
+        OpenError::Io(error) => untouched(error),
+    }
+}
+
 /// The files at a path, where those that are missing are made. No name that stands for something else is a path, as in
 /// `Connection::open_from`.
 fn open_pair<S: Start>(rt: &HostRuntime, path: &str, start: S) -> Result<Files<FileFrom<S>>, Error>
@@ -42,10 +56,7 @@ fn open_pair<S: Start>(rt: &HostRuntime, path: &str, start: S) -> Result<Files<F
     }
     match sqlite_std_file::open(rt, path, start) {
         Ok(files) => Ok(files),
-        Err(OpenError::OutOfMemory) => Err(NO_MEMORY),
-        Err(OpenError::Busy) => Err(Error::SqliteFailure(ErrorCode::DatabaseBusy)),
-        Err(OpenError::Io(error)) if error.kind() == ErrorKind::OutOfMemory => Err(NO_MEMORY),
-        Err(_) => Err(CANNOT_OPEN),
+        Err(error) => Err(unpaired(error)),
     }
 }
 
