@@ -178,6 +178,7 @@ class Reads(Case):
         shutil.copy(made(), self.file)
         put_far(self.file, "contents", "length(bytes) > 9999", SLOTS - 2)
         self.server.start()
+        self.addCleanup(self.server.serving.stderr.close)
         self.addCleanup(self.server.end)
         counts = {it["do"]: self.look_at(it) for it in ASKED}
         self.assertGreater(min(counts.values()), 2, f"the reads of each line: {counts}")
