@@ -6,7 +6,7 @@ import shutil
 import signal
 import subprocess
 import unittest
-from typing import Callable, Iterable, Iterator
+from typing import Any, Callable, Iterable, Iterator
 
 from trials.program import Ran, check, ran
 
@@ -26,15 +26,21 @@ def can_trace() -> bool:
 needs_strace = unittest.skipUnless(can_trace(), "there is no strace that may trace")
 
 
-def injected(folder: pathlib.Path, files: Iterable[str], what: dict[str, str], *words: str) -> tuple[Ran, bool]:
-    """What the program does in a folder where something happens to calls of these names, on those files there and their
-    logs, or on any where none is named; and whether there was such a call."""
+def strace_words(folder: pathlib.Path, files: Iterable[str], what: dict[str, str]) -> list[str]:
+    """Words in front of the program, by which something happens to its calls of these names, on those files there and
+    their logs, or on any where none is named; the file `trace` there says to which."""
     at = [it for file in files for end in ("", "-wal") for it in ("-P", f"{folder}/{file}{end}")]
-    doing = [it for call, how in what.items() for it in ("-e", f"inject={call}:{how}")]
-    trace = folder / "trace"
-    front = ["strace", "-qq", "-o", trace, *at, "-e", f"trace={','.join(what)}", *doing]
-    done = ran(*words, front=front, cwd=folder)
-    return done, "(INJECTED)" in trace.read_text()
+    doing = [it for call, how in what.items() if how for it in ("-e", f"inject={call}:{how}")]
+    return ["strace", "-qq", "-o", f"{folder}/trace", *at, "-e", f"trace={','.join(what)}", *doing]
+
+
+def injected(
+    folder: pathlib.Path, files: Iterable[str], what: dict[str, str], *words: str, **how: Any
+) -> tuple[Ran, bool]:
+    """What the program does in a folder where something happens to calls, as `strace_words` has it; and whether there
+    was such a call."""
+    done = ran(*words, front=strace_words(folder, files, what), cwd=folder, **how)
+    return done, "(INJECTED)" in (folder / "trace").read_text()
 
 
 def kills(folder: pathlib.Path, file: str, clear: Callable[[], None], *words: str) -> Iterator[str]:

@@ -14,7 +14,7 @@ import subprocess
 import threading
 import time
 from collections.abc import Callable
-from typing import Any
+from typing import Any, Iterable
 
 from trials.program import PROGRAM, Case, a_test_each, carry_out, check, make_office, printed
 from trials.servers import HOST, free_port, read_all
@@ -54,10 +54,10 @@ class Server:
         self.folder, self.file, self.port = folder, str(folder / "records.vault"), free_port()
         self.where = where or str(folder / "lines")
 
-    def start(self, *words: str) -> None:
-        """Starts the server, and reads what it says once it listens."""
+    def start(self, *words: str, front: Iterable[str] = ()) -> None:
+        """Starts the server, with words before the program's, and reads what it says once it listens."""
         self.serving = subprocess.Popen(
-            [PROGRAM, "serve", self.file, str(self.port), "--lines", self.where, *words],
+            [*front, PROGRAM, "serve", self.file, str(self.port), "--lines", self.where, *words],
             stderr=subprocess.PIPE, text=True)
         assert self.serving.stderr is not None
         self.said = self.serving.stderr.readline()
