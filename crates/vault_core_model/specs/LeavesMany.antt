@@ -25,7 +25,7 @@ pub record IsLeftByAll {E : Type 0} (old new : Standing) (result : Result (Vec R
 abbrev pub LeavesNoLess : {K : Type 0} → Ghosts K → K → K → Type 0
 LeavesNoLess g old new = IsLeftNoLess (standing g old) (standing g new)
 
--- what calls leave that report so that the device failed
+-- what calls leave that report a failed device as Steady says
 abbrev pub LeavesSteady : {K : Type 0} → Ghosts K → K → K → Type 0 → Type 0
 LeavesSteady g old new Steady = IsLeftSteady (standing g old) (standing g new) Steady
 

@@ -107,7 +107,7 @@ fn are_first_bytes(bytes: &[u8]) -> bool
     bytes == b"SQLite format 3\0".as_slice()
 }
 
-/// Whether a file begins as one that holds tables, by what came of reading so many of its bytes. A shorter one doesn't.
+/// Whether a file begins as one that holds tables, by what the read of its first bytes returned. A shorter file doesn't.
 fn begins_as_read(read: io::Result<()>, first: &[u8]) -> io::Result<bool>
     ensures whole { OnOk read (result ≡ Ok (bytes_eq first.now spec.first_bytes)) }
     ensures short { IfErr read (λ e. error_kind e ≡ ErrorKind.UnexpectedEof → result ≡ Ok false) }
@@ -158,7 +158,7 @@ fn log_size(rt: &HostRuntime, file: &str) -> io::Result<Option<u64>> {
     Ok(size_of(&found))
 }
 
-/// What stands at a path where no file is, beside a log of that many bytes.
+/// What is at a path where no file is, beside a log of that many bytes.
 fn missing_with(log: Option<u64>) -> Place
     ensures { result ≡ record { is_there = false; is_free = true; begins_well = false; log = log } }
 {
@@ -189,7 +189,7 @@ fn plain(found: Metadata) -> io::Result<Metadata>
     Ok(found)
 }
 
-/// What stands at a path where that file is, beside a log of that many bytes.
+/// What is at a path where that file is, beside a log of that many bytes.
 fn there_with(found: &Metadata, begins_well: bool, log: Option<u64>) -> Place
     ensures { result ≡ record { is_there = true; is_free = (metadata_len found.now == 0); begins_well = begins_well; log = log } }
 {
@@ -201,7 +201,7 @@ fn there_with(found: &Metadata, begins_well: bool, log: Option<u64>) -> Place
     }
 }
 
-/// What stands at a path that leads to something, by no link.
+/// What is at a path that leads to something, by no link.
 fn there(rt: &HostRuntime, file: &str) -> io::Result<Place>
     ensures { IfOk result (λ place. IsTrue place.is_there) }
 {
