@@ -17,14 +17,9 @@ use Rattle.vault_core_model.specs.Plan.{with_ids, is_mark, after_steps, counts}
 use Rattle.vault_core_model.specs.declared.reply.Answer.TheVariants as answer
 use Rattle.vault_core_model.specs.declared.reply.Stop.TheVariants.{Memory, Device, VaultFull}
 use Rattle.vault_core_model.specs.declared.reply.Reply.TheVariants.{Done, Refused, Stopped}
-use Rattle.vault_core_model.specs.RecordOutcomes as records
-use Rattle.vault_core_model.specs.EntryOutcomes as entries
-use Rattle.vault_core_model.specs.LockOutcomes as locks
-use Rattle.vault_core_model.specs.ListingOutcome.{list_versions, certificate}
-use Rattle.vault_core_model.specs.IntakeOutcome.{intake}
-use Rattle.vault_core_model.specs.RunOutcome.{planned_run, AnswersRun}
-use Rattle.vault_core_model.specs.Step.{IsStep, IsRun, Answers}
-use Rattle.vault_core_examples.specs.Outcome.{Outcome, CanBeGiven, IsOutcome, reports_fault, settled, run_made, run_settled, outcome, vault_after, replies_to}
+use Rattle.vault_core_model.specs.RunOutcome.{AnswersRun}
+use Rattle.vault_core_model.specs.Step.{IsStep, IsRun, Answers, CanBeGiven, Follows, GivenAnd, Judgement, AtOnce, ByPlan, judged}
+use Rattle.vault_core_examples.specs.Outcome.{Outcome, IsOutcome, reports_fault, settled, run_made, run_settled, outcome_judged, outcome, vault_after, replies_to}
 
 Answers-settled : (v : Vault) (judged : Result (Answer × Vault) Refusal) → Answers judged v (settled v judged).reply (settled v judged).vault
 Answers-settled v (Ok done) = refl
@@ -61,32 +56,17 @@ AnswersRun-settled : (v : Vault) (bucket : List ℕ) (t : ℕ) (judged : Result 
 AnswersRun-settled v bucket t (Ok plan) = run_cases v bucket t plan (nat_lt (length (with_ids (length v.histories) plan)) (length plan)) refl
 AnswersRun-settled v bucket t (Err r) = (refl, refl)
 
+Follows-outcome : (j : Judgement) (v : Vault) (t : ℕ) → Follows j v t (outcome_judged j v t).reply (outcome_judged j v t).vault
+Follows-outcome (AtOnce done) v t = Answers-settled v done
+Follows-outcome (ByPlan bucket plan) v t = AnswersRun-settled v bucket t plan
+
+given-and : (c : Command) (holds : Type 0) → CanBeGiven c → holds → GivenAnd c holds
+given-and (command.SetRules c) holds given h = (given, h)
+given-and _ holds given h = h
+
 -- the outcome of each command is one of its steps
 pub IsStep-outcome : (v : Vault) (t : ℕ) (who : List ℕ) (c : Command) → CanBeGiven c → IsStep v t who c (outcome v t who c).reply (outcome v t who c).vault
-IsStep-outcome v t who (command.AddDept c) given = Answers-settled v (records.add_dept v t who c)
-IsStep-outcome v t who (command.AddCaller c) given = Answers-settled v (records.add_caller v t who c)
-IsStep-outcome v t who (command.CloseCaller c) given = Answers-settled v (records.close_caller v t who c)
-IsStep-outcome v t who (command.AddBucket c) given = Answers-settled v (records.add_bucket v t who c)
-IsStep-outcome v t who (command.MoveBucket c) given = Answers-settled v (records.move_bucket v t who c)
-IsStep-outcome v t who (command.SetDefault c) given = Answers-settled v (records.set_default v t who c)
-IsStep-outcome v t who (command.GetDefault c) given = Answers-settled v (records.get_default v t who c)
-IsStep-outcome v t who (command.SetRules c) given = (given, Answers-settled v (records.set_rules v t who c))
-IsStep-outcome v t who (command.GetRules c) given = Answers-settled v (records.get_rules v t who c)
-IsStep-outcome v t who (command.DropRules c) given = Answers-settled v (records.drop_rules v t who c)
-IsStep-outcome v t who (command.Put c) given = Answers-settled v (entries.put v t who c)
-IsStep-outcome v t who (command.Get c) given = Answers-settled v (entries.get v t who c)
-IsStep-outcome v t who (command.Head c) given = Answers-settled v (entries.head v t who c)
-IsStep-outcome v t who (command.ListVersions c) given = Answers-settled v (list_versions v t who c)
-IsStep-outcome v t who (command.Delete c) given = Answers-settled v (entries.delete v t who c)
-IsStep-outcome v t who (command.DeleteVersion c) given = Answers-settled v (entries.delete_version v t who c)
-IsStep-outcome v t who (command.SetRetention c) given = Answers-settled v (locks.set_retention v t who c)
-IsStep-outcome v t who (command.GetRetention c) given = Answers-settled v (locks.get_retention v t who c)
-IsStep-outcome v t who (command.SetHold c) given = Answers-settled v (locks.set_hold v t who c)
-IsStep-outcome v t who (command.GetHold c) given = Answers-settled v (locks.get_hold v t who c)
-IsStep-outcome v t who (command.Run c) given = AnswersRun-settled v c.bucket t (planned_run v t who c)
-IsStep-outcome v t who (command.Report c) given = Answers-settled v (records.report v t who c)
-IsStep-outcome v t who (command.Certificate c) given = Answers-settled v (certificate v t who c)
-IsStep-outcome v t who (command.Intake c) given = Answers-settled v (intake v t who c)
+IsStep-outcome v t who c given = given-and c _ given (Follows-outcome (judged v t who c) v t)
 
 -- the replies and the vault of the function are a run
 pub IsRun-outcome : (v : Vault) (cs : List Timed) → AllByRecursion (λ c. CanBeGiven c.command) cs → IsRun v cs (replies_to v cs) (vault_after v cs)
@@ -124,29 +104,14 @@ AnswersRun-is_outcome judged v bucket t (Stopped n VaultFull) v' clear (plan, e,
       m ∙ ap (λ k. after_steps v bucket t (take k plan)) many ∙ ap (after_steps v bucket t) (take-with_ids (length v.histories) plan) ∙ sym (ap (λ o. o.vault) is),
     )
 
+Follows-is_outcome : (j : Judgement) (v : Vault) (t : ℕ) (r : Reply) (v' : Vault) → reports_fault r ≡ false → Follows j v t r v' → IsOutcome (outcome_judged j v t) r v'
+Follows-is_outcome (AtOnce done) v t r v' clear h = Answers-is_outcome done v r v' clear h
+Follows-is_outcome (ByPlan bucket plan) v t r v' clear h = AnswersRun-is_outcome plan v bucket t r v' clear h
+
+given-holds : (c : Command) (holds : Type 0) → GivenAnd c holds → holds
+given-holds (command.SetRules c) holds h = h.1
+given-holds _ holds h = h
+
 -- a step that reports no fault is the outcome
 pub IsStep-is_outcome : (v : Vault) (t : ℕ) (who : List ℕ) (c : Command) (r : Reply) (v' : Vault) → reports_fault r ≡ false → IsStep v t who c r v' → IsOutcome (outcome v t who c) r v'
-IsStep-is_outcome v t who (command.AddDept c) r v' clear h = Answers-is_outcome (records.add_dept v t who c) v r v' clear h
-IsStep-is_outcome v t who (command.AddCaller c) r v' clear h = Answers-is_outcome (records.add_caller v t who c) v r v' clear h
-IsStep-is_outcome v t who (command.CloseCaller c) r v' clear h = Answers-is_outcome (records.close_caller v t who c) v r v' clear h
-IsStep-is_outcome v t who (command.AddBucket c) r v' clear h = Answers-is_outcome (records.add_bucket v t who c) v r v' clear h
-IsStep-is_outcome v t who (command.MoveBucket c) r v' clear h = Answers-is_outcome (records.move_bucket v t who c) v r v' clear h
-IsStep-is_outcome v t who (command.SetDefault c) r v' clear h = Answers-is_outcome (records.set_default v t who c) v r v' clear h
-IsStep-is_outcome v t who (command.GetDefault c) r v' clear h = Answers-is_outcome (records.get_default v t who c) v r v' clear h
-IsStep-is_outcome v t who (command.SetRules c) r v' clear h = Answers-is_outcome (records.set_rules v t who c) v r v' clear h.1
-IsStep-is_outcome v t who (command.GetRules c) r v' clear h = Answers-is_outcome (records.get_rules v t who c) v r v' clear h
-IsStep-is_outcome v t who (command.DropRules c) r v' clear h = Answers-is_outcome (records.drop_rules v t who c) v r v' clear h
-IsStep-is_outcome v t who (command.Put c) r v' clear h = Answers-is_outcome (entries.put v t who c) v r v' clear h
-IsStep-is_outcome v t who (command.Get c) r v' clear h = Answers-is_outcome (entries.get v t who c) v r v' clear h
-IsStep-is_outcome v t who (command.Head c) r v' clear h = Answers-is_outcome (entries.head v t who c) v r v' clear h
-IsStep-is_outcome v t who (command.ListVersions c) r v' clear h = Answers-is_outcome (list_versions v t who c) v r v' clear h
-IsStep-is_outcome v t who (command.Delete c) r v' clear h = Answers-is_outcome (entries.delete v t who c) v r v' clear h
-IsStep-is_outcome v t who (command.DeleteVersion c) r v' clear h = Answers-is_outcome (entries.delete_version v t who c) v r v' clear h
-IsStep-is_outcome v t who (command.SetRetention c) r v' clear h = Answers-is_outcome (locks.set_retention v t who c) v r v' clear h
-IsStep-is_outcome v t who (command.GetRetention c) r v' clear h = Answers-is_outcome (locks.get_retention v t who c) v r v' clear h
-IsStep-is_outcome v t who (command.SetHold c) r v' clear h = Answers-is_outcome (locks.set_hold v t who c) v r v' clear h
-IsStep-is_outcome v t who (command.GetHold c) r v' clear h = Answers-is_outcome (locks.get_hold v t who c) v r v' clear h
-IsStep-is_outcome v t who (command.Run c) r v' clear h = AnswersRun-is_outcome (planned_run v t who c) v c.bucket t r v' clear h
-IsStep-is_outcome v t who (command.Report c) r v' clear h = Answers-is_outcome (records.report v t who c) v r v' clear h
-IsStep-is_outcome v t who (command.Certificate c) r v' clear h = Answers-is_outcome (certificate v t who c) v r v' clear h
-IsStep-is_outcome v t who (command.Intake c) r v' clear h = Answers-is_outcome (intake v t who c) v r v' clear h
+IsStep-is_outcome v t who c r v' clear h = Follows-is_outcome (judged v t who c) v t r v' clear (given-holds c _ h)

@@ -7,9 +7,9 @@ ghost use Rattle.std.specs.List.{AllByRecursion};
 ghost use Rattle.vault_core_model.specs.declared.command.Command.{Command};
 ghost use Rattle.vault_core_model.specs.declared.command.Timed.{Timed};
 ghost use Rattle.vault_core_model.specs.declared.reply.Reply.{Reply};
-ghost use Rattle.vault_core_model.specs.Step.{IsRun, IsStep};
+ghost use Rattle.vault_core_model.specs.Step.{CanBeGiven, IsRun, IsStep};
 ghost use Rattle.vault_core_model.specs.Vault.{Vault};
-ghost use Rattle.vault_core_examples.specs.Outcome.{CanBeGiven, IsOutcome, outcome, replies_to, reports_fault, vault_after};
+ghost use Rattle.vault_core_examples.specs.Outcome.{IsOutcome, outcome, replies_to, reports_fault, vault_after};
 
 /// Every command has its reply, and every list of commands its replies.
 pub fn every_command_is_answered()

@@ -2,6 +2,7 @@
 use Rattle.std.specs.Prelude.{◌≡◌, ℕ, List, [], ◌∷◌, Bool, true, false, IsTrue, ◌⊎◌, Result, Ok, Err}
 use Rattle.vault_base.specs.declared.refusal.Refusal.{Refusal}
 use Rattle.vault_base.specs.declared.refusal.Refusal.TheVariants.{Memory, Device}
+use Rattle.vault_rules.specs.KeyPlan.{Planned}
 use Rattle.vault_rules.specs.Rules.{is_rule_set}
 use Rattle.vault_core_model.specs.declared.command.Command.{Command}
 use Rattle.vault_core_model.specs.declared.command.Command.TheVariants as command
@@ -29,32 +30,56 @@ Answers judged v (Done a) v' = judged ≡ Ok (a, v')
 Answers judged v (Refused r) v' = (v' ≡ v) × (IsTrue (is_fault r) ⊎ (judged ≡ Err r))
 Answers judged v (Stopped n s) v' = ⊥
 
+-- What is judged of a command: its answer and the vault after it, or the plan of a lifecycle run over a bucket; or the refusal.
+pub data Judgement : Type 0 where
+  AtOnce : Result (Answer × Vault) Refusal → Judgement
+  ByPlan : List ℕ → Result (List Planned) Refusal → Judgement
+
+-- what is judged of the command that this caller gives at t
+abbrev pub judged : Vault → ℕ → List ℕ → Command → Judgement
+judged v t who (command.AddDept c) = AtOnce (records.add_dept v t who c)
+judged v t who (command.AddCaller c) = AtOnce (records.add_caller v t who c)
+judged v t who (command.CloseCaller c) = AtOnce (records.close_caller v t who c)
+judged v t who (command.AddBucket c) = AtOnce (records.add_bucket v t who c)
+judged v t who (command.MoveBucket c) = AtOnce (records.move_bucket v t who c)
+judged v t who (command.SetDefault c) = AtOnce (records.set_default v t who c)
+judged v t who (command.GetDefault c) = AtOnce (records.get_default v t who c)
+judged v t who (command.SetRules c) = AtOnce (records.set_rules v t who c)
+judged v t who (command.GetRules c) = AtOnce (records.get_rules v t who c)
+judged v t who (command.DropRules c) = AtOnce (records.drop_rules v t who c)
+judged v t who (command.Put c) = AtOnce (entries.put v t who c)
+judged v t who (command.Get c) = AtOnce (entries.get v t who c)
+judged v t who (command.Head c) = AtOnce (entries.head v t who c)
+judged v t who (command.ListVersions c) = AtOnce (list_versions v t who c)
+judged v t who (command.Delete c) = AtOnce (entries.delete v t who c)
+judged v t who (command.DeleteVersion c) = AtOnce (entries.delete_version v t who c)
+judged v t who (command.SetRetention c) = AtOnce (locks.set_retention v t who c)
+judged v t who (command.GetRetention c) = AtOnce (locks.get_retention v t who c)
+judged v t who (command.SetHold c) = AtOnce (locks.set_hold v t who c)
+judged v t who (command.GetHold c) = AtOnce (locks.get_hold v t who c)
+judged v t who (command.Run c) = ByPlan c.bucket (planned_run v t who c)
+judged v t who (command.Report c) = AtOnce (records.report v t who c)
+judged v t who (command.Certificate c) = AtOnce (certificate v t who c)
+judged v t who (command.Intake c) = AtOnce (intake v t who c)
+
+-- a command that is judged so, at t, may be answered by this reply and leave v'
+abbrev pub Follows : Judgement → Vault → ℕ → Reply → Vault → Type 0
+Follows (AtOnce done) v t reply v' = Answers done v reply v'
+Follows (ByPlan bucket plan) v t reply v' = AnswersRun plan v bucket t reply v'
+
+-- a command that can be given: rules that are no rule set can't
+abbrev pub CanBeGiven : Command → Type 0
+CanBeGiven (command.SetRules c) = IsTrue (is_rule_set c.rules)
+CanBeGiven _ = Unit {0}
+
+-- the command can be given, where that is in question, and the statement holds
+abbrev pub GivenAnd : Command → Type 0 → Type 0
+GivenAnd (command.SetRules c) holds = CanBeGiven (command.SetRules c) × holds
+GivenAnd _ holds = holds
+
 -- from v, the command given at t may be answered so and leave v'; what is no rule set can't be asked for
 abbrev pub IsStep : Vault → ℕ → List ℕ → Command → Reply → Vault → Type 0
-IsStep v t who (command.AddDept c) reply v' = Answers (records.add_dept v t who c) v reply v'
-IsStep v t who (command.AddCaller c) reply v' = Answers (records.add_caller v t who c) v reply v'
-IsStep v t who (command.CloseCaller c) reply v' = Answers (records.close_caller v t who c) v reply v'
-IsStep v t who (command.AddBucket c) reply v' = Answers (records.add_bucket v t who c) v reply v'
-IsStep v t who (command.MoveBucket c) reply v' = Answers (records.move_bucket v t who c) v reply v'
-IsStep v t who (command.SetDefault c) reply v' = Answers (records.set_default v t who c) v reply v'
-IsStep v t who (command.GetDefault c) reply v' = Answers (records.get_default v t who c) v reply v'
-IsStep v t who (command.SetRules c) reply v' = IsTrue (is_rule_set c.rules) × Answers (records.set_rules v t who c) v reply v'
-IsStep v t who (command.GetRules c) reply v' = Answers (records.get_rules v t who c) v reply v'
-IsStep v t who (command.DropRules c) reply v' = Answers (records.drop_rules v t who c) v reply v'
-IsStep v t who (command.Put c) reply v' = Answers (entries.put v t who c) v reply v'
-IsStep v t who (command.Get c) reply v' = Answers (entries.get v t who c) v reply v'
-IsStep v t who (command.Head c) reply v' = Answers (entries.head v t who c) v reply v'
-IsStep v t who (command.ListVersions c) reply v' = Answers (list_versions v t who c) v reply v'
-IsStep v t who (command.Delete c) reply v' = Answers (entries.delete v t who c) v reply v'
-IsStep v t who (command.DeleteVersion c) reply v' = Answers (entries.delete_version v t who c) v reply v'
-IsStep v t who (command.SetRetention c) reply v' = Answers (locks.set_retention v t who c) v reply v'
-IsStep v t who (command.GetRetention c) reply v' = Answers (locks.get_retention v t who c) v reply v'
-IsStep v t who (command.SetHold c) reply v' = Answers (locks.set_hold v t who c) v reply v'
-IsStep v t who (command.GetHold c) reply v' = Answers (locks.get_hold v t who c) v reply v'
-IsStep v t who (command.Run c) reply v' = AnswersRun (planned_run v t who c) v c.bucket t reply v'
-IsStep v t who (command.Report c) reply v' = Answers (records.report v t who c) v reply v'
-IsStep v t who (command.Certificate c) reply v' = Answers (certificate v t who c) v reply v'
-IsStep v t who (command.Intake c) reply v' = Answers (intake v t who c) v reply v'
+IsStep v t who c reply v' = GivenAnd c (Follows (judged v t who c) v t reply v')
 
 -- these replies to these commands, one step after another
 abbrev pub IsRun : Vault → List Timed → List Reply → Vault → Type 0
