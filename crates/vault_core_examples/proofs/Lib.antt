@@ -10,12 +10,14 @@ mod GovernanceIsBypassed
 mod HoldsHold
 mod IntakeNotes
 mod KeysByTheirBytes
+mod LawsRefuseBreaches
 mod ListingsAndClosedCallers
 mod LoneMarkers
 mod Machine
 mod MarkAndRemoval
 mod MarkersOverLockedVersions
 mod NewerNoncurrentVersions
+mod RemovalsArePermitted
 mod RetentionsAreKept
 mod SizeBounds
 mod StoppedRuns

@@ -6,7 +6,7 @@ use Rattle.vault_core_model.specs.declared.command.Timed.{Timed}
 use Rattle.vault_core_model.specs.declared.records.History.{History}
 use Rattle.vault_core_model.specs.declared.records.Setting.{Setting}
 use Rattle.vault_core_model.specs.Vault.{Vault}
-use Rattle.vault_core_worm_laws.specs.Worm.{Worm}
+use Rattle.vault_core_worm_laws.specs.Worm.{IsLowered, Worm}
 use Rattle.vault_core_examples.specs.Outcome.{vault_after}
 use Rattle.vault_core_examples.specs.Script.{by, ann, gov, start, governance, put, delete_version, set_retention}
 
@@ -20,13 +20,28 @@ shortened-script =
 abbrev shortened : Vault
 shortened = vault_after start shortened-script
 
--- the second setting is gov's, by bypass
-shortened_by : map (λ (h : History). map (λ (s : Setting). s.by) h.settings) shortened.histories ≡ (ann ∷ gov ∷ []) ∷ []
+-- the version's settings: ann's, with the put, and gov's, by bypass
+abbrev first_setting : Setting
+first_setting = record { at = 1705314600; by = ann; lock = record { retention = governance 1893456000; hold = false }; bypass = false }
+
+abbrev lowering_setting : Setting
+lowering_setting = record { at = 1705363200; by = gov; lock = record { retention = governance 1735689600; hold = false }; bypass = true }
+
+shortened_by : map (λ (h : History). h.settings) shortened.histories ≡ (first_setting ∷ lowering_setting ∷ []) ∷ []
 shortened_by = refl
 
--- the first retention was kept by that setting alone, the second to its end
+-- what the law says of the first retention names gov's setting
+lowered_by_gov : IsLowered shortened (lowering_setting ∷ [])
+lowered_by_gov = inl (refl, refl)
+
+-- it was kept but for that setting, the second one to its end
 shortened_is_kept : Worm shortened
-shortened_is_kept = (((inr (inr (inl (refl, refl))), (inl (omega arith), tt)), refl), tt)
+shortened_is_kept = (((inr (inr lowered_by_gov), (inl (omega arith), tt)), refl), tt)
+
+-- the law can't hold of this vault for another reason: the removal came before the first end, and wasn't by bypass
+lowered_by_gov_alone : Worm shortened → IsLowered shortened (lowering_setting ∷ [])
+lowered_by_gov_alone kept =
+    elim (kept.0.0.0) [ inl there ↦ absurd (omega (arith, there)) | inr lifted ↦ elim lifted [ inl bypassed ↦ absurd bypassed | inr lowered ↦ lowered ] ]
 
 -- two versions until 2030-01-01: gov removes the first by bypass, long before, and the second at its end
 abbrev bypassed-script : List Timed
