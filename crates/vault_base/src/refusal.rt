@@ -1,7 +1,4 @@
 //! Why a command is refused: 24 refusals, each with its number, its name and its HTTP status.
-ghost use Rattle.std.specs.Prelude.{◌≡◌, ◌++◌, codes};
-ghost use Rattle.vault_base.specs.Right.{right_name};
-
 use crate::right::Right;
 
 /// Why access is denied.
@@ -32,30 +29,11 @@ impl Reason {
         match self {
             Reason::UnknownCaller => "unknown-caller",
             Reason::Department => "department",
-            Reason::Right(right) => missing_right(right),
+            Reason::Right(right) => right.reason_name(),
             Reason::LegalHold => "legal-hold",
             Reason::RetentionCompliance => "retention-compliance",
             Reason::RetentionGovernance => "retention-governance",
         }
-    }
-}
-
-fn missing_right(right: Right) -> &'static str
-    ensures { result.now ≡ codes "right:" ++ right_name right }
-{
-    match right {
-        Right::Admin => "right:admin",
-        Right::Config => "right:config",
-        Right::Put => "right:put",
-        Right::Retain => "right:retain",
-        Right::Hold => "right:hold",
-        Right::Get => "right:get",
-        Right::List => "right:list",
-        Right::Delete => "right:delete",
-        Right::DeleteVersion => "right:delete-version",
-        Right::Run => "right:run",
-        Right::Report => "right:report",
-        Right::Bypass => "right:bypass",
     }
 }
 

@@ -1,4 +1,8 @@
 //! What a caller may do.
+ghost use Rattle.std.specs.Prelude.{◌≡◌, find};
+ghost use Rattle.std.specs.Option.{option_copied};
+ghost use Rattle.std.specs.Str.{bytes_eq};
+ghost use Rattle.vault_base.specs.Right.{right_name};
 
 /// What a caller may do.
 #[derive(Clone, Copy, Debug, PartialEq, Eq)]
@@ -30,47 +34,62 @@ pub enum Right {
 }
 
 impl Right {
-    ghost use Rattle.std.specs.Prelude.{◌≡◌};
+    ghost use Rattle.std.specs.Prelude.{◌≡◌, ◌++◌, codes};
     ghost use Rattle.vault_base.specs.Right.{right_name, right_of};
+
+    /// Every right, in the order in which a line names them.
+    pub const ALL: [Right; 12] = [
+        Right::Admin,
+        Right::Config,
+        Right::Put,
+        Right::Retain,
+        Right::Hold,
+        Right::Get,
+        Right::List,
+        Right::Delete,
+        Right::DeleteVersion,
+        Right::Run,
+        Right::Report,
+        Right::Bypass,
+    ];
+
+    /// `right:` and its name, as `right:delete-version`: why access is denied to a caller without it.
+    pub(crate) fn reason_name(self) -> &'static str
+        ensures { result.now ≡ codes "right:" ++ right_name self }
+    {
+        match self {
+            Right::Admin => "right:admin",
+            Right::Config => "right:config",
+            Right::Put => "right:put",
+            Right::Retain => "right:retain",
+            Right::Hold => "right:hold",
+            Right::Get => "right:get",
+            Right::List => "right:list",
+            Right::Delete => "right:delete",
+            Right::DeleteVersion => "right:delete-version",
+            Right::Run => "right:run",
+            Right::Report => "right:report",
+            Right::Bypass => "right:bypass",
+        }
+    }
 
     /// Its name, as `delete-version`.
     pub fn name(self) -> &'static str
         ensures { result.now ≡ right_name self }
     {
-        match self {
-            Right::Admin => "admin",
-            Right::Config => "config",
-            Right::Put => "put",
-            Right::Retain => "retain",
-            Right::Hold => "hold",
-            Right::Get => "get",
-            Right::List => "list",
-            Right::Delete => "delete",
-            Right::DeleteVersion => "delete-version",
-            Right::Run => "run",
-            Right::Report => "report",
-            Right::Bypass => "bypass",
-        }
+        &self.reason_name()["right:".len()..]
     }
 
     /// The right of that name.
     pub fn read(text: &str) -> Option<Right>
         ensures { result ≡ right_of text.now }
     {
-        match text {
-            "admin" => Some(Right::Admin),
-            "config" => Some(Right::Config),
-            "put" => Some(Right::Put),
-            "retain" => Some(Right::Retain),
-            "hold" => Some(Right::Hold),
-            "get" => Some(Right::Get),
-            "list" => Some(Right::List),
-            "delete" => Some(Right::Delete),
-            "delete-version" => Some(Right::DeleteVersion),
-            "run" => Some(Right::Run),
-            "report" => Some(Right::Report),
-            "bypass" => Some(Right::Bypass),
-            _ => None,
-        }
+        named(&Right::ALL, text).copied()
     }
+}
+
+fn named<'a>(rights: &'a [Right], name: &str) -> Option<&'a Right>
+    ensures { option_copied result ≡ find (λ right. bytes_eq name.now (right_name right)) rights.now }
+{
+    rights.iter().find(|right| name == right.name())
 }

@@ -1,5 +1,5 @@
 -- What any number of calls leaves of what keeps a vault.
-use Rattle.std.specs.Prelude.{◌≡◌, ◌≤◌, ℕ, Result, IfOk}
+use Rattle.std.specs.Prelude.{◌≡◌, ◌≤◌, Result, IfOk}
 use Rattle.std.specs.Global.{Vec}
 use Rattle.vault_core_model.specs.declared.kept.Kept.{Ghosts}
 use Rattle.vault_core_model.specs.declared.reply.Reply.{Reply}

@@ -1,5 +1,6 @@
 -- The rights of a caller.
-use Rattle.std.specs.Prelude.{Bool, true, false}
+use Rattle.std.specs.Prelude.{ℕ, ◌+◌, ◌*◌, ◌/◌, ◌%◌, ◌==◌, if◌then◌else◌, Bool, true, false, List, [], ◌∷◌, map}
+use Rattle.vault_base.specs.Right.{rights}
 use Rattle.vault_base.specs.declared.right.Right.{Right}
 use Rattle.vault_base.specs.declared.right.Right.TheVariants as right
 use Rattle.vault_core_model.specs.declared.rights.Rights.{Rights}
@@ -37,3 +38,20 @@ has r right.DeleteVersion = r.delete_version
 has r right.Run = r.run
 has r right.Report = r.report
 has r right.Bypass = r.bypass
+
+-- the number of these binary digits, the lowest first
+abbrev pub digits_number : List Bool → ℕ
+digits_number [] = 0
+digits_number (false ∷ digits) = 2 * digits_number digits
+digits_number (true ∷ digits) = 1 + 2 * digits_number digits
+
+-- a digit for each right, the first of all rights being the lowest
+abbrev pub rights_number : Rights → ℕ
+rights_number r = digits_number (map (has r) rights)
+
+-- those of these rights whose digit is set in the number
+abbrev pub with_digits : List Right → ℕ → Rights
+with_digits [] n = no_rights
+with_digits (right ∷ later) n =
+    let others = with_digits later (n / 2) in
+    if n % 2 == 1 then with_right right others else others

@@ -1,6 +1,7 @@
 //! What a caller may do.
-ghost use Rattle.std.specs.Prelude.{◌≡◌};
-ghost use Rattle.vault_core_model.specs.Rights.{no_rights, with_right, has};
+ghost use Rattle.std.specs.Prelude.{◌≡◌, ◌≢◌, ◌≤◌, ◌<◌, ◌^◌, length, map, MatchOption};
+ghost use Rattle.vault_core_model.specs.Rights.{no_rights, with_right, has, digits_number, with_digits, rights_number};
+ghost use Rattle.vault_core_model.specs.declared.rights.Rights.{Rights};
 
 use vault_base::right::Right;
 
@@ -81,6 +82,57 @@ impl Rights {
             Right::Run => self.run,
             Right::Report => self.report,
             Right::Bypass => self.bypass,
+        }
+    }
+
+    /// Their number: a binary digit for each right, the first of `Right::ALL` being the lowest.
+    pub fn number(self) -> u32
+        ensures { result ≡ rights_number self }
+    {
+        digits_number(self, &Right::ALL)
+    }
+
+    /// The rights of that number. No rights have a number with more digits than there are rights.
+    #[tactic(auto, using(crate::proofs::RightLemmas::of_number, crate::proofs::RightLemmas::is_below))]
+    pub fn of_number(number: u32) -> Option<Rights>
+        ensures { MatchOption result ((r : Rights) → rights_number r ≢ number) (λ r. rights_number r ≡ number) }
+    {
+        if number >= NUMBERS {
+            return None;
+        }
+        Some(with_digits(&Right::ALL, number))
+    }
+}
+
+/// The least number with more digits than there are rights.
+const NUMBERS: u32 = 1 << Right::ALL.len();
+
+/// The number of which each digit says whether one of these rights is held.
+#[tactic(auto, using(crate::proofs::RightLemmas::fits))]
+fn digits_number(held: Rights, rights: &[Right]) -> u32
+    requires { length rights.now ≤ 32 }
+    ensures value { result ≡ digits_number (map (has held) rights.now) }
+    ensures most { result < 2 ^ length rights.now }
+{
+    match rights {
+        [] => 0,
+        [right, rest @ ..] => u32::from(held.has(*right)) + 2 * digits_number(held, rest),
+    }
+}
+
+/// Those of these rights whose digit is set in the number.
+fn with_digits(rights: &[Right], number: u32) -> Rights
+    ensures { result ≡ with_digits rights.now number }
+{
+    match rights {
+        [] => Rights::none(),
+        [right, rest @ ..] => {
+            let others = with_digits(rest, number / 2);
+            if number % 2 == 1 {
+                others.with(*right)
+            } else {
+                others
+            }
         }
     }
 }
