@@ -14,7 +14,7 @@ use crate::first_pass::meta::check_meta;
 use crate::second_pass::look_again;
 use sqlite::{Alter, Connection, Error};
 use std::alloc::Global;
-use vault_audit_laws::ties::check_ties;
+use vault_audit_laws::connection::references_hold;
 use vault_audit_model::faults::refusal_of;
 use vault_audit_model::schema::Edition;
 use vault_audit_schema::check_schema;
@@ -46,7 +46,7 @@ fn find_damage<S: Alter>(
     if let Some(table) = look_again(alloc, conn, edition, meta)? {
         return Ok(Some(table));
     }
-    check_ties(conn, edition);
+    references_hold(conn, edition);
     Ok(None)
 }
 

@@ -1,9 +1,9 @@
 //! Laws of a vault's tables: their rows spell at most one vault, and what a row names is there. Each is the
-//! contract of a public function that does nothing, but for `ties::check_ties`, which asks a connection.
+//! contract of a public function that does nothing, but for those of `connection`, which hand on what it promises.
 #![tactic(auto)]
 
+pub mod connection;
 pub mod parts;
-pub mod ties;
 
 ghost use Rattle.std.specs.Prelude.{◌≡◌, ℕ, List, map, IsSome, IsTrue, IsPermutation};
 ghost use Rattle.std.specs.List.{AllByRecursion};

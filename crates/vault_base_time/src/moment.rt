@@ -4,6 +4,7 @@
 //! let until = Moment::read("2030-01-01T00:00:00Z")?;
 //! let later = until.plus_years(7);   // Some: 2037-01-01T00:00:00Z
 //! ```
+pub mod laws;
 mod reading;
 mod writing;
 

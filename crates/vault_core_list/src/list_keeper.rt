@@ -8,6 +8,7 @@ use std::alloc::{AllocError, Global};
 use std::marker::Model;
 use vault_base::content::Content;
 use vault_base::moment::Moment;
+use vault_base::moment::laws::moment_is_in_range;
 use vault_base::name::{
     BatchName, BucketName, CallerName, DeptName, KeyPrefix, ObjectKey, VersionId,
 };
@@ -225,8 +226,8 @@ impl Keeper for ListKeeper {
         ensures value { result ≡ Ok (bucket_bytes self.old bucket.now, bucket_weight self.old bucket.now) }
         ensures same { self.new ≡ self.old }
     {
-        // Only the proof reads this: no day is past that of the last moment, so the weight fits.
-        let _seconds = self.lists.last.secs();
+        // So no day is past that of the last moment, and the weight fits.
+        moment_is_in_range(self.lists.last);
         Ok(bucket::held(&self.lists.histories, bucket))
     }
 
@@ -234,9 +235,8 @@ impl Keeper for ListKeeper {
         ensures value { IsOkAnd result (λ row. IsRowFor self.old dept.now row) }
         ensures same { self.new ≡ self.old }
     {
-        // Only the proof reads this: it gives that the last moment is within the range of moments. No day is
-        // past that of the last moment, and no department is past its quota: so the sums fit.
-        let _seconds = self.lists.last.secs();
+        // So no day is past that of the last moment; and no department is past its quota: the sums fit.
+        moment_is_in_range(self.lists.last);
         Ok(sums::row(&self.lists.histories, dept))
     }
 

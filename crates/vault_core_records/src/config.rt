@@ -5,6 +5,7 @@ ghost use Rattle.vault_core_model.specs.Leaves.{Leaves};
 ghost use Rattle.vault_core_model.specs.Halts.{AnswersAs, is_device};
 ghost use Rattle.vault_core_model.specs.RecordOutcomes as outcome;
 
+use crate::laws::rules_are_a_rule_set;
 use vault_base::moment::Moment;
 use vault_base::name::CallerName;
 use vault_base::refusal::Refusal;
@@ -61,8 +62,7 @@ pub fn set_rules<K: Keeper>(
     ensures rule_set { IsTrue (is_rule_set command.now.rules) }
     ensures leaves { Leaves K.Kept keeper.old keeper.new (is_device result) }
 {
-    // What the type promises of its rules, the change needs.
-    let _rules = command.rules.as_slice();
+    rules_are_a_rule_set(&command.rules);
     drop(find_access(keeper, at, who, &command.bucket, Right::Config)?);
     let change = Change::SetRules(command.bucket.clone()?, Some(command.rules.clone()?));
     make_change(keeper, at, change)?;

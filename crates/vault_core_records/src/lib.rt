@@ -8,5 +8,6 @@
 #![tactic(auto)]
 
 pub mod config;
+mod laws;
 pub mod moves;
 pub mod records;

@@ -7,6 +7,7 @@ ghost use Rattle.vault_http_commands.specs.Lines.{HasNoLf, SpellsTimed};
 ghost use Rattle.vault_http_commands.specs.Members as spec;
 ghost use Rattle.vault_http_commands.specs.Spelled.{IsSpelled, IsTimedSpelled};
 
+use crate::laws::text_is_utf8;
 use crate::members::{of_bucket, of_entry, of_key};
 use crate::object::{Plain, put_plain};
 use crate::{config_members, entry_members, lock_members, record_members};
@@ -98,6 +99,6 @@ pub fn command_line(
 {
     let value = line_value(alloc, at, who, command)?;
     let text = value.to_string(alloc)?;
-    let _text = text.as_str();
+    text_is_utf8(&text);
     Ok(text)
 }

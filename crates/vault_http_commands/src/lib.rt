@@ -6,6 +6,7 @@
 pub mod command_line;
 mod config_members;
 mod entry_members;
+mod laws;
 mod lock_members;
 mod members;
 mod object;

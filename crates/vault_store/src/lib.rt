@@ -5,6 +5,7 @@
 mod blame;
 mod find;
 pub mod in_tables;
+mod laws;
 mod look;
 mod migrate;
 pub mod opening;

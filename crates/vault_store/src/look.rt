@@ -1,7 +1,7 @@
 //! A look at the tables of a connection that is to be opened, or whose vault is to be copied.
 ghost use Rattle.std.specs.Prelude.{◌≡◌, ◌≢◌, false, IsTrue, IfErr, OnOk, OnErr};
 ghost use Rattle.sqlite.specs.Held.{state};
-ghost use Rattle.sqlite.specs.State.{HasCleanDisk, IsLive, IsUnchanged, Survives};
+ghost use Rattle.sqlite.specs.State.{HasCleanDisk, IsUnchanged, Survives};
 ghost use Rattle.vault_base.specs.declared.refusal.Table.{Table};
 ghost use Rattle.vault_core_model.specs.Vault.{Vault};
 ghost use Rattle.vault_audit.specs.Whole.{IsReported};
@@ -10,20 +10,12 @@ ghost use Rattle.vault_audit.specs.Health.{IsHealthy};
 ghost use Rattle.vault_store_apply.specs.Left.{LeavesAlone};
 ghost use Rattle.vault_store.specs.Tables.{IsAtRest, HasTablesOf};
 
+use crate::laws::connection_is_at_rest;
 use sqlite::{Alter, Connection};
 use std::alloc::Global;
 use vault_audit::audit;
 use vault_audit_model::schema::{Edition, NEWEST};
 use vault_base::refusal::Refusal;
-
-/// Reads no row: the tables obey their schema, and outside a transaction all is committed.
-pub(crate) fn note_rest<S: Alter>(conn: &Connection<S>)
-    ensures rest { conn.now.in_transaction ≡ false → IsAtRest (state S.Store conn.now) }
-    ensures live { IsLive (state S.Store conn.now) }
-{
-    let _schema = conn.schema();
-    let _settled = conn.is_autocommit();
-}
 
 /// Ends the transaction that is open, if there is one.
 pub(crate) fn end_transaction<S: Alter>(conn: &mut Connection<S>)
@@ -58,20 +50,20 @@ pub(crate) fn look_as<S: Alter>(
     ensures tables { OnErr result (HasCleanDisk (state S.Store conn.new) → HasTablesOf (state S.Store conn.old) (state S.Store conn.new)) }
     ensures crash { Survives (state S.Store conn.old) (state S.Store conn.new) (λ _. ⊥) }
 {
-    note_rest(conn);
+    connection_is_at_rest(conn);
     match audit(alloc, conn, edition) {
         Ok(()) => {}
         Err(refusal) => {
             // No clause of the audit says that it leaves none.
             end_transaction(conn);
-            note_rest(conn);
+            connection_is_at_rest(conn);
             return Err(refusal);
         }
     }
     if !conn.is_autocommit() {
         return Err(Refusal::Device);
     }
-    note_rest(conn);
+    connection_is_at_rest(conn);
     Ok(())
 }
 

@@ -17,11 +17,13 @@ ghost use Rattle.vault_store.specs.Migrated.{IsMigrated, RefusesItsRow};
 ghost use Rattle.vault_store.specs.Tables.{HasTablesOf, IsAtRest, IsUndone};
 ghost use Rattle.vault_store.specs.VaultOf.{vault_of};
 
-use crate::look::{end_transaction, look_as, note_rest};
+use crate::laws::connection_is_at_rest;
+use crate::look::{end_transaction, look_as};
 use crate::sql_keeper::SqlKeeper;
 use sqlite::{Alter, Connection, Error};
 use std::alloc::Global;
 use vault_audit::audit;
+use vault_audit_laws::connection::tables_obey_their_schema;
 use vault_audit_model::faults::refusal_of;
 use vault_audit_model::schema::{Edition, NEWEST};
 use vault_base::refusal::Refusal;
@@ -35,7 +37,7 @@ fn settle<S: Alter>(conn: &mut Connection<S>)
     ensures crash { Survives (state S.Store conn.old) (state S.Store conn.new) (λ _. ⊥) }
 {
     end_transaction(conn);
-    note_rest(conn);
+    connection_is_at_rest(conn);
 }
 
 /// Copies the vault of a file of that edition into an empty store, inside a transaction that is left open.
@@ -182,27 +184,27 @@ fn copy_vault<O: Alter, S: Alter>(
     ensures old_tables { HasCleanDisk (state O.Store old.new) → HasTablesOf (state O.Store old.old) (state O.Store old.new) }
     ensures old_crash { Survives (state O.Store old.old) (state O.Store old.new) (λ _. ⊥) }
 {
-    note_rest(new);
+    connection_is_at_rest(new);
     match take_copy(alloc, old, edition, new) {
         Ok(()) => {}
         Err(refusal) => {
-            note_rest(new);
+            connection_is_at_rest(new);
             return Err(refusal);
         }
     }
     match look_at_copy(alloc, new) {
         Ok(()) => {}
         Err(refusal) => {
-            note_rest(new);
+            connection_is_at_rest(new);
             return Err(refusal);
         }
     }
-    note_rest(new);
+    tables_obey_their_schema(new);
     match commit(new) {
         Ok(()) => {}
         Err(refusal) => return Err(refusal),
     }
-    note_rest(new);
+    connection_is_at_rest(new);
     Ok(())
 }
 

@@ -14,6 +14,7 @@ pub mod entries;
 pub mod entry_parameters;
 pub mod heads;
 pub mod intake;
+mod laws;
 pub mod meta;
 pub mod parameters;
 mod put;

@@ -3,14 +3,16 @@ ghost use Rattle.std.specs.Prelude.{◌≡◌, false, IsTrue, OnOk, OnErr};
 ghost use Rattle.sqlite_trees.specs.Tree.{Trees};
 ghost use Rattle.sqlite.specs.Effect.{IsDatabase};
 ghost use Rattle.sqlite.specs.Held.{state};
-ghost use Rattle.sqlite.specs.State.{HasCleanDisk, IsLive, IsUnchanged, KeepsCommit, Survives};
+ghost use Rattle.sqlite.specs.State.{HasCleanDisk, IsLive, KeepsCommit, Survives};
 ghost use Rattle.vault_audit_model.specs.Tables.{vault_schema};
 ghost use Rattle.vault_store_model.specs.Edits.{Edits};
 ghost use Rattle.vault_store_edits.specs.Commits.{CommitsEdit, KeepsIfErr, MayCommitPart};
 ghost use Rattle.vault_store_edits.specs.Ready.{IsReady};
 ghost use Rattle.vault_store_edits.specs.Inside.{CommitsNoPart};
 
+use crate::laws::connection_is_open;
 use sqlite::{Alter, Connection, Error, Transaction};
+use vault_audit_laws::connection::tables_obey_their_schema;
 
 /// What is done inside a transaction.
 pub trait Part<S: Alter> {
@@ -31,17 +33,6 @@ pub trait Part<S: Alter> {
         ensures survives { Survives (state S.Store tx.old.conn.now) (state S.Store tx.new.conn.now) (λ _. ⊥) };
 }
 
-/// Refuses a connection that a failure has shut; else nothing is changed.
-fn check_open<S: Alter>(tx: &mut Transaction<'_, S>) -> Result<(), Error>
-    ensures same_reference { tx.new.conn.ghost_name ≡ tx.old.conn.ghost_name }
-    ensures open { HasCleanDisk (state S.Store tx.new.conn.now) → OnOk result (IsUnchanged (state S.Store tx.old.conn.now) (state S.Store tx.new.conn.now)) }
-    ensures kept { HasCleanDisk (state S.Store tx.new.conn.now) → OnErr result (KeepsCommit (state S.Store tx.old.conn.now) (state S.Store tx.new.conn.now)) }
-    ensures survives { Survives (state S.Store tx.old.conn.now) (state S.Store tx.new.conn.now) (λ _. ⊥) }
-{
-    let _statement = tx.prepare("SELECT last FROM meta")?;
-    Ok(())
-}
-
 /// Makes the part where the connection is open.
 fn make_open<S: Alter, P: Part<S>>(tx: &mut Transaction<'_, S>, part: &P) -> Result<(), Error>
     ensures same_reference { tx.new.conn.ghost_name ≡ tx.old.conn.ghost_name }
@@ -52,7 +43,7 @@ fn make_open<S: Alter, P: Part<S>>(tx: &mut Transaction<'_, S>, part: &P) -> Res
         → OnErr result ((IsTrue (state S.Store tx.old.conn.now).is_open → (state S.Store tx.old.conn.now).now.schema ≡ vault_schema) → KeepsCommit (state S.Store tx.old.conn.now) (state S.Store tx.new.conn.now)) }
     ensures survives { Survives (state S.Store tx.old.conn.now) (state S.Store tx.new.conn.now) (λ _. ⊥) }
 {
-    check_open(tx)?;
+    connection_is_open(tx)?;
     part.make(tx)
 }
 
@@ -70,8 +61,7 @@ pub fn transact<S: Alter, P: Part<S>>(conn: &mut Connection<S>, part: &P) -> Res
     // where all has been written.
     ensures crash { Survives (state S.Store conn.old) (state S.Store conn.new) (MayCommitPart (P.limits part.now) (state S.Store conn.old) (P.edit part.now)) }
 {
-    // Its clause says that the tables of an open connection obey their schema.
-    let _schema = conn.schema();
+    tables_obey_their_schema(conn);
     let mut tx = conn.transaction();
     make_open(&mut tx, part)?;
     tx.commit()

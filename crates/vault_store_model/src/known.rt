@@ -16,6 +16,7 @@ ghost use Rattle.vault_store_model.specs.Known.{AreKnown};
 use std::alloc::AllocError;
 use vault_audit_model::rows::{BucketRow, DepartmentRow, MetaRow};
 use vault_base::moment::Moment;
+use vault_base::moment::laws::moment_is_in_range;
 use vault_base::name::{BucketName, DeptName};
 use vault_core_model::change::{Admission, Change};
 use vault_core_model::records::{BucketConfig, Tenure};
@@ -262,8 +263,7 @@ impl Known {
     fn admit(&mut self, at: Moment, admission: &Admission)
         ensures { (v : Vault) → Sound v → v.last ≤ at → IsAdmission v at admission.now → AreKnown self.old v → AreKnown self.new (changed v at (change.Admit admission.now)) }
     {
-        // Its clause says that a moment is no later than the last one.
-        let _secs = at.secs();
+        moment_is_in_range(at);
         self.meta = next_meta(self.meta, at);
         self.load = None;
         let Some(tenure) = admission.history.tenures.as_slice().first() else {

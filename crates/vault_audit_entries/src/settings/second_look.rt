@@ -11,7 +11,7 @@ ghost use Rattle.vault_audit_walk.specs.Health.{IsHealthy, IsMemory, IsOfEdition
 use crate::settings::placed::are_placed;
 use crate::settings::present::have_settings;
 use sqlite::{Alter, Connection, Error};
-use vault_audit_laws::ties::check_ties;
+use vault_audit_laws::connection::references_hold;
 use vault_audit_model::schema::Edition;
 
 /// Whether each version has settings at the places 1, 2, 3 .., at least one and as many as it may
@@ -36,7 +36,7 @@ pub fn check_history_of_settings<S: Alter>(
     if !present {
         return Ok(false);
     }
-    // That each setting is of an entry, the store has seen to.
-    check_ties(conn, edition);
+    // So each setting is of an entry.
+    references_hold(conn, edition);
     Ok(true)
 }

@@ -91,4 +91,4 @@ returns-clause-reported g c clean =
     let meta = subst (λ (db : Database). IsMetaOf n db (Some m)) (sym (last ∙ middle)) (rw c.in-Some.is at (c.in_ok-meta.ensures.reported early)) in
     let all = subst (λ (db : Database). ReportedInOrder n db None) (sym last) (rw right at (c.in_ok-table.ensures.reported later)) in
     let found = rw sound at (c.in_ok-table-2.ensures.reported clean) in
-    sound_vault n (state g.S.Store c.look_again.new.conn).now m all.0 (c.check_ties.ensures same.is_open all.0) meta ((all.1 Entries).1 m meta) found
+    sound_vault n (state g.S.Store c.look_again.new.conn).now m all.0 (c.references_hold.ensures same.is_open all.0) meta ((all.1 Entries).1 m meta) found

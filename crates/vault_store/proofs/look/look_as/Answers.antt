@@ -31,4 +31,4 @@ returns-in-Err-clause-tables g c clean =
     let new = c.end_transaction.new.conn in
     let all : Survives (state g.S.Store old) (state g.S.Store new) (λ _. ⊥) =
     survives_then (state g.S.Store old) (state g.S.Store c.audit.new.conn) (state g.S.Store new) _ _ (λ _. ⊥) (λ _ trees none. none) (λ _ trees none. none) c.audit.ensures.look.crash c.end_transaction.ensures.crash in
-    same_tables g.S.Store old new (g.met.S.Store.settled old.store) (g.met.S.Store.stays new.store) clean all (c.note_rest.ensures.rest c.requires) (c.note_rest-in-Err.ensures.rest (c.end_transaction.ensures.mode clean))
+    same_tables g.S.Store old new (g.met.S.Store.settled old.store) (g.met.S.Store.stays new.store) clean all (c.connection_is_at_rest.ensures c.requires) (c.connection_is_at_rest-in-Err.ensures (c.end_transaction.ensures.mode clean))

@@ -10,7 +10,7 @@ pub returns-in-Err-clause-tables : goal.returns-in-Err-clause-tables
 returns-in-Err-clause-tables g c clean =
     let h = c.args.new.now in
     let k = c.take_copy.new.new in
-    same_tables g.S.Store h k (g.met.S.Store.settled h.store) (g.met.S.Store.stays k.store) clean c.take_copy.ensures.crash (c.note_rest.ensures.rest c.requires.outside) (c.note_rest-in-Err.ensures.rest (c.in-Err.ensures.outside clean))
+    same_tables g.S.Store h k (g.met.S.Store.settled h.store) (g.met.S.Store.stays k.store) clean c.take_copy.ensures.crash (c.connection_is_at_rest.ensures c.requires.outside) (c.connection_is_at_rest-in-Err.ensures (c.in-Err.ensures.outside clean))
 
 pub returns-in-Err-clause-crash : goal.returns-in-Err-clause-crash
 returns-in-Err-clause-crash g c = never_copied (state g.S.Store c.args.new.now) (state g.S.Store c.take_copy.new.new) _ c.take_copy.ensures.crash
@@ -20,7 +20,7 @@ returns-in-Err-look_at_copy-clause-tables g c clean =
     let h = c.args.new.now in
     let k = c.look_at_copy.new.new in
     let all = survives_more (state g.S.Store h) (state g.S.Store c.take_copy.new.new) (state g.S.Store k) c.take_copy.ensures.crash c.look_at_copy.ensures.crash in
-    same_tables g.S.Store h k (g.met.S.Store.settled h.store) (g.met.S.Store.stays k.store) clean all (c.note_rest.ensures.rest c.requires.outside) (c.note_rest-in-Err-look_at_copy.ensures.rest (c.in-Err-look_at_copy.ensures.outside clean))
+    same_tables g.S.Store h k (g.met.S.Store.settled h.store) (g.met.S.Store.stays k.store) clean all (c.connection_is_at_rest.ensures c.requires.outside) (c.connection_is_at_rest-in-Err-look_at_copy.ensures (c.in-Err-look_at_copy.ensures.outside clean))
 
 pub returns-in-Err-commit-clause-tables : goal.returns-in-Err-commit-clause-tables
 returns-in-Err-commit-clause-tables g c clean =
@@ -28,7 +28,7 @@ returns-in-Err-commit-clause-tables g c clean =
     let k = c.look_at_copy.new.new in
     let early : HasCleanDisk (state g.S.Store k) = omega (arith, clean, c.commit.ensures.crash.clean) in
     let all = survives_more (state g.S.Store h) (state g.S.Store c.take_copy.new.new) (state g.S.Store k) c.take_copy.ensures.crash c.look_at_copy.ensures.crash in
-    same_undone g.S.Store h k c.commit.new.conn (g.met.S.Store.settled h.store) (g.met.S.Store.stays k.store) early all (c.note_rest.ensures.rest c.requires.outside) c.note_rest-2.ensures.live (c.in-Err-commit.ensures.undone clean)
+    same_undone g.S.Store h k c.commit.new.conn (g.met.S.Store.settled h.store) (g.met.S.Store.stays k.store) early all (c.connection_is_at_rest.ensures c.requires.outside) c.tables_obey_their_schema.ensures (c.in-Err-commit.ensures.undone clean)
 
 pub returns-in-Err-commit-clause-crash : goal.returns-in-Err-commit-clause-crash
 returns-in-Err-commit-clause-crash g c =
@@ -57,7 +57,7 @@ returns-clause-sound g c clean =
 pub returns-clause-alone : goal.returns-clause-alone
 returns-clause-alone g c clean v sound =
     let h = c.commit.new.conn in
-    leaves_alone g.S.Store h (g.met.S.Store.settled h.store) (c.in-Ok-commit.ensures.committed clean).0 (c.note_rest-3.ensures.rest c.in-Ok-commit.ensures.settled) v sound
+    leaves_alone g.S.Store h (g.met.S.Store.settled h.store) (c.in-Ok-commit.ensures.committed clean).0 (c.connection_is_at_rest-2.ensures c.in-Ok-commit.ensures.settled) v sound
 
 pub returns-in-Err-look_at_copy-clause-unsound : goal.returns-in-Err-look_at_copy-clause-unsound
 returns-in-Err-look_at_copy-clause-unsound g c none well same = let it = c.in-Ok.ensures.spelled well.clean in none it.0 it.1

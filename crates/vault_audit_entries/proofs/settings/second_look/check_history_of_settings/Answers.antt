@@ -36,4 +36,4 @@ returns-clause-reported g c clean =
     let same = c.in_ok-present.ensures.look.same clean in
     let schema = ap (λ (db : Database). db.schema) (same.0.now_is ∙ (c.in_ok-placed.ensures.look.same early).0.now_is) ∙ c.requires first in
     stated before after same (subst (DecidesPlaces before.now) placed (c.in_ok-placed.ensures.reported early)) (subst (DecidesPresence after.now) present (c.in_ok-present.ensures.reported clean))
-    (have_owners c.args.edition after.now (c.check_ties.ensures same.0.is_open schema))
+    (have_owners c.args.edition after.now (c.references_hold.ensures same.0.is_open schema))

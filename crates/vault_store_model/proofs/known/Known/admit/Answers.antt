@@ -1,6 +1,5 @@
-use Rattle.std.proofs.Common.{◌≤◌, List, Option, IfSome, sym, ap, subst, ◌∙◌}
+use Rattle.std.proofs.Common.{List, Option, IfSome, sym, ap, subst, ◌∙◌}
 use Rattle.std.specs.Prelude.{slice_get}
-use Rattle.vault_base.specs.Days.{last_moment}
 use Rattle.vault_audit_model.specs.declared.rows.DepartmentRow.{DepartmentRow}
 use Rattle.vault_core_model.specs.Totals.{IsRowFor}
 use Rattle.vault_core_model.specs.declared.records.Tenure.{Tenure}
@@ -23,7 +22,7 @@ returns c v sound later is known =
     let one = ap (λ (ts : List Tenure). slice_get ts 0) (sym c.as_slice.ensures) ∙ sym c.in-Some.ensures.value in (
       meta_admits c.args.self.now.meta c.next_meta-self.result v c.args.at a known.0 c.next_meta-self.ensures,
       known.1,
-      version_known v c.args.at a c.in-Some.tenure.now c.take.result c.sums_with.result sound later (subst (λ n. n ≤ last_moment) c.secs-secs.ensures.value c.secs-secs.ensures.range) is one
+      version_known v c.args.at a c.in-Some.tenure.now c.take.result c.sums_with.result sound later c.moment_is_in_range.ensures is one
           (subst (λ (o : Option DepartmentRow). IfSome o (λ d. IsRowFor v d.name d.sums)) (sym c.take.ensures.value) known.2) c.sums_with.ensures,
       tt,
     )
