@@ -88,7 +88,7 @@ hold_bypassed-breaks_removals permitted = absurd (cc permitted.0.0)
 hold_bypassed-breaks_worm : Worm hold_bypassed → ⊥
 hold_bypassed-breaks_worm kept = absurd (cc kept.0.1)
 
--- nor compliance
+-- nor does it lift compliance
 abbrev compliance_bypassed : Vault
 compliance_bypassed = vault_of (first_setting (compliance 1893456000) false ∷ []) 1735689600 (cause.Bypass gov)
 

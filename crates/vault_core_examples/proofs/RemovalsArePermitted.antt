@@ -15,7 +15,7 @@ use Rattle.vault_core_worm_laws.specs.Removals.{RemovalsWerePermitted}
 use Rattle.vault_core_examples.specs.Outcome.{replies_to, vault_after}
 use Rattle.vault_core_examples.specs.Script.{by, ann, gov, start, compliance, governance, rule, put, delete_version, set_rules, run}
 
--- Version 1, governance until 2030-01-01: gov removes it by bypass. Version 2, governance until 2024-02-01, is noncurrent: a run removes it at that end, not a second before. Version 4, compliance until 2025-01-01: ann removes it at that end. Version 3 is held.
+-- Version 1, in governance until 2030-01-01, is removed by gov's bypass; 2, which is noncurrent, by a run as its governance ends, not a second before; 4 by request as its compliance ends; 3 is held.
 abbrev removed-script : List Timed
 removed-script =
     by ann 1388534400 (set_rules (record (rule (codes "r1")) { noncurrent = Some (record { days = 1; newer = None }) } ∷ [])) ∷
@@ -69,19 +69,19 @@ locked_by = refl
 by_bypass : (guards first_lock 1705314601 ≡ denial.Governance ∷ []) × MayBypass removed gov
 by_bypass = (refl, refl)
 
--- nothing guarded the second any more, which governance had guarded until then
+-- nothing guarded the second any more, as governance had until then
 by_rule : guards second_lock 1706745600 ≡ []
 by_rule = refl
 
-not_before-by_rule : guards second_lock 1706745599 ≡ denial.Governance ∷ []
-not_before-by_rule = refl
+by_rule-not_before : guards second_lock 1706745599 ≡ denial.Governance ∷ []
+by_rule-not_before = refl
 
--- nor the fourth, which compliance had guarded until then
+-- nor the fourth, as compliance had until then
 by_request : guards fourth_lock 1735689600 ≡ []
 by_request = refl
 
-not_before-by_request : guards fourth_lock 1735689599 ≡ denial.Compliance ∷ []
-not_before-by_request = refl
+by_request-not_before : guards fourth_lock 1735689599 ≡ denial.Compliance ∷ []
+by_request-not_before = refl
 
 -- so each removal was permitted, for its own reason
 removed_was_permitted : RemovalsWerePermitted removed
