@@ -1,69 +1,16 @@
 -- The keys of a bucket: they rise by their bytes, and they are those that have a held entry.
-use Rattle.std.proofs.Common.{◌≡◌, ◌⊎◌, ℕ, ◌&&◌, Bool, true, false, List, [], ◌∷◌, ◌++◌, map, filter, cond, not, refl, sym, ap, subst, ◌∙◌, inl, inr, ⊎_elim, nat_cmp, Ordering, Less, Equal, Greater}
-use Rattle.std.specs.Ordering.{ordering_reverse}
+use Rattle.std.proofs.Common.{◌≡◌, ◌⊎◌, ℕ, ◌&&◌, Bool, true, false, List, [], ◌∷◌, map, filter, cond, sym, ap, subst, ◌∙◌, refl, inl, inr, ⊎_elim, nat_cmp, Ordering, Less, Equal, Greater}
 use Rattle.std.specs.Str.{bytes_eq}
 use Rattle.std.specs.Cmp.Lexicographic.{slice_cmp, nat_list_cmp_total}
-use Rattle.std.specs.FinMap.{slice_cmp-IsAntisymmetric, nat_cmp-IsAntisymmetric}
 use Rattle.std.proofs.lemmas.Slice.Eq.{bytes_eq-Decides}
 use Rattle.vault_rules.specs.declared.plan.Held.{Held}
-use Rattle.vault_rules_laws.specs.BucketLaws.{IsIn, IsUnder, IsRising, Covers}
-use Rattle.vault_rules_laws.proofs.Entries.{put_if, bytes_same}
-use Rattle.vault_rules_laws.proofs.OnePlan.{irreflexive, under_in}
 use Rattle.vault_core_model.specs.declared.records.History.{History}
 use Rattle.vault_core_model.specs.Vault.{Vault}
 use Rattle.vault_core_model.specs.Places.{is_held, is_held_at, is_held_in, with_key, with_key_by, key_set, keys_of}
 use Rattle.vault_core_model.specs.Reads.{held_of, entries_of}
-use Rattle.vault_core_run_laws.proofs.Plain.{plain_of, plains, entries_in, entries_in-cons}
-
--- ---- the order of keys
-
-pub same_key : (j k : List ℕ) → slice_cmp nat_cmp j k ≡ Equal → j ≡ k
-same_key j k e = slice_cmp-IsAntisymmetric nat_cmp-IsAntisymmetric j k e
-
-pub turn : (j k : List ℕ) → slice_cmp nat_cmp k j ≡ Greater → slice_cmp nat_cmp j k ≡ Less
-turn j k e = nat_list_cmp_total.antisymm j k ∙ ap ordering_reverse e
-
-pub turn_back : (j k : List ℕ) → slice_cmp nat_cmp k j ≡ Less → slice_cmp nat_cmp j k ≡ Greater
-turn_back j k e = nat_list_cmp_total.antisymm j k ∙ ap ordering_reverse e
-
--- k comes before each of these
-pub under_each : (k : List ℕ) (ks : List (List ℕ)) → ((x : List ℕ) → IsIn x ks → slice_cmp nat_cmp k x ≡ Less) → IsUnder k ks
-under_each k [] each = tt
-under_each k (j ∷ js) each = (each j (inl refl), under_each k js (λ x i. each x (inr i)))
-
--- keys that rise are known by what is among them
-pub one_list : (ks js : List (List ℕ)) → IsRising ks → IsRising js → ((x : List ℕ) → IsIn x ks → IsIn x js) → ((x : List ℕ) → IsIn x js → IsIn x ks) → ks ≡ js
-one_list [] [] rk rj f g = refl
-one_list [] (j ∷ js) rk rj f g = absurd (g j (inl refl))
-one_list (k ∷ ks) [] rk rj f g = absurd (f k (inl refl))
-one_list (k ∷ ks) (j ∷ js) rk rj f g =
-    ap (λ x. x ∷ ks) same ∙ ap (λ l. j ∷ l) (one_list ks js rk.1 rj.1 (λ x i. onward x i (f x (inr i))) (λ x i. back x i (g x (inr i))))
-  where
-    same : k ≡ j
-    same =
-        ⊎_elim (λ (e : k ≡ j). e)
-        (λ (i : IsIn k js).
-        ⊎_elim (λ (e : j ≡ k). sym e)
-        (λ (h : IsIn j ks). absurd (irreflexive k (nat_list_cmp_total.trans k j k (under_in k j ks rk.0 h) (under_in j k js rj.0 i))))
-        (g j (inl refl)))
-        (f k (inl refl))
-
-    onward : (x : List ℕ) → IsIn x ks → IsIn x (j ∷ js) → IsIn x js
-    onward x i = ⊎_elim (λ (e : x ≡ j). absurd (irreflexive k (under_in k k ks rk.0 (subst (λ y. IsIn y ks) (e ∙ sym same) i)))) (λ (h : IsIn x js). h)
-
-    back : (x : List ℕ) → IsIn x js → IsIn x (k ∷ ks) → IsIn x ks
-    back x i = ⊎_elim (λ (e : x ≡ k). absurd (irreflexive j (under_in j j js rj.0 (subst (λ y. IsIn y js) (e ∙ same) i)))) (λ (h : IsIn x ks). h)
-
--- a key that stands after others is none of them
-pub later_others : (done rest : List (List ℕ)) (k : List ℕ) → IsRising (done ++ rest) → IsIn k rest → IsIn k done → ⊥
-later_others [] rest k r i j = j
-later_others (x ∷ done) rest k r i j =
-    ⊎_elim (λ (e : k ≡ x). irreflexive x (under_in x x (done ++ rest) r.0 (subst (λ y. IsIn y (done ++ rest)) e (in_right done))))
-    (λ (h : IsIn k done). later_others done rest k r.1 i h) j
-  where
-    in_right : (ks : List (List ℕ)) → IsIn k (ks ++ rest)
-    in_right [] = i
-    in_right (y ∷ ys) = inr (in_right ys)
+use Rattle.vault_core_run_laws.specs.KeyOrder.{IsIn, IsRising}
+use Rattle.vault_core_run_laws.proofs.KeyOrder.{bytes_same, under_in, same_key, turn, under_each}
+use Rattle.vault_core_run_laws.proofs.Entries.{put_if, entries_in, entries_in-cons, all_three}
 
 -- ---- a key put among others
 
@@ -124,12 +71,6 @@ any_more : (c : Bool) (x : Held) (xs : List Held) → HasAny xs → HasAny (put_
 any_more true x xs a = tt
 any_more false x xs a = a
 
-pub all_three : (x y z : Bool) → (x && (y && z)) ≡ true → (x ≡ true) × (y ≡ true) × (z ≡ true)
-all_three true true true e = (refl, refl, refl)
-all_three true true false e = absurd (cc)
-all_three true false z e = absurd (cc)
-all_three false y z e = absurd (cc)
-
 both : (x y : Bool) → (x && y) ≡ true → (x ≡ true) × (y ≡ true)
 both true true e = (refl, refl)
 both true false e = absurd (cc)
@@ -179,25 +120,3 @@ held_key v b k i = key_any b k v.histories (in_key_set k (keys_in b v.histories)
 
 pub key_held : (v : Vault) (b k : List ℕ) → HasAny (entries_of v b k) → IsIn k (keys_of v b)
 key_held v b k a = key_set_in k (keys_in b v.histories) (any_key b k v.histories a)
-
--- ---- the keys cover what is held
-
-covers_among : (b : List ℕ) (ks : List (List ℕ)) (hs : List History) → ((k : List ℕ) → IsIn k (keys_in b hs) → IsIn k ks) → Covers b ks (map plain_of hs)
-covers_among b ks [] f = tt
-covers_among b ks (h ∷ hs) f = (own, covers_among b ks hs (λ k i. f k (more (is_held_in b h.entry) k i)))
-  where
-    more : (c : Bool) (k : List ℕ) → IsIn k (keys_in b hs) → IsIn k (map (λ (g : History). g.entry.key) (cond c (h ∷ filter (λ g. is_held_in b g.entry) hs) (filter (λ g. is_held_in b g.entry) hs)))
-    more true k i = inr i
-    more false k i = i
-
-    kept : (c : Bool) → not c ≡ false → c ≡ true
-    kept true e = refl
-    kept false e = absurd (cc e)
-
-    own : not (is_held h.entry) ≡ false → h.entry.bucket ≡ b → IsIn h.entry.key ks
-    own held there =
-        let here : is_held_in b h.entry ≡ true = ap (λ x. x && is_held h.entry) (ap (λ x. bytes_eq x b) there ∙ bytes_same b) ∙ kept (is_held h.entry) held in
-        f h.entry.key (subst (λ c. IsIn h.entry.key (map (λ (g : History). g.entry.key) (cond c (h ∷ filter (λ g. is_held_in b g.entry) hs) (filter (λ g. is_held_in b g.entry) hs)))) (sym here) (inl refl))
-
-pub covers : (v : Vault) (b : List ℕ) → Covers b (keys_of v b) (plains v)
-covers v b = covers_among b (keys_of v b) v.histories (λ k i. key_set_in k (keys_in b v.histories) i)

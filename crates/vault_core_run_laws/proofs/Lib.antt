@@ -1,7 +1,13 @@
+pub mod AfterSteps
 pub mod ByKey
+pub mod Entries
+pub mod FirstStep
+pub mod KeyOrder
+pub mod KeySteps
 pub mod Keys
 pub mod Noncurrent
-pub mod Plain
+pub mod OnePlan
+pub mod Phases
 pub mod Repeating
 pub mod RunLaws
 pub mod Steps

@@ -1,15 +1,10 @@
 -- A run that stopped may be given again: the plan is the rest, and the parts add up.
-use Rattle.std.proofs.Common.{◌≡◌, ℕ, ◌++◌, refl, ◌+◌, ◌≤◌, nat_lt, Bool, true, false, IsTrue, List, [], ◌∷◌, length, take, drop, map, sum_by, Result, Ok, Err, sym, ap, subst, ◌∙◌, arith, ⊎_elim, if◌then◌else◌, length-drop, take-append-drop, take-add}
+use Rattle.std.proofs.Common.{◌≡◌, ℕ, ◌++◌, refl, ◌+◌, ◌≤◌, nat_lt, Bool, true, false, IsTrue, List, [], ◌∷◌, length, take, drop, sum_by, Result, Ok, Err, sym, ap, subst, ◌∙◌, arith, ⊎_elim, if◌then◌else◌, length-drop, take-append-drop, take-add}
 use Rattle.std.proofs.lemmas.List.{drop-drop, drop_all, take_all}
 use Rattle.std.proofs.lemmas.List.Sums.{sum_by-cons}
 use Rattle.vault_base.specs.declared.refusal.Refusal.{Refusal}
+use Rattle.vault_rules.specs.Rules.{are_rules}
 use Rattle.vault_rules.specs.KeyPlan.{Planned}
-use Rattle.vault_rules_laws.specs.BucketLaws as plain_laws
-use Rattle.vault_rules_laws.specs.BucketLaws.{IsPlan}
-use Rattle.vault_rules_laws.proofs.Entries.{orderly_after_steps}
-use Rattle.vault_rules_laws.proofs.BucketRepeat.{repeats}
-use Rattle.vault_rules_laws.proofs.OnePlan.{unique}
-use Rattle.vault_core_model.specs.declared.records.History.{History}
 use Rattle.vault_core_model.specs.declared.command.Run as command_run
 use Rattle.vault_core_model.specs.declared.command.Command.TheVariants as command
 use Rattle.vault_core_model.specs.declared.access.Access.{Access}
@@ -21,52 +16,45 @@ use Rattle.vault_core_model.specs.declared.reply.Stop.TheVariants as stop
 use Rattle.vault_core_model.specs.Vault.{Vault}
 use Rattle.vault_core_model.specs.Places.{keys_of}
 use Rattle.vault_core_model.specs.Checks.{◌>>=◌, most_ids}
-use Rattle.vault_core_model.specs.Sound.{AreIdsFrom, AreInOrder}
 use Rattle.vault_core_model.specs.Plan.{plan, after_steps, counts, rules_in, with_ids, is_mark}
 use Rattle.vault_core_model.specs.RunOutcome.{planned_run, StopsByFault, MakesFirst}
 use Rattle.vault_core_model.specs.Step.{IsStep, IsRun}
 use Rattle.vault_core_run_laws.specs.Repeats.{IsOrderly, VaultPlansRepeat, IsCut, AreCut, changes_reported, runs_by, IsBegun, CutRunsAddUp, IsCompleted, RunsRepeat}
-use Rattle.vault_core_run_laws.proofs.Plain.{plain_of, plains, after_steps-plain, after_steps-append, orderly_of}
-use Rattle.vault_core_run_laws.proofs.Keys.{keys_rise, covers}
-use Rattle.vault_core_run_laws.proofs.ByKey.{plan_plain, rules_stay}
+use Rattle.vault_core_run_laws.proofs.Entries.{AreOrderly, orderly_of, ids_of_orderly, order_of_orderly}
+use Rattle.vault_core_run_laws.proofs.AfterSteps.{after_steps-append, orderly_after_steps, rules_stay}
+use Rattle.vault_core_run_laws.proofs.Keys.{keys_rise, key_held}
+use Rattle.vault_core_run_laws.proofs.OnePlan.{IsPlan, repeats, unique}
+use Rattle.vault_core_run_laws.proofs.ByKey.{by_key}
 
--- ---- the plan is a plan of what a run looks at
+-- ---- the plan is the rest
 
-plain_orderly : (v : Vault) (b : List ℕ) (t : ℕ) → IsOrderly v b t → plain_laws.AreOrderly 1 0 t (plains v)
-plain_orderly v b t c = orderly_of 1 0 t v.histories c.ids c.order
+histories_orderly : (v : Vault) (b : List ℕ) (t : ℕ) → IsOrderly v b t → AreOrderly 1 0 t v.histories
+histories_orderly v b t c = orderly_of 1 0 t v.histories c.ids c.order
 
-ids_back : (n from t : ℕ) (hs : List History) → plain_laws.AreOrderly n from t (map plain_of hs) → AreIdsFrom n hs
-ids_back n from t [] c = tt
-ids_back n from t (h ∷ hs) c = (c.0, ids_back (n + 1) h.entry.admitted t hs c.2)
-
-order_back : (n from t : ℕ) (hs : List History) → plain_laws.AreOrderly n from t (map plain_of hs) → AreInOrder from t hs
-order_back n from t [] c = c
-order_back n from t (h ∷ hs) c = (c.1, order_back (n + 1) h.entry.admitted t hs c.2)
-
-is_plan : (v : Vault) (b : List ℕ) (t : ℕ) → IsOrderly v b t → IsPlan (rules_in v b) b t (plains v) (plan v b t)
+is_plan : (v : Vault) (b : List ℕ) (t : ℕ) → IsOrderly v b t → IsPlan (rules_in v b) v b t (plan v b t)
 is_plan v b t c = record {
   keys = keys_of v b;
   rising = keys_rise v b;
-  covers = covers v b;
-  steps = plan_plain b t v c.rules (plain_orderly v b t c);
+  covers = key_held v b;
+  steps = by_key v b t c.rules (histories_orderly v b t c);
 }
 
 orderly_stays : (v : Vault) (b : List ℕ) (t : ℕ) (ps : List Planned) → IsOrderly v b t → IsOrderly (after_steps v b t ps) b t
 orderly_stays v b t ps c =
-    let p : plain_laws.AreOrderly 1 0 t (plains (after_steps v b t ps)) = subst (plain_laws.AreOrderly 1 0 t) (sym (after_steps-plain v b t ps)) (orderly_after_steps b t (plains v) ps (plain_orderly v b t c)) in record {
-      ids = ids_back 1 0 t (after_steps v b t ps).histories p;
-      order = order_back 1 0 t (after_steps v b t ps).histories p;
-      rules = subst (λ rs. IsTrue (plain_laws.are_rules rs)) (sym (rules_stay b t v ps)) c.rules;
+    let w = after_steps v b t ps in
+    let after = orderly_after_steps v b t ps (histories_orderly v b t c) in record {
+      ids = ids_of_orderly 1 0 t w.histories after;
+      order = order_of_orderly 1 0 t w.histories after;
+      rules = subst (λ rs. IsTrue (are_rules rs)) (sym (rules_stay v b t ps)) c.rules;
     }
 
 pub vault_plans_repeat : VaultPlansRepeat
 vault_plans_repeat v b t n c =
     let ps = plan v b t in
     let v1 = after_steps v b t (take n ps) in
-    let c1 = orderly_stays v b t (take n ps) c in
-    let rest : IsPlan (rules_in v b) b t (plains v1) (drop n ps) = subst (λ hs. IsPlan (rules_in v b) b t hs (drop n ps)) (sym (after_steps-plain v b t (take n ps))) (repeats (rules_in v b) b t c.rules n (plains v) ps (plain_orderly v b t c) (is_plan v b t c)) in
-    let now : IsPlan (rules_in v b) b t (plains v1) (plan v1 b t) = subst (λ rs. IsPlan rs b t (plains v1) (plan v1 b t)) (rules_stay b t v (take n ps)) (is_plan v1 b t c1) in
-    unique (rules_in v b) b t c.rules (plains v1) (plan v1 b t) (drop n ps) (plain_orderly v1 b t c1) now rest
+    let rest : IsPlan (rules_in v b) v1 b t (drop n ps) = repeats (rules_in v b) b t c.rules n v ps (histories_orderly v b t c) (is_plan v b t c) in
+    let now : IsPlan (rules_in v b) v1 b t (plan v1 b t) = subst (λ rs. IsPlan rs v1 b t (plan v1 b t)) (rules_stay v b t (take n ps)) (is_plan v1 b t (orderly_stays v b t (take n ps) c)) in
+    unique (rules_in v b) b t v1 (plan v1 b t) (drop n ps) now rest
 
 -- ---- runs that were cut
 

@@ -4,37 +4,34 @@ use Rattle.std.specs.Cmp.Lexicographic.{slice_cmp, nat_list_cmp_total}
 use Rattle.std.proofs.lemmas.List.{map-append}
 use Rattle.vault_rules.specs.declared.plan.Step.{Step}
 use Rattle.vault_rules.specs.declared.rule.Rule.{Rule}
+use Rattle.vault_rules.specs.Rules.{are_rules}
 use Rattle.vault_rules.specs.KeyPlan.{Planned, at_key, key_plan}
-use Rattle.vault_rules_laws.specs.Histories as plain
-use Rattle.vault_rules_laws.specs.BucketPlan.{key_plans}
-use Rattle.vault_rules_laws.specs.BucketLaws.{IsIn, IsUnder, IsRising, AreOrderly, are_rules}
-use Rattle.vault_rules.proofs.KeyRepeat.{IsInOrder, rises}
-use Rattle.vault_rules_laws.proofs.KeyByKey.{IsApart, IsAway, apart, flip_eq, away_in}
-use Rattle.vault_rules_laws.proofs.Entries.{orderly_after_step, entries-away, order_entries}
-use Rattle.vault_rules_laws.proofs.OnePlan.{irreflexive, under_in}
-use Rattle.vault_rules_laws.proofs.BucketRepeat.{first_of, step_of, one_step}
+use Rattle.vault_rules.proofs.KeyRepeat.{rises}
 use Rattle.vault_core_model.specs.Vault.{Vault, config_in}
 use Rattle.vault_core_model.specs.Places.{keys_of, is_behind}
 use Rattle.vault_core_model.specs.Reads.{entries_of}
 use Rattle.vault_core_model.specs.Change.{changed}
 use Rattle.vault_core_model.specs.Plan.{after_steps, change_of, rules_in, is_mark}
+use Rattle.vault_core_run_laws.specs.KeyOrder.{IsIn, IsUnder, IsRising}
 use Rattle.vault_core_run_laws.specs.KeyRuns.{MayRun, plan_at, plans_at, HaveIds, last_key}
 use Rattle.vault_core_run_laws.specs.RunLaws.{VaultPlansAreKeyByKey, KeysRise, EntriesRise, RunsGoOn, NextStepsAreAllowed, KeyRunsGoOn, KeyStepsAreAllowed, OtherKeysStay, LaterKeysAreOthers, PagesGoOn}
-use Rattle.vault_core_run_laws.proofs.Plain.{plains, entries_of-plain, after_steps-plain, buckets_stay, orderly_of}
-use Rattle.vault_core_run_laws.proofs.Keys.{HasAny, keys_rise, one_list, under_each, later_others, held_key, key_held, turn, turn_back}
-use Rattle.vault_core_run_laws.proofs.ByKey.{away_out, by_key, plans_plain, rules_stay}
+use Rattle.vault_core_run_laws.proofs.KeyOrder.{IsApart, IsAway, apart, flip_eq, away_in, away_out, irreflexive, under_in, under_each, one_list, later_others, turn, turn_back}
+use Rattle.vault_core_run_laws.proofs.Entries.{AreOrderly, orderly_of, order_entries}
+use Rattle.vault_core_run_laws.proofs.AfterSteps.{buckets_stay, rules_stay, orderly_after_step, entries-away}
+use Rattle.vault_core_run_laws.proofs.Keys.{HasAny, keys_rise, held_key, key_held}
+use Rattle.vault_core_run_laws.proofs.OnePlan.{key_plans, first_of, step_of, one_step}
+use Rattle.vault_core_run_laws.proofs.ByKey.{by_key}
 use Rattle.vault_core_run_laws.proofs.Steps.{orderly, changes_in, changes_few, count_first, first_allowed, stepped, taken, has_id}
 
 pub plans_are_key_by_key : VaultPlansAreKeyByKey
-plans_are_key_by_key v b t may = by_key b t v may.rules (orderly v b t may)
+plans_are_key_by_key v b t may = by_key v b t may.rules (orderly v b t may)
 
 pub bucket_keys_rise : KeysRise
 bucket_keys_rise = keys_rise
 
 pub entries_rise : EntriesRise
 entries_rise v b k sound =
-    let c : AreOrderly 1 0 v.last (plains v) = orderly_of 1 0 v.last v.histories sound.ids sound.order in
-    rises (entries_of v b k) (subst IsInOrder (entries_of-plain v b k) (order_entries b k 1 0 v.last (plains v) c))
+    rises (entries_of v b k) (order_entries b k 1 0 v.last v.histories (orderly_of 1 0 v.last v.histories sound.ids sound.order))
 
 pub later_keys_are_others : LaterKeysAreOthers
 later_keys_are_others = later_others
@@ -65,7 +62,7 @@ runs_go_on v b t ks ps qs may rising e ids =
     let h = go v b t ks ps qs may rising e ids in record {
       may = h.may;
       rest = h.rest;
-      rules = rules_stay b t v ps;
+      rules = rules_stay v b t ps;
       config = ap (λ bs. config_in bs b) (buckets_stay v b t ps);
       ids = h.ids;
       few = omega (arith, h.counted, changes_few (after_steps v b t ps).histories, h.may.sound.enough_ids);
@@ -91,19 +88,15 @@ key_steps_are_allowed v b t k ss rest s may e ids few =
 -- ---- the other keys
 
 module _ (rules : List Rule) (b : List ℕ) (t : ℕ) (ok : IsTrue (are_rules rules)) (ks : List (List ℕ)) (are_apart : IsApart ks) (k : List ℕ) (out : IsAway k ks) where
-  stay : (ps qs : List Planned) (hs : List plain.History) → AreOrderly 1 0 t hs → key_plans rules b t ks hs ≡ ps ++ qs → plain.entries b k (plain.histories_after_steps b t hs ps) ≡ plain.entries b k hs
-  stay [] qs hs c e = refl
-  stay (p ∷ ps) qs hs c e =
-      let f = first_of rules b t ok hs ks p (ps ++ qs) e in
-      stay ps qs (plain.histories_after_step b t hs p) (orderly_after_step b t hs p c) (one_step rules b t ok hs ks p (ps ++ qs) are_apart c e)
-      ∙ entries-away b p.key k t hs p.step c (flip_eq p.key k (away_in k p.key ks out f.among)) (step_of rules b t ok hs ks p c f)
+  stay : (ps qs : List Planned) (v : Vault) → AreOrderly 1 0 t v.histories → key_plans rules v b t ks ≡ ps ++ qs → entries_of (after_steps v b t ps) b k ≡ entries_of v b k
+  stay [] qs v c e = refl
+  stay (p ∷ ps) qs v c e =
+      let f = first_of rules b t ok v ks p (ps ++ qs) e in
+      stay ps qs (changed v t (change_of v b t p)) (orderly_after_step v b t p c) (one_step rules b t ok v ks p (ps ++ qs) are_apart c e)
+      ∙ entries-away v b p.key k t p.step c (flip_eq p.key k (away_in k p.key ks out f.among)) (step_of rules b t ok v ks p c f)
 
 pub other_keys_stay : OtherKeysStay
-other_keys_stay v b t ks ps qs k may rising e ids out =
-    sym (entries_of-plain (after_steps v b t ps) b k)
-    ∙ (ap (plain.entries b k) (after_steps-plain v b t ps)
-    ∙ (stay (rules_in v b) b t may.rules ks (apart ks rising) k (away_out k ks out) ps qs (plains v) (orderly v b t may) (sym (plans_plain b t v ks) ∙ e)
-    ∙ entries_of-plain v b k))
+other_keys_stay v b t ks ps qs k may rising e ids out = stay (rules_in v b) b t may.rules ks (apart ks rising) k (away_out k ks out) ps qs v (orderly v b t may) e
 
 -- ---- pages
 

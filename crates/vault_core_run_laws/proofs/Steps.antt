@@ -1,5 +1,5 @@
 -- The first step that is left of a run may be made, and then the rest is left.
-use Rattle.std.proofs.Common.{◌≡◌, ℕ, ◌+◌, ◌*◌, ◌≤◌, ◌++◌, nat_lt, Bool, true, false, IsTrue, IsSome, is_none, List, [], ◌∷◌, length, map, cond, find, Option, Some, None, option_map, count_by, refl, sym, ap, subst, ◌∙◌, arith, ⊎_elim, if◌then◌else◌}
+use Rattle.std.proofs.Common.{◌≡◌, ℕ, ◌+◌, ◌*◌, ◌≤◌, ◌++◌, nat_lt, Bool, true, false, IsTrue, IsSome, List, [], ◌∷◌, length, map, cond, find, Option, Some, None, option_map, count_by, refl, sym, ap, subst, ◌∙◌, arith, ⊎_elim, if◌then◌else◌}
 use Rattle.std.specs.Prelude.{◌==◌}
 use Rattle.std.specs.List.{AllByRecursion}
 use Rattle.std.specs.Str.{bytes_eq}
@@ -7,14 +7,9 @@ use Rattle.std.proofs.lemmas.List.{length-map, length-append}
 use Rattle.std.proofs.lemmas.List.Sums.{sum_by-cons}
 use Rattle.vault_rules.specs.declared.plan.Step.{Step}
 use Rattle.vault_rules.specs.declared.plan.Step.TheVariants.{Mark, Remove, RemoveLone}
+use Rattle.vault_rules.specs.Rules.{are_rules}
 use Rattle.vault_rules.specs.KeyPlan.{Planned}
 use Rattle.vault_rules.proofs.Truth.{less_of_test}
-use Rattle.vault_rules_laws.specs.BucketPlan.{key_plans}
-use Rattle.vault_rules_laws.specs.BucketLaws.{IsRising, AreOrderly, are_rules}
-use Rattle.vault_rules_laws.proofs.KeySteps.{HasId, IsStepOf}
-use Rattle.vault_rules_laws.proofs.KeyByKey.{apart}
-use Rattle.vault_rules_laws.proofs.Entries.{put_if}
-use Rattle.vault_rules_laws.proofs.BucketRepeat.{first_of, step_of, one_step}
 use Rattle.vault_core_model.specs.declared.records.Author.{Author}
 use Rattle.vault_core_model.specs.declared.records.History.{History}
 use Rattle.vault_core_model.specs.declared.records.Removal.{Removal}
@@ -29,19 +24,18 @@ use Rattle.vault_core_model.specs.Allowed.{Allows, IsAdmission, IsHeldId}
 use Rattle.vault_core_model.specs.Plan.{change_at, change_of, rules_in, is_mark, with_ids}
 use Rattle.vault_core_laws.proofs.Soundness.{AreInOrder-later, Sound-changed}
 use Rattle.vault_core_laws.proofs.Newest.{finds_itself}
+use Rattle.vault_core_run_laws.specs.KeyOrder.{IsRising}
 use Rattle.vault_core_run_laws.specs.KeyRuns.{MayRun, plans_at, HaveIds}
-use Rattle.vault_core_run_laws.proofs.Plain.{plains, entries_in, entries_in-cons, entries_of-plain, histories_after_step-plain, buckets_stay, last_is, orderly_of}
-use Rattle.vault_core_run_laws.proofs.Keys.{all_three}
-use Rattle.vault_core_run_laws.proofs.ByKey.{plans_plain, rules_stay}
+use Rattle.vault_core_run_laws.proofs.KeyOrder.{apart}
+use Rattle.vault_core_run_laws.proofs.KeySteps.{HasId, IsStepOf}
+use Rattle.vault_core_run_laws.proofs.Entries.{AreOrderly, orderly_of, put_if, entries_in, entries_in-cons, all_three, held_at_is}
+use Rattle.vault_core_run_laws.proofs.AfterSteps.{buckets_stay, last_is, rules_stay}
+use Rattle.vault_core_run_laws.proofs.OnePlan.{key_plans, first_of, step_of, one_step}
 
-pub orderly : (v : Vault) (b : List ℕ) (t : ℕ) → MayRun v b t → AreOrderly 1 0 t (plains v)
+pub orderly : (v : Vault) (b : List ℕ) (t : ℕ) → MayRun v b t → AreOrderly 1 0 t v.histories
 orderly v b t may = orderly_of 1 0 t v.histories may.sound.ids (AreInOrder-later 0 v.last t v.histories may.in_time may.sound.order)
 
 -- ---- what a step removes is held
-
-not_removed : (o : Option Removal) → is_none o ≡ true → o ≡ None
-not_removed None e = refl
-not_removed (Some r) e = absurd (cc)
 
 held_id : (b k : List ℕ) (i : ℕ) (all hs : List History) → AllByRecursion (λ y. find (λ g. g.entry.id == y.entry.id) all ≡ Some y) hs → HasId i (entries_in b k hs)
     → (h : History) × (find (λ g. g.entry.id == i) all ≡ Some h) × (h.entry.removal ≡ None)
@@ -55,7 +49,7 @@ held_id b k i all (x ∷ xs) finds has = cases (is_held_at b k x.entry) refl (su
         ⊎_elim (λ (s : x.entry.id ≡ i). (
           x,
           subst (λ n. find (λ g. g.entry.id == n) all ≡ Some x) s finds.0,
-          not_removed x.entry.removal (all_three (bytes_eq x.entry.bucket b) (bytes_eq x.entry.key k) (is_held x.entry) e).2,
+          held_at_is b k x.entry e,
         )) ih g
     cases false e g ih = ih g
 
@@ -199,14 +193,8 @@ pub record IsStepped (v : Vault) (b : List ℕ) (t : ℕ) (ks : List (List ℕ))
   pub counted : changes_in v.histories + 1 ≤ changes_in (changed v t (change_of v b t p)).histories
 
 module _ (v : Vault) (b : List ℕ) (t : ℕ) (ks : List (List ℕ)) (may : MayRun v b t) (rising : IsRising ks) where
-  steps_plain : (ps : List Planned) → plans_at v b t ks ≡ ps → key_plans (rules_in v b) b t ks (plains v) ≡ ps
-  steps_plain ps e = sym (plans_plain b t v ks) ∙ e
-
   is_step : (p : Planned) (ps : List Planned) → plans_at v b t ks ≡ p ∷ ps → IsStepOf (entries_of v b p.key) p.step
-  is_step p ps e =
-      let c = orderly v b t may in
-      let f = first_of (rules_in v b) b t may.rules (plains v) ks p ps (steps_plain (p ∷ ps) e) in
-      subst (λ es. IsStepOf es p.step) (entries_of-plain v b p.key) (step_of (rules_in v b) b t may.rules (plains v) ks p c f)
+  is_step p ps e = step_of (rules_in v b) b t may.rules v ks p (orderly v b t may) (first_of (rules_in v b) b t may.rules v ks p ps e)
 
   pub first_allowed : (p : Planned) (ps : List Planned) → plans_at v b t ks ≡ p ∷ ps → (is_mark p.step ≡ true → next_id v ≤ most_ids) → Allows v t (change_of v b t p)
   first_allowed p ps e few = step_allowed v b t p.key p.step may (is_step p ps e) few
@@ -220,13 +208,11 @@ module _ (v : Vault) (b : List ℕ) (t : ℕ) (ks : List (List ℕ)) (may : MayR
           sound = Sound-changed v t (change_of v b t p) may.sound may.in_time allowed;
           in_time = omega (arith, last_is v b t p);
           there = subst (λ bs. IsSome (config_in bs b)) (sym (buckets_stay v b t (p ∷ []))) may.there;
-          rules = subst (λ rs. IsTrue (are_rules rs)) (sym (rules_stay b t v (p ∷ []))) may.rules;
+          rules = subst (λ rs. IsTrue (are_rules rs)) (sym (rules_stay v b t (p ∷ []))) may.rules;
         };
         rest =
-            plans_plain b t v' ks
-            ∙ (ap (λ rs. key_plans rs b t ks (plains v')) (rules_stay b t v (p ∷ []))
-            ∙ (ap (key_plans (rules_in v b) b t ks) (histories_after_step-plain v b t p)
-            ∙ one_step (rules_in v b) b t may.rules (plains v) ks p ps (apart ks rising) (orderly v b t may) (steps_plain (p ∷ ps) e)));
+            ap (λ rs. key_plans rs v' b t ks) (rules_stay v b t (p ∷ []))
+            ∙ one_step (rules_in v b) b t may.rules v ks p ps (apart ks rising) (orderly v b t may) e;
         counted = step_counts v b t p.key p.step (is_step p ps e);
       }
 

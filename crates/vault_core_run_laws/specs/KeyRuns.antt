@@ -1,7 +1,7 @@
 -- What a run of the lifecycle rules over a bucket does at one key after another.
 use Rattle.std.specs.Prelude.{◌≡◌, ℕ, ◌≤◌, List, [], ◌∷◌, length, flat_map, IsSome, IsTrue}
 use Rattle.vault_rules.specs.KeyPlan.{Planned, at_key, key_plan}
-use Rattle.vault_rules_laws.specs.BucketLaws.{are_rules}
+use Rattle.vault_rules.specs.Rules.{are_rules}
 use Rattle.vault_core_model.specs.Vault.{Vault, config_of}
 use Rattle.vault_core_model.specs.Reads.{entries_of}
 use Rattle.vault_core_model.specs.Sound.{Sound}

@@ -1,3 +1,4 @@
+pub mod KeyOrder
 pub mod KeyRuns
 pub mod Noncurrent
 pub mod Repeats

@@ -1,6 +1,6 @@
 -- A run that stopped may be given again.
 use Rattle.std.specs.Prelude.{◌≡◌, ℕ, ◌≤◌, List, [], ◌∷◌, ◌++◌, length, map, take, drop, sum_by, IsTrue}
-use Rattle.vault_rules_laws.specs.BucketLaws.{are_rules}
+use Rattle.vault_rules.specs.Rules.{are_rules}
 use Rattle.vault_core_model.specs.declared.command.Timed.{Timed}
 use Rattle.vault_core_model.specs.declared.command.Command.TheVariants as command
 use Rattle.vault_core_model.specs.declared.reply.Answer.{Answer}

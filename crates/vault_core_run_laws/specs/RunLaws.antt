@@ -2,7 +2,7 @@
 use Rattle.std.specs.Prelude.{◌≡◌, ℕ, ◌+◌, ◌*◌, ◌≤◌, true, List, [], ◌∷◌, ◌++◌, length, take, count_by, IsTrue}
 use Rattle.vault_rules.specs.declared.plan.Step.{Step}
 use Rattle.vault_rules.specs.KeyPlan.{Planned, at_key, key_plan, ids_rise}
-use Rattle.vault_rules_laws.specs.BucketLaws.{IsIn, IsRising}
+use Rattle.vault_core_run_laws.specs.KeyOrder.{IsIn, IsRising}
 use Rattle.vault_core_model.specs.Vault.{Vault, config_of, next_id}
 use Rattle.vault_core_model.specs.Places.{keys_of}
 use Rattle.vault_core_model.specs.Reads.{entries_of, keys_after}

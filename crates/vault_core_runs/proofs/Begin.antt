@@ -5,8 +5,7 @@ use Rattle.vault_base.specs.declared.refusal.Refusal.{Refusal}
 use Rattle.vault_base.specs.declared.right.Right.TheVariants as right
 use Rattle.vault_rules.specs.declared.rule.Rule.{Rule}
 use Rattle.vault_rules.specs.KeyPlan.{Planned, at_key, key_plan}
-use Rattle.vault_rules.specs.Rules.{is_rule_set}
-use Rattle.vault_rules_laws.specs.BucketLaws.{are_rules}
+use Rattle.vault_rules.specs.Rules.{is_rule_set, are_rules}
 use Rattle.vault_core_model.specs.declared.access.Access.{Access}
 use Rattle.vault_core_model.specs.declared.command.Run.{Run}
 use Rattle.vault_core_model.specs.declared.records.BucketConfig.{BucketConfig}

@@ -6,11 +6,10 @@ use Rattle.std.specs.Cmp.Lexicographic.{nat_list_cmp_total}
 use Rattle.std.specs.declared.cmp.Ordering.{Ordering}
 use Rattle.std.specs.declared.cmp.Ordering.TheVariants.{Less, Equal, Greater}
 use Rattle.std.proofs.lemmas.List.Elements.{filter-append}
-use Rattle.vault_rules_laws.specs.BucketLaws.{IsIn, IsUnder, IsRising}
-use Rattle.vault_rules_laws.proofs.OnePlan.{irreflexive, under_in}
 use Rattle.vault_core_model.specs.Places.{is_behind}
+use Rattle.vault_core_run_laws.specs.KeyOrder.{IsIn, IsUnder, IsRising}
 use Rattle.vault_core_run_laws.specs.KeyRuns.{last_key}
-use Rattle.vault_core_run_laws.proofs.Keys.{same_key, turn, turn_back, under_each}
+use Rattle.vault_core_run_laws.proofs.KeyOrder.{irreflexive, under_in, same_key, turn, turn_back, under_each}
 use Rattle.vault_core_runs.specs.Ranges.{IsOnward}
 use Rattle.vault_core_runs.proofs.Nearest.{gt_is}
 use Rattle.vault_core_runs.proofs.Prefixes.{cmp}

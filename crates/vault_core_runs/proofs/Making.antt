@@ -9,7 +9,7 @@ use Rattle.vault_core_model.specs.declared.halt.Fault.{Fault}
 use Rattle.vault_core_model.specs.declared.reply.Counts.{Counts}
 use Rattle.vault_core_model.specs.Vault.{Vault}
 use Rattle.vault_core_model.specs.Plan.{after_steps, counts, with_ids}
-use Rattle.vault_core_run_laws.proofs.Plain.{after_steps-append}
+use Rattle.vault_core_run_laws.proofs.AfterSteps.{after_steps-append}
 use Rattle.vault_core_runs.specs.Making.{plus, MakesAll, MakesUpTo, MakesSteps, StopsAt}
 use Rattle.vault_core_runs.proofs.Parts.{taken, length-made, ids-append, ids_le, ids_more, ids_short, counts-append, take_both}
 

@@ -9,7 +9,7 @@ use Rattle.std.proofs.lemmas.Bool.{and_parts, or_parts}
 use Rattle.std.proofs.Math.ListN.{drop_of_length-le}
 use Rattle.vault_rules.specs.declared.rule.Rule.{Rule}
 use Rattle.vault_core_model.specs.Places.{is_behind}
-use Rattle.vault_core_run_laws.proofs.Keys.{same_key, turn, turn_back}
+use Rattle.vault_core_run_laws.proofs.KeyOrder.{same_key, turn, turn_back}
 use Rattle.vault_core_runs.specs.Ranges.{begins, is_nearer, is_next, is_ruled, nearer, nearest}
 use Rattle.vault_core_runs.proofs.Prefixes.{before, cmp, past, starts, starts_itself}
 

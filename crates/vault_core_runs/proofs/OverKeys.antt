@@ -7,8 +7,6 @@ use Rattle.vault_rules.specs.declared.plan.Held.{Held}
 use Rattle.vault_rules.specs.declared.plan.Step.{Step}
 use Rattle.vault_rules.specs.declared.plan.Step.TheVariants.{Mark, Remove, RemoveLone}
 use Rattle.vault_rules.specs.KeyPlan.{Planned, at_key, ids_rise, key_plan}
-use Rattle.vault_rules_laws.specs.BucketLaws.{IsIn, IsRising}
-use Rattle.vault_rules_laws.proofs.KeyByKey.{flat_map-in}
 use Rattle.vault_core_model.specs.declared.halt.Halt.{Halt}
 use Rattle.vault_core_model.specs.declared.reply.Counts.{Counts}
 use Rattle.vault_core_model.specs.Vault.{Vault, next_id}
@@ -16,9 +14,11 @@ use Rattle.vault_core_model.specs.Reads.{entries_of}
 use Rattle.vault_core_model.specs.Allowed.{Allows}
 use Rattle.vault_core_model.specs.Checks.{most_ids}
 use Rattle.vault_core_model.specs.Plan.{after_steps, change_at, rules_in, is_mark}
+use Rattle.vault_core_run_laws.specs.KeyOrder.{IsIn, IsRising}
 use Rattle.vault_core_run_laws.specs.KeyRuns.{MayRun, plan_at, plans_at}
 use Rattle.vault_core_run_laws.specs.RunLaws.{Leaves}
 use Rattle.vault_core_runs.specs.Making.{place_of, HaveCauses, HasId, MayBeMade, MakesAll, MakesUpTo, MakesSteps, only}
+use Rattle.vault_core_run_laws.proofs.KeyOrder.{flat_map-in}
 use Rattle.vault_core_run_laws.proofs.RunLaws.{entries_rise, key_runs_go_on, key_steps_are_allowed, runs_go_on, other_keys_stay, later_keys_are_others, rising_left}
 use Rattle.vault_core_runs.proofs.Making.{MakesAll-then, MakesAll-first, MakesUpTo-more, MakesSteps-then}
 

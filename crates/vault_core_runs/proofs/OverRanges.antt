@@ -7,7 +7,6 @@ use Rattle.vault_base.specs.Name.{is_key_prefix, is_object_key}
 use Rattle.vault_rules.proofs.Truth.{both, le_of_test}
 use Rattle.vault_rules.specs.declared.rule.Rule.{Rule}
 use Rattle.vault_rules.specs.KeyPlan.{Planned}
-use Rattle.vault_rules_laws.specs.BucketLaws.{IsIn, IsRising}
 use Rattle.vault_core_model.specs.declared.halt.Fault.{Fault}
 use Rattle.vault_core_model.specs.declared.halt.Halt.{Halt}
 use Rattle.vault_core_model.specs.declared.halt.Halt.TheVariants as halt
@@ -16,8 +15,10 @@ use Rattle.vault_core_model.specs.Vault.{Vault}
 use Rattle.vault_core_model.specs.Places.{is_behind, keys_of}
 use Rattle.vault_core_model.specs.Reads.{entries_of, keys_after}
 use Rattle.vault_core_model.specs.Plan.{counts, plan, rules_in}
+use Rattle.vault_core_run_laws.specs.KeyOrder.{IsIn, IsRising}
 use Rattle.vault_core_run_laws.specs.KeyRuns.{MayRun, plan_at, plans_at, last_key}
-use Rattle.vault_core_run_laws.proofs.Keys.{HasAny, held_key, key_held, one_list}
+use Rattle.vault_core_run_laws.proofs.KeyOrder.{one_list}
+use Rattle.vault_core_run_laws.proofs.Keys.{HasAny, held_key, key_held}
 use Rattle.vault_core_run_laws.proofs.RunLaws.{plans_are_key_by_key, bucket_keys_rise, other_keys_stay, rising_left}
 use Rattle.vault_core_runs.specs.Making.{IsLastKey, MakesAll, MakesUpTo, plus}
 use Rattle.vault_core_runs.specs.Ranges.{GoesOn, IsOnward, is_ruled, later_keys, keys_between, nearest}

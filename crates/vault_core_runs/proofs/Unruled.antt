@@ -10,11 +10,11 @@ use Rattle.vault_rules.specs.declared.plan.Step.TheVariants.{Mark, Remove, Remov
 use Rattle.vault_rules.specs.declared.rule.Rule.{Rule}
 use Rattle.vault_rules.specs.Due.{days_have_passed, due_current, due_marker, due_noncurrent, is_larger, is_smaller, makes_current_due, makes_marker_due, makes_noncurrent_due, noncurrent_has_passed}
 use Rattle.vault_rules.specs.KeyPlan.{at_key, is_current_among, kept, key_plan, lone_rule, lone_steps, mark_rule, mark_steps, marked, only_if, rank, removal_rule, removal_steps, since}
-use Rattle.vault_rules_laws.specs.BucketLaws.{IsIn}
 use Rattle.vault_core_model.specs.Vault.{Vault}
 use Rattle.vault_core_model.specs.Places.{keys_of}
 use Rattle.vault_core_model.specs.Reads.{entries_of}
 use Rattle.vault_core_model.specs.Plan.{rules_in}
+use Rattle.vault_core_run_laws.specs.KeyOrder.{IsIn}
 use Rattle.vault_core_run_laws.specs.KeyRuns.{plan_at}
 use Rattle.vault_core_run_laws.proofs.Keys.{HasAny, key_held}
 use Rattle.vault_core_runs.specs.Ranges.{begins, is_ruled}

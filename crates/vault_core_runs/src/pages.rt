@@ -3,10 +3,10 @@ ghost use Rattle.std.specs.Prelude.{◌≡◌, ◌≤◌, ◌<◌, [], length, I
 ghost use Rattle.vault_core_model.specs.Leaves.{Leaves};
 ghost use Rattle.vault_core_model.specs.Halts.{is_device};
 ghost use Rattle.vault_core_model.specs.Plan.{rules_in};
+ghost use Rattle.vault_core_run_laws.specs.KeyOrder.{IsRising};
 ghost use Rattle.vault_core_run_laws.specs.KeyRuns.{MayRun};
 ghost use Rattle.vault_core_runs.specs.Making.{IsLastKey, MakesPlan, MakesPlanAt, MakesPlansAt};
 ghost use Rattle.vault_core_runs.specs.Ranges.{GoesOn};
-ghost use Rattle.vault_rules_laws.specs.BucketLaws.{IsRising};
 
 use crate::change::BucketRun;
 use crate::key::run_key;

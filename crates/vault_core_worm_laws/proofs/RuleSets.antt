@@ -4,8 +4,7 @@ use Rattle.std.specs.Prelude.{IfSome, find, unwrap_or, option_and_then, ◌==◌
 use Rattle.std.specs.List.{AllByRecursion}
 use Rattle.std.specs.Str.{bytes_eq}
 use Rattle.vault_rules.specs.declared.rule.Rule.{Rule}
-use Rattle.vault_rules.specs.Rules.{is_rule_set, passes_if_given}
-use Rattle.vault_rules_laws.specs.BucketLaws.{are_rules}
+use Rattle.vault_rules.specs.Rules.{is_rule_set, are_rules, passes_if_given}
 use Rattle.vault_core_model.specs.declared.records.Bucket.{Bucket}
 use Rattle.vault_core_model.specs.Vault.{Vault, bucket_in}
 use Rattle.vault_core_model.specs.Plan.{rules_in}

@@ -11,12 +11,8 @@ use Rattle.vault_lock.specs.Lock.{guards, is_locked}
 use Rattle.vault_rules.specs.declared.plan.Step.{Step}
 use Rattle.vault_rules.specs.declared.plan.Step.TheVariants.{Mark, Remove, RemoveLone}
 use Rattle.vault_rules.specs.declared.rule.Rule.{Rule}
+use Rattle.vault_rules.specs.Rules.{are_rules}
 use Rattle.vault_rules.specs.KeyPlan.{Planned}
-use Rattle.vault_rules_laws.specs.BucketLaws.{are_rules, IsPlan, HasFree, IsFreeStep}
-use Rattle.vault_rules_laws.proofs.Entries.{matches}
-use Rattle.vault_rules_laws.proofs.FirstStep.{first_free}
-use Rattle.vault_rules_laws.proofs.BucketRepeat.{repeats}
-use Rattle.vault_rules_laws.proofs.KeyByKey.{apart, key_by_key}
 use Rattle.vault_core_model.specs.declared.change.Change.{Change}
 use Rattle.vault_core_model.specs.declared.change.Change.TheVariants as change
 use Rattle.vault_core_model.specs.declared.command.Run.{Run}
@@ -38,11 +34,11 @@ use Rattle.vault_core_model.specs.RunOutcome.{planned_run, AnswersRun, StopsByFa
 use Rattle.vault_core_laws.proofs.Newest.{finds_itself}
 use Rattle.vault_core_laws.proofs.Soundness.{AreInOrder-later, Sound-changed}
 use Rattle.vault_core_run_laws.specs.KeyRuns.{MayRun}
-use Rattle.vault_core_run_laws.proofs.ByKey.{plans_plain}
-use Rattle.vault_core_run_laws.proofs.Keys.{covers, keys_rise}
-use Rattle.vault_core_run_laws.proofs.Plain.{plain_of, plains, histories_after_step-plain, orderly_of}
+use Rattle.vault_core_run_laws.proofs.Entries.{held_at_is, orderly_of}
+use Rattle.vault_core_run_laws.proofs.FirstStep.{HasFree, IsFreeStep, first_free}
+use Rattle.vault_core_run_laws.proofs.Keys.{key_held, keys_rise}
+use Rattle.vault_core_run_laws.proofs.OnePlan.{IsPlan, repeats}
 use Rattle.vault_core_run_laws.proofs.RunLaws.{plans_are_key_by_key}
-use Rattle.vault_core_run_laws.proofs.Steps.{orderly}
 use Rattle.vault_core_worm_laws.specs.Chains.{MayMake, MayMakeAll}
 use Rattle.vault_core_worm_laws.proofs.Checked.{some_is, bind_if, HasAccess, access-only}
 use Rattle.vault_core_worm_laws.proofs.Kept.{lock_of-found}
@@ -52,10 +48,6 @@ use Rattle.vault_core_worm_laws.proofs.Kept.{lock_of-found}
 no_guard : (gs : List Denial) → nat_lt 0 (length gs) ≡ false → gs ≡ []
 no_guard [] e = refl
 no_guard (g ∷ gs) e = absurd (grind (arith, e))
-
-not_removed : (o : Option Removal) → not (is_none o) ≡ false → o ≡ None
-not_removed None e = refl
-not_removed (Some r) e = absurd (cc e)
 
 bare : (h : History) (marker : Bool) → marker ≡ true → IsWholeAs marker h.entry h.content h.settings → h.settings ≡ []
 bare h true e whole = whole.3
@@ -73,7 +65,7 @@ pub record IsUnguarded (v : Vault) (t id : ℕ) : Type 0 where
   pub held : history.entry.removal ≡ None
   pub free : guards (last_lock history.settings) t ≡ []
 
-unguarded_in : (v : Vault) (bucket key : List ℕ) (t id : ℕ) (hs : List History) → AllByRecursion (λ y. find (λ h. h.entry.id == y.entry.id) v.histories ≡ Some y) hs → AllByRecursion IsWhole hs → HasFree bucket key t id (map plain_of hs) → IsUnguarded v t id
+unguarded_in : (v : Vault) (bucket key : List ℕ) (t id : ℕ) (hs : List History) → AllByRecursion (λ y. find (λ h. h.entry.id == y.entry.id) v.histories ≡ Some y) hs → AllByRecursion IsWhole hs → HasFree bucket key t id hs → IsUnguarded v t id
 unguarded_in v bucket key t id [] own whole free = absurd free
 unguarded_in v bucket key t id (h ∷ hs) own whole (inr later) = unguarded_in v bucket key t id hs own.1 whole.1 later
 unguarded_in v bucket key t id (h ∷ hs) own whole (inl here) =
@@ -81,11 +73,11 @@ unguarded_in v bucket key t id (h ∷ hs) own whole (inl here) =
     record {
       history = h;
       there = subst P here.0 own.0;
-      held = not_removed h.entry.removal (matches bucket key (plain_of h) here.1).held;
+      held = held_at_is bucket key h.entry here.1;
       free = unguarded h t whole.0 here.2;
     }
 
-is_unguarded : (v : Vault) (bucket key : List ℕ) (t id : ℕ) → Sound v → HasFree bucket key t id (plains v) → IsUnguarded v t id
+is_unguarded : (v : Vault) (bucket key : List ℕ) (t id : ℕ) → Sound v → HasFree bucket key t id v.histories → IsUnguarded v t id
 is_unguarded v bucket key t id sound free = unguarded_in v bucket key t id v.histories (finds_itself 1 v.histories sound.ids) sound.whole free
 
 may_remove : (v : Vault) (t id : ℕ) (who rule : List ℕ) → v.last ≤ t → IsUnguarded v t id → MayMake v t who (change.Remove id (record { at = t; cause = cause.Rule rule }))
@@ -104,7 +96,7 @@ FindsId v (Mark r) = next_id v ≤ most_ids
 FindsId v (Remove id r) = Unit {0}
 FindsId v (RemoveLone id r) = Unit {0}
 
-may_step : (v : Vault) (bucket : List ℕ) (config : BucketConfig) (t : ℕ) (who key : List ℕ) (s : Step) → Sound v → v.last ≤ t → config_of v bucket ≡ Some config → FindsId v s → IsFreeStep bucket key t (plains v) s → MayMake v t who (change_at v bucket t key s)
+may_step : (v : Vault) (bucket : List ℕ) (config : BucketConfig) (t : ℕ) (who key : List ℕ) (s : Step) → Sound v → v.last ≤ t → config_of v bucket ≡ Some config → FindsId v s → IsFreeStep bucket key t v.histories s → MayMake v t who (change_at v bucket t key s)
 may_step v bucket config t who key (Mark r) sound le placed finds free = record {
   in_time = le;
   allowed = record {
@@ -168,15 +160,15 @@ last_after v bucket t key (Mark r) = omega arith
 last_after v bucket t key (Remove id r) = omega arith
 last_after v bucket t key (RemoveLone id r) = omega arith
 
-pub makes_first : (rules : List Rule) (bucket : List ℕ) (config : BucketConfig) (t : ℕ) (who : List ℕ) (ok : IsTrue (are_rules rules)) (n : ℕ) (v : Vault) (ps : List Planned) → Sound v → v.last ≤ t → config_of v bucket ≡ Some config → IsPlan rules bucket t (plains v) ps → n ≤ length (with_ids (length v.histories) ps) → (cs : List Change) × MayMakeAll v t who cs (after_steps v bucket t (take n ps))
+pub makes_first : (rules : List Rule) (bucket : List ℕ) (config : BucketConfig) (t : ℕ) (who : List ℕ) (ok : IsTrue (are_rules rules)) (n : ℕ) (v : Vault) (ps : List Planned) → Sound v → v.last ≤ t → config_of v bucket ≡ Some config → IsPlan rules v bucket t ps → n ≤ length (with_ids (length v.histories) ps) → (cs : List Change) × MayMakeAll v t who cs (after_steps v bucket t (take n ps))
 makes_first rules bucket config t who ok zero v ps sound le placed plan few = ([], refl)
 makes_first rules bucket config t who ok (suc n) v [] sound le placed plan few = absurd (omega (arith, few))
 makes_first rules bucket config t who ok (suc n) v (p ∷ ps) sound le placed plan few =
     let c = orderly_of 1 0 t v.histories sound.ids (AreInOrder-later 0 v.last t v.histories le sound.order) in
     let ids = first_id v n p ps p.step refl few in
-    let may = may_step v bucket config t who p.key p.step sound le placed ids.0 (first_free rules bucket t (plains v) p ps ok c plan) in
+    let may = may_step v bucket config t who p.key p.step sound le placed ids.0 (first_free rules v bucket t p ps ok c plan) in
     let w = changed v t (change_of v bucket t p) in
-    let rest : IsPlan rules bucket t (plains w) ps = subst (λ ls. IsPlan rules bucket t ls ps) (sym (histories_after_step-plain v bucket t p)) (repeats rules bucket t ok 1 (plains v) (p ∷ ps) c plan) in
+    let rest : IsPlan rules w bucket t ps = repeats rules bucket t ok 1 v (p ∷ ps) c plan in
     let later = makes_first rules bucket config t who ok n w ps
     (Sound-changed v t (change_of v bucket t p) sound le may.allowed)
     (last_after v bucket t p.key p.step)
@@ -187,15 +179,14 @@ makes_first rules bucket config t who ok (suc n) v (p ∷ ps) sound le placed pl
 
 -- ---- a run
 
--- the plan of a vault is a plan of its entries
-plans_are_plans : (v : Vault) (bucket : List ℕ) (t : ℕ) → MayRun v bucket t → IsPlan (rules_in v bucket) bucket t (plains v) (plan v bucket t)
-plans_are_plans v bucket t may =
-    let ks = keys_of v bucket in record {
-      keys = ks;
-      rising = keys_rise v bucket;
-      covers = covers v bucket;
-      steps = plans_are_key_by_key v bucket t may ∙ (plans_plain bucket t v ks ∙ sym (key_by_key (rules_in v bucket) bucket t may.rules ks (plains v) (orderly v bucket t may) (apart ks (keys_rise v bucket))));
-    }
+-- the plan of a vault is the plans of its keys
+plans_are_plans : (v : Vault) (bucket : List ℕ) (t : ℕ) → MayRun v bucket t → IsPlan (rules_in v bucket) v bucket t (plan v bucket t)
+plans_are_plans v bucket t may = record {
+  keys = keys_of v bucket;
+  rising = keys_rise v bucket;
+  covers = key_held v bucket;
+  steps = plans_are_key_by_key v bucket t may;
+}
 
 -- a run that is asked for in time, at a bucket
 pub record IsRunOf (v : Vault) (t : ℕ) (c : Run) (ps : List Planned) : Type 0 where
@@ -224,7 +215,7 @@ first_of_run : (v v' : Vault) (t : ℕ) (who : List ℕ) (c : Run) (n : ℕ) (ps
 first_of_run v v' t who c n ps sound ok judged few left =
     let run = is_run v t who c ps judged in
     let P : Vault → Type 0 = λ w. LeadsOn v t who w in
-    let plan_of : IsPlan (rules_in v c.bucket) c.bucket t (plains v) ps = subst (λ qs. IsPlan (rules_in v c.bucket) c.bucket t (plains v) qs) (sym run.whole) (plans_are_plans v c.bucket t (record { sound = sound; in_time = run.in_time; there = some_is (config_of v c.bucket) run.config run.placed; rules = ok })) in
+    let plan_of : IsPlan (rules_in v c.bucket) v c.bucket t ps = subst (λ qs. IsPlan (rules_in v c.bucket) v c.bucket t qs) (sym run.whole) (plans_are_plans v c.bucket t (record { sound = sound; in_time = run.in_time; there = some_is (config_of v c.bucket) run.config run.placed; rules = ok })) in
     subst P (sym left) (makes_first (rules_in v c.bucket) c.bucket run.config t who ok n v ps sound run.in_time run.placed plan_of few)
 
 by_fault : (v v' : Vault) (t : ℕ) (who : List ℕ) (c : Run) (n : ℕ) → Sound v → IsTrue (are_rules (rules_in v c.bucket)) → StopsByFault (planned_run v t who c) n v c.bucket t v' → LeadsOn v t who v'

@@ -1,5 +1,5 @@
 -- Which lists of lifecycle rules a bucket may have.
-use Rattle.std.specs.Prelude.{ℕ, Bool, true, false, not, ◌&&◌, ◌||◌, nat_lt, nat_le, List, [], ◌∷◌, ◌++◌, length, Option, Some, None, is_some, is_none}
+use Rattle.std.specs.Prelude.{ℕ, Bool, true, false, not, ◌&&◌, ◌||◌, ◌==◌, nat_lt, nat_le, List, [], ◌∷◌, ◌++◌, length, Option, Some, None, is_some, is_none}
 use Rattle.std.specs.List.{list_any}
 use Rattle.std.specs.Str.{bytes_eq}
 use Rattle.vault_rules.specs.declared.rule.Noncurrent.{Noncurrent}
@@ -88,3 +88,7 @@ rules_fault (r ∷ rs) = fault_where (nat_lt 1000 (length (r ∷ rs))) TooMany (
 -- a list that a bucket may have
 abbrev pub is_rule_set : List Rule → Bool
 is_rule_set rules = is_none (rules_fault rules)
+
+-- no rules, or a list that a bucket may have
+abbrev pub are_rules : List Rule → Bool
+are_rules rules = length rules == 0 || is_rule_set rules

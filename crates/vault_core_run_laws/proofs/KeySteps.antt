@@ -7,13 +7,12 @@ use Rattle.vault_rules.specs.declared.rule.Rule.{Rule}
 use Rattle.vault_rules.specs.declared.plan.Held.{Held}
 use Rattle.vault_rules.specs.declared.plan.Step.{Step}
 use Rattle.vault_rules.specs.declared.plan.Step.TheVariants.{Mark, Remove, RemoveLone}
-use Rattle.vault_rules.specs.Rules.{is_rule_set}
+use Rattle.vault_rules.specs.Rules.{is_rule_set, are_rules}
 use Rattle.vault_rules.specs.KeyPlan.{id_above, key_plan, removal_steps, lone_steps, kept}
 use Rattle.vault_rules.specs.Walk.{Dues, dues, unless, last_mark, marker_at, marked_by, removal, mark_step, remove_step, lone_step, removals, keep_if, left_over, lone_removal, later_phases, walk}
 use Rattle.vault_rules.proofs.Fit.{IsFit, fit}
 use Rattle.vault_rules.proofs.Lasts.{IsLong, left_long, walk_unmarked}
 use Rattle.vault_rules.proofs.Sets.{removals_from, kept_from, lone_is, rise_push, key_plan-walk}
-use Rattle.vault_rules_laws.specs.BucketLaws.{are_rules}
 use Rattle.vault_rules.specs.KeyRepeats.{without, held_after}
 use Rattle.vault_rules.proofs.KeyRepeat.{IsBelow, IsInOrder, rises, one_step, mark_none, left_all, without_first, without_other, order_without}
 

@@ -1,21 +1,23 @@
 -- The first step of a plan removes nothing that is locked.
 use Rattle.std.proofs.Common.{◌≡◌, ◌⊎◌, ℕ, ◌++◌, Bool, true, false, IsTrue, List, [], ◌∷◌, Option, Some, None, refl, sym, ap, subst, ◌∙◌, inl, inr}
 use Rattle.std.specs.Prelude.{not}
+use Rattle.vault_lock.specs.Lock.{is_locked}
 use Rattle.vault_rules.specs.declared.rule.Rule.{Rule}
 use Rattle.vault_rules.specs.declared.plan.Held.{Held}
 use Rattle.vault_rules.specs.declared.plan.Step.{Step}
 use Rattle.vault_rules.specs.declared.plan.Step.TheVariants.{Mark, Remove, RemoveLone}
+use Rattle.vault_rules.specs.Rules.{are_rules}
 use Rattle.vault_rules.specs.KeyPlan.{Planned, id_above}
 use Rattle.vault_rules.specs.Walk.{Dues, dues, unless, last_mark, marker_at, marked_by, removal, mark_step, remove_step, lone_step, removals, left_over, lone_removal, later_phases, walk}
+use Rattle.vault_rules.proofs.KeyRepeat.{rises, left_all}
 use Rattle.vault_rules.proofs.Lasts.{walk_unmarked}
 use Rattle.vault_rules.proofs.Sets.{key_plan-walk}
-use Rattle.vault_rules_laws.specs.Histories.{History, is_at, held_of, entries}
-use Rattle.vault_rules_laws.specs.BucketPlan.{plan, key_plans}
-use Rattle.vault_rules_laws.specs.BucketLaws.{AreOrderly, are_rules, IsPlan, HasFree, IsFreeStep}
-use Rattle.vault_rules.proofs.KeyRepeat.{rises, left_all}
-use Rattle.vault_rules_laws.proofs.Entries.{put_if, entries-cons, order_entries}
-use Rattle.vault_rules_laws.proofs.KeyByKey.{apart, key_by_key}
-use Rattle.vault_rules_laws.proofs.BucketRepeat.{first_of}
+use Rattle.vault_core_model.specs.declared.records.History.{History}
+use Rattle.vault_core_model.specs.Vault.{Vault, last_lock}
+use Rattle.vault_core_model.specs.Places.{is_held_at}
+use Rattle.vault_core_model.specs.Reads.{held_of, entries_of}
+use Rattle.vault_core_run_laws.proofs.Entries.{AreOrderly, put_if, entries_in, entries_in-cons, order_entries}
+use Rattle.vault_core_run_laws.proofs.OnePlan.{IsPlan, first_of}
 
 -- ---- at a key
 
@@ -88,25 +90,36 @@ walk_free d t hs s ss e = cases (last_mark d hs) refl
 
 -- ---- in the bucket
 
+-- a held entry of that id and key isn't locked at t, or is a marker
+abbrev pub HasFree : List ℕ → List ℕ → ℕ → ℕ → List History → Type 0
+HasFree b k t i [] = ⊥
+HasFree b k t i (h ∷ hs) =
+    ((h.entry.id ≡ i) × (is_held_at b k h.entry ≡ true) × ((is_locked (last_lock h.settings) t ≡ false) ⊎ (h.entry.marker ≡ true))) ⊎ HasFree b k t i hs
+
+-- what the step removes, if anything, may be removed
+abbrev pub IsFreeStep : List ℕ → List ℕ → ℕ → List History → Step → Type 0
+IsFreeStep b k t hs (Mark r) = Unit {0}
+IsFreeStep b k t hs (Remove i r) = HasFree b k t i hs
+IsFreeStep b k t hs (RemoveLone i r) = HasFree b k t i hs
+
 module _ (rules : List Rule) (b : List ℕ) (t : ℕ) (k : List ℕ) where
-  put_free : (i : ℕ) (h : History) (v : List History) (c : Bool) → is_at b k h ≡ c → FreeIn (dues rules k t) i (put_if c (held_of h) (entries b k v)) → (FreeIn (dues rules k t) i (entries b k v) → HasFree b k t i v) → HasFree b k t i (h ∷ v)
-  put_free i h v true here (inl own) later = inl (own.0, here, own.1)
-  put_free i h v true here (inr rest) later = inr (later rest)
-  put_free i h v false here rest later = inr (later rest)
+  put_free : (i : ℕ) (h : History) (hs : List History) (c : Bool) → is_held_at b k h.entry ≡ c → FreeIn (dues rules k t) i (put_if c (held_of h) (entries_in b k hs)) → (FreeIn (dues rules k t) i (entries_in b k hs) → HasFree b k t i hs) → HasFree b k t i (h ∷ hs)
+  put_free i h hs true here (inl own) later = inl (own.0, here, own.1)
+  put_free i h hs true here (inr rest) later = inr (later rest)
+  put_free i h hs false here rest later = inr (later rest)
 
-  has_free : (i : ℕ) (v : List History) → FreeIn (dues rules k t) i (entries b k v) → HasFree b k t i v
+  has_free : (i : ℕ) (hs : List History) → FreeIn (dues rules k t) i (entries_in b k hs) → HasFree b k t i hs
   has_free i [] free = absurd free
-  has_free i (h ∷ v) free = put_free i h v (is_at b k h) refl (subst (FreeIn (dues rules k t) i) (entries-cons b k h v) free) (has_free i v)
+  has_free i (h ∷ hs) free = put_free i h hs (is_held_at b k h.entry) refl (subst (FreeIn (dues rules k t) i) (entries_in-cons b k h hs) free) (has_free i hs)
 
-  free_step : (v : List History) (s : Step) → Frees (dues rules k t) (entries b k v) s → IsFreeStep b k t v s
-  free_step v (Mark r) free = tt
-  free_step v (Remove i r) free = has_free i v free
-  free_step v (RemoveLone i r) free = has_free i v free
+  free_step : (hs : List History) (s : Step) → Frees (dues rules k t) (entries_in b k hs) s → IsFreeStep b k t hs s
+  free_step hs (Mark r) free = tt
+  free_step hs (Remove i r) free = has_free i hs free
+  free_step hs (RemoveLone i r) free = has_free i hs free
 
-pub first_free : (rules : List Rule) (b : List ℕ) (t : ℕ) (v : List History) (p : Planned) (ps : List Planned) → IsTrue (are_rules rules) → AreOrderly 1 0 t v → IsPlan rules b t v (p ∷ ps) → IsFreeStep b p.key t v p.step
-first_free rules b t v p ps ok c plan =
-    let whole : key_plans rules b t plan.keys v ≡ p ∷ ps = sym (plan.steps ∙ key_by_key rules b t ok plan.keys v c (apart plan.keys plan.rising)) in
-    let f = first_of rules b t ok v plan.keys p ps whole in
-    let order = order_entries b p.key 1 0 t v c in
-    free_step rules b t p.key v p.step
-    (walk_free (dues rules p.key t) t (entries b p.key v) p.step f.others (sym (key_plan-walk rules p.key t (entries b p.key v) (rises (entries b p.key v) order)) ∙ f.first))
+pub first_free : (rules : List Rule) (v : Vault) (b : List ℕ) (t : ℕ) (p : Planned) (ps : List Planned) → IsTrue (are_rules rules) → AreOrderly 1 0 t v.histories → IsPlan rules v b t (p ∷ ps) → IsFreeStep b p.key t v.histories p.step
+first_free rules v b t p ps ok c plan =
+    let f = first_of rules b t ok v plan.keys p ps (sym plan.steps) in
+    let es = entries_of v b p.key in
+    free_step rules b t p.key v.histories p.step
+    (walk_free (dues rules p.key t) t es p.step f.others (sym (key_plan-walk rules p.key t es (rises es (order_entries b p.key 1 0 t v.histories c))) ∙ f.first))

@@ -1,3 +1,0 @@
-pub mod BucketLaws
-pub mod BucketPlan
-pub mod Histories
