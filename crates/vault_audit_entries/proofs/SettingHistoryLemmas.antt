@@ -2,11 +2,11 @@
 use Rattle.std.proofs.Common.{◌≡◌, ◌≤◌, ◌<◌, ◌+◌, ◌||◌, ◌==◌, ℕ, List, [], ◌∷◌, ◌++◌, length, map, flat_map, Bool, true, false, not, None, refl, sym, ap, ap₂, subst, ◌∙◌, IsTrue, arith}
 use Rattle.std.specs.List.{AllByRecursion, list_any}
 use Rattle.std.proofs.lemmas.Bool.Decides.{nat_tests}
+use Rattle.vault_base.specs.Limits.{most_settings}
 use Rattle.vault_base.specs.Name.{is_version_id}
 use Rattle.vault_core_model.specs.declared.records.Entry.{Entry}
 use Rattle.vault_core_model.specs.declared.records.History.{History}
 use Rattle.vault_core_model.specs.declared.records.Setting.{Setting}
-use Rattle.vault_core_model.specs.Checks.{most_settings}
 use Rattle.vault_audit_model.specs.declared.rows.SettingRow.{SettingRow}
 use Rattle.vault_audit_model.specs.Relations.{AreNumbered, HasSettingsAs, HasSettings}
 use Rattle.vault_audit_model.specs.Spells.{settings_from, settings_in}

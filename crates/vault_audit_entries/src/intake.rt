@@ -28,7 +28,7 @@ use vault_audit_rows::misread::Misread;
 use vault_audit_rows::name::{batch_name, bucket_name, object_key};
 use vault_audit_rows::several_columns::retention;
 use vault_audit_walk::walk::{Pass, walk};
-use vault_core_model::limits::MOST_CONTENT;
+use vault_base::limits::MOST_CONTENT;
 use vault_core_model::records::Note;
 
 /// The check of notes in their order.

@@ -4,6 +4,7 @@ use Rattle.std.specs.List.{AllByRecursion}
 use Rattle.std.proofs.lemmas.List.{length-map}
 use Rattle.sqlite_trees.proofs.ListLemmas.{map-map}
 use Rattle.sqlite.specs.Effect.{Database}
+use Rattle.vault_base.specs.Limits.{most_content, most_ids}
 use Rattle.vault_base.specs.Name.{is_version_id}
 use Rattle.vault_lock.specs.declared.retention.Default.{Default}
 use Rattle.vault_lock.specs.Retention.{is_period}
@@ -17,7 +18,7 @@ use Rattle.vault_core_model.specs.declared.records.History.{History}
 use Rattle.vault_core_model.specs.declared.records.Note.{Note}
 use Rattle.vault_core_model.specs.declared.records.Setting.{Setting}
 use Rattle.vault_core_model.specs.declared.records.Tenure.{Tenure}
-use Rattle.vault_core_model.specs.Checks.{most_content, most_ids, has_period}
+use Rattle.vault_core_model.specs.Checks.{has_period}
 use Rattle.vault_core_model.specs.IntakeOutcome.{is_line}
 use Rattle.vault_core_model.specs.Sound.{Sound, AreIdsFrom, AreInOrder, IsInTime, IsWhole, IsWholeAs, IsPlaced, IsNoted, NamesItsVersion, IsInNameOrder, LiesBetween}
 use Rattle.vault_core_model.specs.Totals.{items_in}

@@ -2,6 +2,7 @@
 use Rattle.std.specs.Prelude.{◌≡◌, ℕ, ◌≤◌, Bool, true, false, List, length, Option, Some, None, IsTrue, IsUtf8, IfSome}
 use Rattle.std.specs.List.{AllByRecursion}
 use Rattle.vault_base.specs.Days.{last_moment}
+use Rattle.vault_base.specs.Limits.{most_content, most_moves, most_settings}
 use Rattle.vault_base.specs.Name.{is_bucket_name, is_object_key, is_key_prefix, is_plain_name, is_rule_id, is_version_id}
 use Rattle.vault_lock.specs.Retention.{is_period}
 use Rattle.vault_lock.specs.declared.retention.Retention.{Retention}
@@ -20,7 +21,6 @@ use Rattle.vault_core_model.specs.declared.records.History.{History}
 use Rattle.vault_core_model.specs.declared.records.Note.{Note}
 use Rattle.vault_core_model.specs.declared.records.Setting.{Setting}
 use Rattle.vault_core_model.specs.declared.records.Tenure.{Tenure}
-use Rattle.vault_core_model.specs.Checks.{most_content, most_settings, most_moves}
 use Rattle.vault_core_model.specs.Vault.{Vault}
 use Rattle.vault_audit_model.specs.declared.rows.MetaRow.{MetaRow}
 use Rattle.vault_audit_model.specs.declared.rows.DepartmentRow.{DepartmentRow}

@@ -3,13 +3,13 @@ use Rattle.std.specs.Prelude.{◌≡◌, ℕ, ◌+◌, ◌≤◌, Bool, true, fa
 use Rattle.std.specs.List.{AllByRecursion}
 use Rattle.std.specs.declared.cmp.Ordering.TheVariants.{Less}
 use Rattle.sqlite.specs.Effect.{Database}
+use Rattle.vault_base.specs.Limits.{most_settings}
 use Rattle.vault_tally.specs.Row.{admitted_size, received_size, quota}
 use Rattle.vault_core_model.specs.declared.records.Bucket.{Bucket}
 use Rattle.vault_core_model.specs.declared.records.Caller.{Caller}
 use Rattle.vault_core_model.specs.declared.records.Entry.{Entry}
 use Rattle.vault_core_model.specs.declared.records.History.{History}
 use Rattle.vault_core_model.specs.declared.records.Note.{Note}
-use Rattle.vault_core_model.specs.Checks.{most_settings}
 use Rattle.vault_core_model.specs.Order.{IsAscending, name_cmp, caller_cmp, bucket_cmp, note_cmp}
 use Rattle.vault_core_model.specs.Sound.{AreTenures, HasItsBytes, IsNoted, IsWithBucket, LiesBetween}
 use Rattle.vault_core_model.specs.Totals.{items_in}

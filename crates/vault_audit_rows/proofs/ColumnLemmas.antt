@@ -2,11 +2,11 @@
 use Rattle.std.proofs.Common.{◌≡◌, ◌≢◌, ◌<◌, ◌≤◌, ◌+◌, ◌*◌, ◌/◌, ◌%◌, ◌==◌, ◌^◌, ℕ, zero, suc, Bool, true, false, List, length, Option, Some, None, IfSome, arith, [], ◌∷◌, is_none, nat_lt, IsTrue, refl}
 use Rattle.std.proofs.lemmas.Bool.Decides.{nat_tests}
 use Rattle.sqlite_value.specs.declared.value.Value.{Value}
+use Rattle.vault_base.specs.Limits.{most_content}
 use Rattle.vault_core_model.specs.declared.rights.Rights.{Rights}
 use Rattle.vault_core_model.specs.declared.records.Author.{Author}
 use Rattle.vault_core_model.specs.declared.records.Author.TheVariants as author
 use Rattle.vault_audit_model.specs.Rows.{bit, rights_number, author_kind}
-use Rattle.vault_core_model.specs.Checks.{most_content}
 use Rattle.vault_audit_model.specs.Limits.{IsSizedAs}
 use Rattle.vault_audit_model.specs.Values.{flag}
 use Rattle.vault_rules.specs.Rules.{fault_where, is_rule_set, are_bounds}

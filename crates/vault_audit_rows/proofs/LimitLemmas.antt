@@ -5,9 +5,9 @@ use Rattle.std.specs.Str.{bytes_eq}
 use Rattle.std.proofs.lemmas.Bool.{or_cases}
 use Rattle.std.proofs.lemmas.Slice.Eq.{bytes_eq-Decides}
 use Rattle.vault_base.specs.Days.{last_moment}
+use Rattle.vault_base.specs.Limits.{most_content, most_moves, most_settings}
 use Rattle.vault_base.specs.Name.{is_version_id}
 use Rattle.vault_rules.specs.declared.rule.Rule.{Rule}
-use Rattle.vault_core_model.specs.Checks.{most_content, most_settings, most_moves}
 use Rattle.vault_core_model.specs.Sound.{LiesBetween, IsInTime, FollowOn, end_of, AreTenures, HasTenuresAs, HasTenures, HasItsBytes, IsWholeAs, IsWhole, AreIdsFrom, AreInOrder}
 use Rattle.vault_core_model.specs.Vault.{Vault, has_department}
 use Rattle.vault_core_model.specs.declared.records.Bucket.{Bucket}

@@ -31,7 +31,7 @@ use sqlite::Row;
 use vault_audit_model::rows::{
     BucketRow, ContentRow, DepartmentRow, HeadRow, MetaRow, RuleRow, SettingRow, TenureRow,
 };
-use vault_core_model::limits::{MOST_CONTENT, MOST_MOVES};
+use vault_base::limits::{MOST_CONTENT, MOST_MOVES};
 use vault_core_model::records::{BucketConfig, Caller, Entry, Head, Note, Setting, Tenure};
 use vault_lock::lock::Lock;
 use vault_rules::rule::Rule;

@@ -7,9 +7,9 @@ use sqlite::Row;
 use vault_audit_rows::cell::{moment, moment_or_null, number_within, version_id};
 use vault_audit_rows::misread::Misread;
 use vault_audit_rows::name::{dept_name, dept_name_or_null};
+use vault_base::limits::MOST_MOVES;
 use vault_base::moment::Moment;
 use vault_base::name::{DeptName, VersionId};
-use vault_core_model::limits::MOST_MOVES;
 use vault_core_model::records::Tenure;
 
 /// A tenure of a version, and what it is compared with.

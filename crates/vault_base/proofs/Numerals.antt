@@ -6,6 +6,7 @@ use Rattle.std.proofs.lemmas.Str.Parse.{IsNumeralModel, numerals_by_value, parse
 use Rattle.std.specs.Str.Parse.{ParsesUnsigned, digits_value}
 use Rattle.std.specs.Fmt.{decimal}
 use Rattle.std.proofs.lemmas.Fmt.{digits_decimal, digits_value-decimal, decimal-digits_value, decimal_is_IsNumeral, decimal_nonempty, first_decimal}
+use Rattle.vault_base.specs.Limits.{most_ids}
 use Rattle.vault_base.specs.Name.{is_from, is_version_id, version_id_of, has_digits, is_numeral, version_number}
 
 numerals : IsNumeralModel (λ ds. has_digits ds ≡ true) (digits_value 10)
@@ -36,7 +37,7 @@ first_is n pos fits =
     let high : slice_index (decimal n) 0 ≤ 57 = omega (arith, digit) in
     grind (arith, common_steps)
 
-id_range : (n : ℕ) → is_version_id n ≡ true → (1 ≤ n) × (n ≤ 1000000000)
+id_range : (n : ℕ) → is_version_id n ≡ true → (1 ≤ n) × (n ≤ most_ids)
 id_range n h = grind (arith, common_steps)
 
 -- an id is read from its decimal text

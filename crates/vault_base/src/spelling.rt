@@ -2,6 +2,7 @@
 ghost use Rattle.std.specs.Prelude.{◌≡◌, length, Some, None, ◌&&◌};
 ghost use Rattle.vault_base.specs.Name as spec;
 
+use crate::limits::MOST_IDS;
 use crate::name::NameFault;
 
 fn is_lower_or_digit(byte: u8) -> bool
@@ -153,7 +154,7 @@ pub fn version_number(text: &str) -> Option<u32>
         return None;
     }
     match text.parse::<u32>() {
-        Ok(number) if number >= 1 && number <= 1_000_000_000 => Some(number),
+        Ok(number) if number >= 1 && number <= MOST_IDS => Some(number),
         Ok(_) => None,
         Err(_) => None,
     }

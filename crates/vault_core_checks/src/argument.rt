@@ -1,6 +1,7 @@
 //! The arguments of commands.
 ghost use Rattle.std.specs.Prelude.{◌≡◌, ◌≤◌, IsTrue, IfErr, OnOk, false, length};
 ghost use Rattle.std.specs.Str.{bytes_eq};
+ghost use Rattle.vault_base.specs.Limits.{most_content};
 ghost use Rattle.vault_core_model.specs.Leaves.{LeavesSame};
 ghost use Rattle.vault_core_model.specs.Halts.{ChecksAs, is_device, is_device_refusal};
 ghost use Rattle.vault_core_model.specs.Vault.{has_department};
@@ -8,19 +9,19 @@ ghost use Rattle.vault_rules.specs.Rules.{passes_if_given};
 ghost use Rattle.vault_core_model.specs.Checks.{small_enough, ends_later_if_given, known_department, known_department_if_given, other_department, allowed_default, has_period};
 
 use vault_base::content::Content;
+use vault_base::limits::MOST_CONTENT;
 use vault_base::moment::Moment;
 use vault_base::name::DeptName;
 use vault_base::refusal::Refusal;
 use vault_core_model::halt::Halt;
 use vault_core_model::keeper::Keeper;
-use vault_core_model::limits::MOST_CONTENT;
 use vault_core_model::records::BucketConfig;
 use vault_lock::retention::{Default, Retention};
 
 /// The content is within the limit of one version; else EntityTooLarge.
 pub fn check_size(content: &Content) -> Result<(), Refusal>
     ensures exact { result ≡ small_enough content.now }
-    ensures small { OnOk result (length content.now ≤ 1048576) }
+    ensures small { OnOk result (length content.now ≤ most_content) }
     ensures device { IfErr result (λ refusal. is_device_refusal refusal ≡ false) }
 {
     if content.len() <= MOST_CONTENT {

@@ -1,19 +1,20 @@
 //! The quota of a department, and the numbers that the vault gives.
 ghost use Rattle.std.specs.Prelude.{◌≡◌, ◌≤◌, ◌+◌, IfOk, IfErr, OnOk, nat_lt, ◌<◌, false, Some, None, if◌then◌else◌};
+ghost use Rattle.vault_base.specs.Limits.{most_ids, most_moves, most_settings};
 ghost use Rattle.vault_base.specs.Name.{is_version_id};
 ghost use Rattle.vault_core_model.specs.Leaves.{LeavesSame};
 ghost use Rattle.vault_core_model.specs.Halts.{ChecksAs, is_device, is_device_refusal};
 ghost use Rattle.vault_core_model.specs.Vault.{next_id};
 ghost use Rattle.vault_core_model.specs.Totals.{admitted_bytes, received_bytes};
-ghost use Rattle.vault_core_model.specs.Checks.{check, within_quota, free_id, free_move, most_ids, most_moves, most_settings};
+ghost use Rattle.vault_core_model.specs.Checks.{check, within_quota, free_id, free_move};
 ghost use Rattle.vault_base.specs.declared.refusal.Refusal.TheVariants.{VaultFull};
 ghost use Rattle.vault_tally.specs.Row.{quota};
 
+use vault_base::limits::{MOST_MOVES, MOST_SETTINGS};
 use vault_base::name::{DeptName, VersionId};
 use vault_base::refusal::Refusal;
 use vault_core_model::halt::Halt;
 use vault_core_model::keeper::Keeper;
-use vault_core_model::limits::{MOST_MOVES, MOST_SETTINGS};
 
 /// The department may admit or receive n bytes more; else QuotaExceeded.
 pub fn check_quota<K: Keeper>(keeper: &mut K, dept: &DeptName, size: u64) -> Result<(), Halt>

@@ -1,5 +1,6 @@
 //! What a put and a line of an intake batch have in common.
 ghost use Rattle.std.specs.Prelude.{◌≡◌, ◌≤◌, length, [], ◌∷◌, IfOk, OnOk, Some, false};
+ghost use Rattle.vault_base.specs.Limits.{most_content};
 ghost use Rattle.vault_core_model.specs.Leaves.{LeavesSame};
 ghost use Rattle.vault_core_model.specs.Halts.{ChecksAs, is_device};
 ghost use Rattle.vault_core_model.specs.EntryOutcomes as outcome;
@@ -55,7 +56,7 @@ pub(crate) fn find_lock_to_admit<K: Keeper>(
     access: &Access,
 ) -> Result<Lock, Halt>
     ensures found { K.is_honest keeper.new → ChecksAs result (outcome.lock_to_admit (K.vault keeper.old) at command.now access.now) }
-    ensures small { OnOk result (length command.now.content ≤ 1048576) }
+    ensures small { OnOk result (length command.now.content ≤ most_content) }
     ensures fits { K.is_honest keeper.new → OnOk result (Fits (K.vault keeper.old) access.now.bucket.dept (length command.now.content)) }
     ensures leaves { LeavesSame K.Kept keeper.old keeper.new (is_device result) }
 {

@@ -1,6 +1,7 @@
 //! A line of an intake batch.
 ghost use Rattle.std.specs.Prelude.{◌≡◌, ◌≤◌, length, IsTrue, IfOk, IfErr, OnOk, Some, None, false};
 ghost use Rattle.sha2.specs.Sha256.{sha256};
+ghost use Rattle.vault_base.specs.Limits.{most_content};
 ghost use Rattle.vault_core_model.specs.Leaves.{Leaves, LeavesSame};
 ghost use Rattle.vault_core_model.specs.Halts.{ChecksAs, AnswersAs, is_device, is_device_refusal};
 ghost use Rattle.vault_core_model.specs.EntryOutcomes.{new_version};
@@ -127,7 +128,7 @@ fn find_lock_to_take_in<K: Keeper>(
 ) -> Result<Lock, Halt>
     ensures found { K.is_honest keeper.new → ChecksAs result (outcome.lock_to_take_in (K.vault keeper.old) at command.now access.now) }
     ensures line { OnOk result (IsTrue (outcome.is_line command.now.line)) }
-    ensures small { OnOk result (length command.now.put.content ≤ 1048576) }
+    ensures small { OnOk result (length command.now.put.content ≤ most_content) }
     ensures fits { K.is_honest keeper.new → OnOk result (Fits (K.vault keeper.old) access.now.bucket.dept (length command.now.put.content)) }
     ensures leaves { LeavesSame K.Kept keeper.old keeper.new (is_device result) }
 {

@@ -11,6 +11,7 @@ use Rattle.vault_base.specs.declared.refusal.Reason.TheVariants as reason
 use Rattle.vault_base.specs.declared.right.Right.{Right}
 use Rattle.vault_base.specs.declared.right.Right.TheVariants as right
 use Rattle.vault_base.specs.Days.{is_moment}
+use Rattle.vault_base.specs.Limits.{most_ids}
 use Rattle.vault_lock.specs.declared.lock.Lock.{Lock}
 use Rattle.vault_lock.specs.declared.retention.Default.{Default}
 use Rattle.vault_lock.specs.declared.retention.Retention.{Retention}
@@ -62,7 +63,7 @@ use Rattle.vault_core_model.specs.declared.reply.Reply.{Reply}
 use Rattle.vault_core_model.specs.declared.reply.Reply.TheVariants.{Done, Refused, Stopped}
 use Rattle.vault_core_model.specs.declared.reply.Stop.TheVariants as stop
 use Rattle.vault_core_model.specs.Change.{changed, next_tenure, removed_by, removed_if, tenured_by, tenured_if, with_setting}
-use Rattle.vault_core_model.specs.Checks.{◌>>=◌, access, administrator, allowed_default, asking, check, ends_later_if_given, found, free_id, free_move, has_period, is_own, known_department, known_department_if_given, lock_at_admission, may_report, most_ids, needs, needs_if, other_department, small_enough, version_meant, within_quota}
+use Rattle.vault_core_model.specs.Checks.{◌>>=◌, access, administrator, allowed_default, asking, check, ends_later_if_given, found, free_id, free_move, has_period, is_own, known_department, known_department_if_given, lock_at_admission, may_report, needs, needs_if, other_department, small_enough, version_meant, within_quota}
 use Rattle.vault_core_model.specs.Reads.{entry_of}
 use Rattle.vault_core_model.specs.Totals.{bucket_bytes}
 use Rattle.vault_core_model.specs.EntryOutcomes as entries

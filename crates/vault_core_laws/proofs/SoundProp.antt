@@ -5,6 +5,7 @@ use Rattle.std.specs.Coded.{Coded-set, coded_ℕ, coded_list, coded_option, code
 use Rattle.std.specs.Ordering.{Ordering-set}
 use Rattle.std.specs.Prelude.{IsSome, IsTrue}
 use mathlib.Core.HLevel.{⊥_prop}
+use Rattle.vault_base.specs.Limits.{most_ids, most_moves}
 use Rattle.vault_tally.specs.Row.{Item, IsRowOf, admitted_size, received_size, held_size, removed_size, handed_size, weight, closed_byte_days, quota}
 use Rattle.vault_tally.specs.declared.row.Row.{Row}
 use Rattle.vault_core_model.specs.declared.records.Entry.{Entry}
@@ -15,7 +16,6 @@ use Rattle.vault_core_model.specs.declared.records.Setting.{Setting}
 use Rattle.vault_core_model.specs.declared.records.Tenure.{Tenure}
 use Rattle.vault_core_model.specs.contracts.records.Setting as setting
 use Rattle.vault_core_model.specs.contracts.records.Tenure as tenure
-use Rattle.vault_core_model.specs.Checks.{most_ids, most_moves}
 use Rattle.vault_core_model.specs.Order.{IsAscending, name_cmp, caller_cmp, bucket_cmp, note_cmp}
 use Rattle.vault_core_model.specs.Reads.{entry_of}
 use Rattle.vault_core_model.specs.Sound.{Sound, AreIdsFrom, AreInOrder, LiesBetween, IsInTime, HasItsBytes, IsWholeAs, IsWhole, IsPlaced, FollowOn, AreTenures, IsWithBucket, HasTenuresAs, HasTenures, end_of, IsNoted, NamesItsVersion, HasLine, IsEmployed, IsOwned, HasPeriod, HasRuleSet, IsInNameOrder}

@@ -13,6 +13,7 @@ use Rattle.std.proofs.lemmas.Option.{get_or_from_slice_get}
 use Rattle.std.proofs.lemmas.List.Elements.{filter-append}
 use Rattle.std.proofs.lemmas.Map.Text.{is_eq-slice_cmp}
 use Rattle.std.proofs.lemmas.Bool.{and_right, or_parts}
+use Rattle.vault_base.specs.Limits.{most_ids, most_keys}
 use Rattle.vault_base.specs.Name.{is_key_prefix, is_object_key}
 use Rattle.vault_core_model.specs.declared.command.ListVersions.{ListVersions}
 use Rattle.vault_core_model.specs.declared.records.History.{History}
@@ -161,7 +162,7 @@ set_few [] = omega arith
 set_few (k ∷ ks) = omega (arith, with_few k (key_set ks), set_few ks)
 
 -- there are no more keys than ids
-pub few_keys : (v : Vault) (bucket after : List ℕ) → Sound v → length (keys_behind v bucket after) ≤ 1000000000
+pub few_keys : (v : Vault) (bucket after : List ℕ) → Sound v → length (keys_behind v bucket after) ≤ most_ids
 few_keys v bucket after sound =
     let held : List History = filter (λ h. is_held_in bucket h.entry) v.histories in
     let keys : List (List ℕ) = map (λ (h : History). h.entry.key) held in
@@ -177,7 +178,7 @@ walk_ends v mid c page0 page page' after next same none left goes =
 
 pub walk_goes_on : (v mid : Vault) (c : ListVersions) (page0 page page' : Page) (after : List ℕ) (next : Option (List ℕ)) (key : List ℕ)
     → mid ≡ v → next ≡ Some key → completed v c page after ≡ completed v c page0 (beginning c) → EndsOrAdvances mid c page after page' next
-    → (completed v c page' key ≡ completed v c page0 (beginning c)) × (length (keys_behind v c.bucket key) + 256 ≤ length (keys_behind v c.bucket after))
+    → (completed v c page' key ≡ completed v c page0 (beginning c)) × (length (keys_behind v c.bucket key) + most_keys ≤ length (keys_behind v c.bucket after))
 walk_goes_on v mid c page0 page page' after next key same some left goes =
     let P : Option (List ℕ) → Type 0 = λ o. EndsOrAdvances mid c page after page' o in
     let Q : Vault → Type 0 = λ w. EndsOrAdvances w c page after page' (Some key) in
@@ -186,18 +187,18 @@ walk_goes_on v mid c page0 page page' after next key same some left goes =
 
 -- a page that isn't whole is the last
 pub last_page : (v mid : Vault) (c : ListVersions) (page page' : Page) (after : List ℕ) (keys : List (List ℕ))
-    → mid ≡ v → length keys < 256 → keys ≡ keys_after v c.bucket after 256
+    → mid ≡ v → length keys < most_keys → keys ≡ keys_after v c.bucket after most_keys
     → page' ≡ filled c.most page (flat_map (asked_at mid c) keys)
     → page' ≡ completed v c page after
 last_page v mid c page page' after keys same lt is now =
     let all : List (List ℕ) = keys_behind v c.bucket after in
-    let few : length all ≤ 256 = omega (arith, length-take 256 all, ap length is) in
+    let few : length all ≤ most_keys = omega (arith, length-take most_keys all, ap length is) in
     now ∙ ap (λ w. filled c.most page (flat_map (asked_at w c) keys)) same
-    ∙ ap (λ ks. filled c.most page (flat_map (asked_at v c) ks)) (is ∙ take_all 256 all few)
+    ∙ ap (λ ks. filled c.most page (flat_map (asked_at v c) ks)) (is ∙ take_all most_keys all few)
 
 -- after a whole page the walk goes on
 pub next_page : (v mid : Vault) (c : ListVersions) (page page' : Page) (after last next : List ℕ) (keys : List (List ℕ))
-    → mid ≡ v → 256 ≤ length keys → keys ≡ keys_after v c.bucket after 256
+    → mid ≡ v → most_keys ≤ length keys → keys ≡ keys_after v c.bucket after most_keys
     → Some last ≡ slice_get keys (length keys - 1) → next ≡ last → (length last == 0) ≡ false
     → page' ≡ filled c.most page (flat_map (asked_at mid c) keys)
     → EndsOrAdvances v c page after page' (Some next)
@@ -206,17 +207,17 @@ next_page v mid c page page' after last next keys same whole is at own named now
     let i : ℕ = length keys - 1 in
     let item : last ≡ get_or keys i last = sym (get_or_from_slice_get keys i last last (sym at)) in
     let front : keys ≡ take i keys ++ last ∷ [] = last_apart keys i last (omega arith) item in
-    let rest : List (List ℕ) = drop 256 all in
-    let cut : all ≡ take i keys ++ last ∷ rest = sym (take-append-drop 256 all) ∙ ap (λ ks. ks ++ rest) (sym is ∙ front) ∙ append_assoc (take i keys) (last ∷ []) rest in
+    let rest : List (List ℕ) = drop most_keys all in
+    let cut : all ≡ take i keys ++ last ∷ rest = sym (take-append-drop most_keys all) ∙ ap (λ ks. ks ++ rest) (sym is ∙ front) ∙ append_assoc (take i keys) (last ∷ []) rest in
     let behind : keys_behind v c.bucket last ≡ rest = behind_page (keys_of v c.bucket) after (take i keys) last rest (rising_keys v c.bucket) cut named in
-    let whole_page : take 256 all ++ rest ≡ all = take-append-drop 256 all in
-    let filled_page : page' ≡ filled c.most page (flat_map (asked_at v c) (take 256 all)) = now ∙ ap (λ w. filled c.most page (flat_map (asked_at w c) keys)) same ∙ ap (λ ks. filled c.most page (flat_map (asked_at v c) ks)) is in
-    let fewer : length (keys_behind v c.bucket last) + 256 ≤ length all = omega (arith, ap length behind, length-drop 256 all, ap length is, length-take 256 all) in
+    let whole_page : take most_keys all ++ rest ≡ all = take-append-drop most_keys all in
+    let filled_page : page' ≡ filled c.most page (flat_map (asked_at v c) (take most_keys all)) = now ∙ ap (λ w. filled c.most page (flat_map (asked_at w c) keys)) same ∙ ap (λ ks. filled c.most page (flat_map (asked_at v c) ks)) is in
+    let fewer : length (keys_behind v c.bucket last) + most_keys ≤ length all = omega (arith, ap length behind, length-drop most_keys all, ap length is, length-take most_keys all) in
     let goal_at_last : EndsOrAdvances v c page after page' (Some last) = (
       ap (λ ks. filled c.most page' (flat_map (asked_at v c) ks)) behind
           ∙ ap (λ (p : Page). filled c.most p (flat_map (asked_at v c) rest)) filled_page
-          ∙ sym (filled-append c.most page (flat_map (asked_at v c) (take 256 all)) (flat_map (asked_at v c) rest))
-          ∙ ap (filled c.most page) (sym (flat_map-append (asked_at v c) (take 256 all) rest))
+          ∙ sym (filled-append c.most page (flat_map (asked_at v c) (take most_keys all)) (flat_map (asked_at v c) rest))
+          ∙ ap (filled c.most page) (sym (flat_map-append (asked_at v c) (take most_keys all) rest))
           ∙ ap (λ ks. filled c.most page (flat_map (asked_at v c) ks)) whole_page,
       fewer,
     ) in
@@ -290,7 +291,7 @@ named_past (y ∷ l) p over = grind arith
 -- where the last key of a page is past the prefix, the walk ends
 pub past_page : (v mid : Vault) (c : ListVersions) (page page' : Page) (after last : List ℕ) (keys : List (List ℕ))
     → Sound v → is_past c last ≡ true
-    → mid ≡ v → 256 ≤ length keys → keys ≡ keys_after v c.bucket after 256
+    → mid ≡ v → most_keys ≤ length keys → keys ≡ keys_after v c.bucket after most_keys
     → Some last ≡ slice_get keys (length keys - 1)
     → page' ≡ filled c.most page (flat_map (asked_at mid c) keys)
     → page' ≡ completed v c page after

@@ -6,6 +6,7 @@ use Rattle.std.specs.Str.{bytes_eq}
 use Rattle.std.proofs.lemmas.Bool.Decides.{nat_tests}
 use Rattle.std.proofs.lemmas.List.{length-map, length-reverse, map-append, reverse-append}
 use Rattle.std.proofs.Math.ListN.{drop_of_length-le}
+use Rattle.vault_base.specs.Limits.{most_ids}
 use Rattle.vault_core_model.specs.declared.command.ListVersions.{ListVersions}
 use Rattle.vault_core_model.specs.declared.records.Entry.{Entry}
 use Rattle.vault_core_model.specs.declared.records.History.{History}
@@ -80,7 +81,7 @@ ids_are v bucket key than n =
     ∙ take-map id_of n (older_at v bucket key than)
 
 -- there are no more of them than ids
-few_older : (v : Vault) (bucket key : List ℕ) (than : Option ℕ) → Sound v → length (older_at v bucket key than) ≤ 1000000000
+few_older : (v : Vault) (bucket key : List ℕ) (than : Option ℕ) → Sound v → length (older_at v bucket key than) ≤ most_ids
 few_older v bucket key than sound =
     omega (arith, filter_few (λ h. is_older than h.entry.id) (reverse (held_at v bucket key)), length-reverse (held_at v bucket key), filter_few (λ h. is_held_at bucket key h.entry) v.histories, sound.enough_ids)
 
@@ -114,19 +115,19 @@ all_left v c key page than n ids sound asked older many read =
           ∙ ap (λ (l : List History). filled c.most page (map (outcome.listed v) l)) (sym (asked_are_older v c key (newest_id v c.bucket key) (reverse (held_at v c.bucket key)) asked are));
     }
   where
-    enough : (room size : ℕ) → size ≤ 1000000000 → (room < min room 1000000000 + 1) ⊎ (size ≤ min room 1000000000 + 1)
-    enough room size few = by_test (nat_le room 1000000000) refl
+    enough : (room size : ℕ) → size ≤ most_ids → (room < min room most_ids + 1) ⊎ (size ≤ min room most_ids + 1)
+    enough room size few = by_test (nat_le room most_ids) refl
       where
-        by_test : (b : Bool) → nat_le room 1000000000 ≡ b → (room < min room 1000000000 + 1) ⊎ (size ≤ min room 1000000000 + 1)
-        by_test true e = let le : room ≤ 1000000000 = grind (arith, nat_tests) in inl (omega arith)
-        by_test false e = let lt : 1000000000 < room = grind (arith, nat_tests) in inr (omega arith)
+        by_test : (b : Bool) → nat_le room most_ids ≡ b → (room < min room most_ids + 1) ⊎ (size ≤ min room most_ids + 1)
+        by_test true e = let le : room ≤ most_ids = grind (arith, nat_tests) in inl (omega arith)
+        by_test false e = let lt : most_ids < room = grind (arith, nat_tests) in inr (omega arith)
 
 -- where each is asked for, the first of them is the newest
 pub first_newest : (v : Vault) (c : ListVersions) (key : List ℕ) (page : Page) (than : Option ℕ) (n : ℕ) (ids : List ℕ) (first : ℕ)
     → n ≡ ids_read c page → ids ≡ ids_before v c.bucket key than n → Some first ≡ slice_get ids 0
     → than ≡ None → newest_id v c.bucket key ≡ Some first
 first_newest v c key page than n ids first many read at none =
-    by_all (filter (is_older None) (reverse (map id_of (held_at v c.bucket key)))) (min (c.most - length page.entries) 1000000000) (at ∙ ap (λ (l : List ℕ). slice_get l 0) (read ∙ ap (λ o. ids_before v c.bucket key o n) none ∙ ap (ids_before v c.bucket key None) many))
+    by_all (filter (is_older None) (reverse (map id_of (held_at v c.bucket key)))) (min (c.most - length page.entries) most_ids) (at ∙ ap (λ (l : List ℕ). slice_get l 0) (read ∙ ap (λ o. ids_before v c.bucket key o n) none ∙ ap (ids_before v c.bucket key None) many))
   where
     by_all : (all : List ℕ) (m : ℕ) → Some first ≡ slice_get (take (m + 1) all) 0 → slice_get (take 1 all) 0 ≡ Some first
     by_all [] m is = sym (rw add-one at is)

@@ -4,6 +4,7 @@ use Rattle.std.specs.List.{starts_with}
 use Rattle.std.specs.Str.{bytes_eq}
 use Rattle.std.specs.Ordering.{nat_cmp, is_gt}
 use Rattle.std.specs.Cmp.Lexicographic.{slice_cmp}
+use Rattle.vault_base.specs.Limits.{most_ids, most_keys}
 use Rattle.vault_core_model.specs.declared.command.ListVersions.{ListVersions}
 use Rattle.vault_core_model.specs.declared.records.Entry.{Entry}
 use Rattle.vault_core_model.specs.declared.reply.Listed.{Listed}
@@ -48,7 +49,7 @@ older_than c key = if is_behind key c.after_key then None else c.after_id
 
 -- how many ids of a key are read: one for each entry that the page still takes, and one by which it is known that there are more
 abbrev pub ids_read : ListVersions → Page → ℕ
-ids_read c page = min (c.most - length page.entries) 1000000000 + 1
+ids_read c page = min (c.most - length page.entries) most_ids + 1
 
 -- the id of the newest held entry of a key
 abbrev pub newest_id : Vault → List ℕ → List ℕ → Option ℕ
@@ -86,12 +87,12 @@ keys_behind v bucket after = filter (λ k. is_behind k after) (keys_of v bucket)
 abbrev pub completed : Vault → ListVersions → Page → List ℕ → Page
 completed v c page after = filled c.most page (flat_map (asked_at v c) (keys_behind v c.bucket after))
 
--- the walk is done with that page, or goes on after a key after at least 256 more
+-- the walk is done with that page, or goes on after a key after at least a page of keys more
 abbrev pub EndsOrAdvances : Vault → ListVersions → Page → List ℕ → Page → Option (List ℕ) → Type 0
 EndsOrAdvances v c page after page' None = page' ≡ completed v c page after
 EndsOrAdvances v c page after page' (Some next) =
     (completed v c page' next ≡ completed v c page after)
-    × (length (keys_behind v c.bucket next) + 256 ≤ length (keys_behind v c.bucket after))
+    × (length (keys_behind v c.bucket next) + most_keys ≤ length (keys_behind v c.bucket after))
 
 -- the page that a listing answers
 abbrev pub page_of : Vault → ListVersions → Page

@@ -9,6 +9,7 @@ ghost use Rattle.vault_core_model.specs.ListingOutcome as outcome;
 ghost use Rattle.vault_core_listing.specs.Walk.{EndsOrAdvances, GrowsBy, IsFirstAsked, asked_at, asked_first, beginning, completed, filled, has_first, has_prefix, ids_read, is_key_asked, is_past, is_prefix_later, newest_id, older_than, page_of};
 
 use std::alloc::{AllocError, Global};
+use vault_base::limits::{MOST_IDS, MOST_KEYS, MOST_LISTED};
 use vault_base::moment::Moment;
 use vault_base::name::{CallerName, KeyPrefix, ObjectKey, VersionId};
 use vault_base::refusal::Refusal;
@@ -20,14 +21,8 @@ use vault_core_model::keeper::Keeper;
 use vault_core_model::records::Entry;
 use vault_core_model::reply::{Answer, Listed, Listing, Page};
 
-/// How many keys are asked of a keeper at once.
-const MOST_KEYS: u32 = 256;
-
 /// So many pages of keys hold a key for each id that there is.
-const MOST_PAGES: u32 = 3_906_251;
-
-/// How many ids there are.
-const MOST_IDS: u64 = 1_000_000_000;
+const MOST_PAGES: u32 = MOST_IDS / MOST_KEYS + 1;
 
 /// Lists the held entries of a bucket that are asked for, and says whether there are more.
 pub fn list_versions<K: Keeper>(
@@ -50,7 +45,7 @@ fn check_most(most: u32) -> Result<(), Halt>
     ensures found { ChecksAs result (check (outcome.is_page_size most) Refusal.InvalidArgument) }
     ensures device { is_device result ≡ false }
 {
-    if most >= 1 && most <= 1000 {
+    if most >= 1 && most <= MOST_LISTED {
         Ok(())
     } else {
         Err(Halt::Refused(Refusal::InvalidArgument))
@@ -254,7 +249,7 @@ fn ids_read(command: &ListVersions, page: &Page) -> u32
 {
     let listed = page.entries.as_slice().len() as u64;
     let room = u64::from(command.most).saturating_sub(listed);
-    room.min(MOST_IDS) as u32 + 1
+    room.min(u64::from(MOST_IDS)) as u32 + 1
 }
 
 /// Whether a key begins as asked.

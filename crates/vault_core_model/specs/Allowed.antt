@@ -1,6 +1,7 @@
 -- Which changes may be made of a vault.
 use Rattle.std.specs.Prelude.{◌≡◌, ℕ, ◌+◌, ◌≤◌, Bool, true, false, List, [], ◌∷◌, Option, Some, None, ◌<◌, IsSome, IsTrue}
 use Rattle.std.specs.Str.{bytes_eq}
+use Rattle.vault_base.specs.Limits.{most_ids, most_moves, most_settings}
 use Rattle.vault_rules.specs.Rules.{is_rule_set, passes_if_given}
 use Rattle.vault_tally.specs.Row.{quota}
 use Rattle.vault_core_model.specs.declared.records.BucketConfig.{BucketConfig}
@@ -14,7 +15,7 @@ use Rattle.vault_core_model.specs.declared.change.Change.{Change}
 use Rattle.vault_core_model.specs.declared.change.Change.TheVariants.{AddDept, AddCaller, CloseCaller, AddBucket, MoveBucket, SetDefault, SetRules, Admit, AddSetting, Remove}
 use Rattle.vault_core_model.specs.Vault.{Vault, has_department, caller_of, config_of, next_id, note_of}
 use Rattle.vault_core_model.specs.Reads.{entry_of, setting_of, count_of_settings}
-use Rattle.vault_core_model.specs.Checks.{most_ids, most_moves, most_settings, has_period}
+use Rattle.vault_core_model.specs.Checks.{has_period}
 use Rattle.vault_core_model.specs.IntakeOutcome.{is_line}
 use Rattle.vault_core_model.specs.Sound.{IsWhole, IsNoted}
 use Rattle.vault_core_model.specs.Totals.{admitted_bytes, received_bytes, bucket_bytes}

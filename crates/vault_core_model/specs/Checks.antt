@@ -6,6 +6,7 @@ use Rattle.vault_base.specs.declared.refusal.Refusal.TheVariants.{ClockBack, Acc
 use Rattle.vault_base.specs.declared.refusal.Reason.TheVariants as reason
 use Rattle.vault_base.specs.declared.right.Right.{Right}
 use Rattle.vault_base.specs.declared.right.Right.TheVariants as right
+use Rattle.vault_base.specs.Limits.{most_content, most_ids, most_moves, most_settings}
 use Rattle.vault_lock.specs.declared.retention.Retention.{Retention}
 use Rattle.vault_lock.specs.declared.lock.Lock.{Lock}
 use Rattle.vault_lock.specs.declared.lock.Permit.{Permit}
@@ -89,10 +90,6 @@ access v t who bucket r = do
   Ok (record { caller = c; bucket = b })
 
 -- ---- the arguments
-
--- the bytes of one version at most
-abbrev pub most_content : ℕ
-most_content = 1048576
 
 abbrev pub small_enough : List ℕ → Result ⊤ Refusal
 small_enough content = check (nat_le (length content) most_content) EntityTooLarge
@@ -180,25 +177,13 @@ lock_at_admission b retention hold t = found (first_lock b.default retention (un
 abbrev pub within_quota : Vault → List ℕ → ℕ → Result ⊤ Refusal
 within_quota v dept size = check (nat_le (admitted_bytes v dept + received_bytes v dept + size) quota) QuotaExceeded
 
--- the last id
-abbrev pub most_ids : ℕ
-most_ids = 1000000000
-
 -- the next id, while one is left
 abbrev pub free_id : Vault → Result ℕ Refusal
 free_id v = if nat_le (next_id v) most_ids then Ok (next_id v) else Err VaultFull
 
--- the moves of buckets at most
-abbrev pub most_moves : ℕ
-most_moves = 1000000000
-
 -- one move more may be made
 abbrev pub free_move : Vault → Result ⊤ Refusal
 free_move v = check (nat_lt v.moves most_moves) VaultFull
-
--- the settings of one version at most
-abbrev pub most_settings : ℕ
-most_settings = 1000000000
 
 -- one setting more may be made of the version of that id
 abbrev pub free_setting : Vault → ℕ → Result ⊤ Refusal

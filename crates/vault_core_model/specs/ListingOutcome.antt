@@ -5,6 +5,7 @@ use Rattle.std.specs.Str.{bytes_eq}
 use Rattle.vault_base.specs.declared.refusal.Refusal.{Refusal}
 use Rattle.vault_base.specs.declared.refusal.Refusal.TheVariants.{NoSuchVersion, MethodNotAllowed, InvalidArgument}
 use Rattle.vault_base.specs.declared.right.Right.TheVariants as right
+use Rattle.vault_base.specs.Limits.{most_listed}
 use Rattle.vault_core_model.specs.declared.records.Entry.{Entry}
 use Rattle.vault_core_model.specs.declared.records.History.{History}
 use Rattle.vault_core_model.specs.declared.command.ListVersions.{ListVersions}
@@ -45,7 +46,7 @@ listed v h = record { entry = h.entry; current = is_current v h }
 
 -- a page of a listing has 1 to 1,000 entries
 abbrev pub is_page_size : ℕ → Bool
-is_page_size most = nat_le 1 most && nat_le most 1000
+is_page_size most = nat_le 1 most && nat_le most most_listed
 
 -- the first of the held entries that are asked for, and whether there are more (API Reference, "ListObjectVersions")
 abbrev pub list_versions : Vault → ℕ → List ℕ → ListVersions → Result (Answer × Vault) Refusal

@@ -1,5 +1,6 @@
 -- The plan of a run of the lifecycle rules over a bucket: three phases, each over the vault that the phase before leaves.
 use Rattle.std.specs.Prelude.{ℕ, ◌+◌, Bool, true, false, nat_lt, List, [], ◌∷◌, ◌++◌, length, flat_map, count_by, slice_get, None, option_map, unwrap_or, if◌then◌else◌}
+use Rattle.vault_base.specs.Limits.{most_ids}
 use Rattle.vault_rules.specs.declared.rule.Rule.{Rule}
 use Rattle.vault_rules.specs.declared.plan.Step.{Step}
 use Rattle.vault_rules.specs.declared.plan.Step.TheVariants.{Mark, Remove, RemoveLone}
@@ -13,7 +14,6 @@ use Rattle.vault_core_model.specs.Vault.{Vault, rules_of, next_id}
 use Rattle.vault_core_model.specs.Places.{keys_of}
 use Rattle.vault_core_model.specs.Reads.{entries_of}
 use Rattle.vault_core_model.specs.Change.{changed}
-use Rattle.vault_core_model.specs.Checks.{most_ids}
 use Rattle.vault_core_model.specs.EntryOutcomes.{new_marker}
 
 -- the rules of a bucket in configuration order; a bucket without lifecycle rules has none

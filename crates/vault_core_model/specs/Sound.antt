@@ -2,6 +2,7 @@
 use Rattle.std.specs.Prelude.{◌≡◌, ℕ, ◌+◌, ◌≤◌, Bool, true, false, List, [], ◌∷◌, length, Option, Some, None, IsSome, IsTrue, ◌<◌, option_map}
 use Rattle.std.specs.List.{AllByRecursion}
 use Rattle.sha2.specs.Sha256.{sha256}
+use Rattle.vault_base.specs.Limits.{most_content, most_ids, most_moves, most_settings}
 use Rattle.vault_tally.specs.Row.{quota}
 use Rattle.vault_rules.specs.Rules.{is_rule_set, passes_if_given}
 use Rattle.vault_core_model.specs.declared.records.Bucket.{Bucket}
@@ -17,7 +18,7 @@ use Rattle.vault_core_model.specs.Order.{IsAscending, name_cmp, caller_cmp, buck
 use Rattle.vault_core_model.specs.Vault.{Vault, config_of, has_department}
 use Rattle.vault_core_model.specs.Reads.{entry_of}
 use Rattle.vault_core_model.specs.Totals.{admitted_bytes, received_bytes}
-use Rattle.vault_core_model.specs.Checks.{most_content, most_ids, most_settings, has_period, most_moves}
+use Rattle.vault_core_model.specs.Checks.{has_period}
 use Rattle.vault_core_model.specs.IntakeOutcome.{is_line}
 
 -- the ids are n, n + 1, n + 2 and so on

@@ -8,7 +8,6 @@ pub mod halt;
 pub mod held;
 pub mod keeper;
 pub mod kept;
-pub mod limits;
 pub mod records;
 pub mod reply;
 pub mod rights;

@@ -3,6 +3,7 @@ use Rattle.std.proofs.Common.{◌≡◌, ℕ, ◌++◌, refl, ◌+◌, ◌≤◌
 use Rattle.std.proofs.lemmas.List.{drop-drop, drop_all, take_all}
 use Rattle.std.proofs.lemmas.List.Sums.{sum_by-cons}
 use Rattle.vault_base.specs.declared.refusal.Refusal.{Refusal}
+use Rattle.vault_base.specs.Limits.{most_ids}
 use Rattle.vault_rules.specs.Rules.{are_rules}
 use Rattle.vault_rules.specs.KeyPlan.{Planned}
 use Rattle.vault_core_model.specs.declared.command.Run as command_run
@@ -15,7 +16,7 @@ use Rattle.vault_core_model.specs.declared.reply.Reply.TheVariants.{Done, Refuse
 use Rattle.vault_core_model.specs.declared.reply.Stop.TheVariants as stop
 use Rattle.vault_core_model.specs.Vault.{Vault}
 use Rattle.vault_core_model.specs.Places.{keys_of}
-use Rattle.vault_core_model.specs.Checks.{◌>>=◌, most_ids}
+use Rattle.vault_core_model.specs.Checks.{◌>>=◌}
 use Rattle.vault_core_model.specs.Plan.{plan, after_steps, counts, rules_in, with_ids, is_mark}
 use Rattle.vault_core_model.specs.RunOutcome.{planned_run, StopsByFault, MakesFirst}
 use Rattle.vault_core_model.specs.Step.{IsStep, IsRun}

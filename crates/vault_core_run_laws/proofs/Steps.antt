@@ -5,6 +5,7 @@ use Rattle.std.specs.List.{AllByRecursion}
 use Rattle.std.specs.Str.{bytes_eq}
 use Rattle.std.proofs.lemmas.List.{length-map, length-append}
 use Rattle.std.proofs.lemmas.List.Sums.{sum_by-cons}
+use Rattle.vault_base.specs.Limits.{most_ids}
 use Rattle.vault_rules.specs.declared.plan.Step.{Step}
 use Rattle.vault_rules.specs.declared.plan.Step.TheVariants.{Mark, Remove, RemoveLone}
 use Rattle.vault_rules.specs.Rules.{are_rules}
@@ -17,7 +18,6 @@ use Rattle.vault_core_model.specs.Vault.{Vault, config_in, config_of, next_id}
 use Rattle.vault_core_model.specs.Places.{is_held, is_held_at}
 use Rattle.vault_core_model.specs.Reads.{held_of, entries_of}
 use Rattle.vault_core_model.specs.Change.{changed, removed_if, removed_by}
-use Rattle.vault_core_model.specs.Checks.{most_ids}
 use Rattle.vault_core_model.specs.EntryOutcomes.{new_marker}
 use Rattle.vault_core_model.specs.Sound.{Sound}
 use Rattle.vault_core_model.specs.Allowed.{Allows, IsAdmission, IsHeldId}

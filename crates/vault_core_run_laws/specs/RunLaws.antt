@@ -1,5 +1,6 @@
 -- Laws of a run of the lifecycle rules over a bucket, step by step and key by key.
 use Rattle.std.specs.Prelude.{◌≡◌, ℕ, ◌+◌, ◌*◌, ◌≤◌, true, List, [], ◌∷◌, ◌++◌, length, take, count_by, IsTrue}
+use Rattle.vault_base.specs.Limits.{most_ids}
 use Rattle.vault_rules.specs.declared.plan.Step.{Step}
 use Rattle.vault_rules.specs.KeyPlan.{Planned, at_key, key_plan, ids_rise}
 use Rattle.vault_core_run_laws.specs.KeyOrder.{IsIn, IsRising}
@@ -8,7 +9,6 @@ use Rattle.vault_core_model.specs.Places.{keys_of}
 use Rattle.vault_core_model.specs.Reads.{entries_of, keys_after}
 use Rattle.vault_core_model.specs.Sound.{Sound}
 use Rattle.vault_core_model.specs.Allowed.{Allows}
-use Rattle.vault_core_model.specs.Checks.{most_ids}
 use Rattle.vault_core_model.specs.Plan.{plan, after_steps, change_of, change_at, rules_in, is_mark}
 use Rattle.vault_core_run_laws.specs.KeyRuns.{MayRun, plans_at, HaveIds, last_key}
 

@@ -1,12 +1,12 @@
 -- One step made, or hindered.
 use Rattle.std.proofs.Common.{◌≡◌, ℕ, ◌+◌, ◌≤◌, true, List, [], length, cond, nat_lt, refl, ap, arith}
 use Rattle.std.proofs.lemmas.Bool.Decides.{nat_tests}
+use Rattle.vault_base.specs.Limits.{most_ids}
 use Rattle.vault_rules.specs.declared.plan.Step.{Step}
 use Rattle.vault_rules.specs.declared.plan.Step.TheVariants.{Mark, Remove, RemoveLone}
 use Rattle.vault_core_model.specs.declared.reply.Counts.{Counts}
 use Rattle.vault_core_model.specs.Vault.{Vault}
 use Rattle.vault_core_model.specs.Change.{changed}
-use Rattle.vault_core_model.specs.Checks.{most_ids}
 use Rattle.vault_core_model.specs.Plan.{change_at, counts}
 use Rattle.vault_core_run_laws.specs.KeyRuns.{HaveIds}
 use Rattle.vault_core_runs.specs.Making.{HasId, MakesAll, only, plus}

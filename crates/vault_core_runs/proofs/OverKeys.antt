@@ -2,6 +2,7 @@
 use Rattle.std.proofs.Common.{◌≡◌, ℕ, zero, suc, ◌+◌, ◌<◌, ◌≤◌, ◌++◌, true, IsTrue, List, [], ◌∷◌, length, take, drop, get_or, Result, Ok, Err, refl, sym, ap, subst, ◌∙◌, arith, inl, append-nil, append_assoc}
 use Rattle.std.proofs.lemmas.List.{take_more, drop_more, take-append-drop, map-append}
 use Rattle.std.proofs.lemmas.List.Concat.{flat_map-append}
+use Rattle.vault_base.specs.Limits.{most_ids}
 use Rattle.vault_rules.specs.declared.rule.Rule.{Rule}
 use Rattle.vault_rules.specs.declared.plan.Held.{Held}
 use Rattle.vault_rules.specs.declared.plan.Step.{Step}
@@ -12,7 +13,6 @@ use Rattle.vault_core_model.specs.declared.reply.Counts.{Counts}
 use Rattle.vault_core_model.specs.Vault.{Vault, next_id}
 use Rattle.vault_core_model.specs.Reads.{entries_of}
 use Rattle.vault_core_model.specs.Allowed.{Allows}
-use Rattle.vault_core_model.specs.Checks.{most_ids}
 use Rattle.vault_core_model.specs.Plan.{after_steps, change_at, rules_in, is_mark}
 use Rattle.vault_core_run_laws.specs.KeyOrder.{IsIn, IsRising}
 use Rattle.vault_core_run_laws.specs.KeyRuns.{MayRun, plan_at, plans_at}

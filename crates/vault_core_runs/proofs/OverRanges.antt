@@ -3,6 +3,7 @@ use Rattle.std.proofs.Common.{◌≡◌, ℕ, suc, ◌+◌, ◌-◌, ◌<◌, �
 use Rattle.std.specs.Prelude.{min, not, filter, IsErrAnd, MatchOption}
 use Rattle.std.specs.Ordering.{is_gt}
 use Rattle.std.proofs.lemmas.List.{take-append-drop, take_all}
+use Rattle.vault_base.specs.Limits.{most_keys}
 use Rattle.vault_base.specs.Name.{is_key_prefix, is_object_key}
 use Rattle.vault_rules.proofs.Truth.{both, le_of_test}
 use Rattle.vault_rules.specs.declared.rule.Rule.{Rule}
@@ -206,12 +207,12 @@ IsLastKey-of keys k after some at same named = record {
 has_byte : (n : ℕ) → 1 ≤ n → (n == 0) ≡ false
 has_byte n h = grind (arith, h)
 
-module _ (v : Vault) (b : List ℕ) (t : ℕ) (a : List ℕ) (keys : List (List ℕ)) (is : keys ≡ keys_after v b a 256) where
+module _ (v : Vault) (b : List ℕ) (t : ℕ) (a : List ℕ) (keys : List (List ℕ)) (is : keys ≡ keys_after v b a most_keys) where
   abbrev rest : List (List ℕ)
-  rest = drop 256 (later_keys v b a)
+  rest = drop most_keys (later_keys v b a)
 
   cut : later_keys v b a ≡ keys ++ rest
-  cut = sym (take-append-drop 256 (later_keys v b a)) ∙ ap (λ l. l ++ rest) (sym is)
+  cut = sym (take-append-drop most_keys (later_keys v b a)) ∙ ap (λ l. l ++ rest) (sym is)
 
   pub page_rises : IsRising keys
   page_rises = rising_left keys rest (subst IsRising cut (filter_rises (λ k. is_behind k a) (keys_of v b) (bucket_keys_rise v b)))
@@ -228,12 +229,12 @@ module _ (v : Vault) (b : List ℕ) (t : ℕ) (a : List ℕ) (keys : List (List 
       (MakesAll-first v v2 v2 b t (plans_at v b t keys) (plans_at v b t rest) (halt.Fault f) x y y m (MakesUpTo-fault v2 b t (plans_at v b t rest) f y v2 refl))
 
   -- the page made
-  pub goes_by_page : (found : Option (List ℕ)) (x y : Counts) (v2 : Vault) → MatchOption found (length keys < 256) (λ k. IsLastKey keys k)
+  pub goes_by_page : (found : Option (List ℕ)) (x y : Counts) (v2 : Vault) → MatchOption found (length keys < most_keys) (λ k. IsLastKey keys k)
       → MakesAll v b t (plans_at v b t keys) x y v2 → GoesOn (Ok found) v b t a x y v2
   goes_by_page None x y v2 short m =
-      let n : length keys ≡ min 256 (length (later_keys v b a)) = ap length is ∙ length-take 256 (later_keys v b a) in
-      let few : length (later_keys v b a) ≤ 256 = let lt : length keys < 256 = short in omega arith in
-      let same : keys ≡ later_keys v b a = is ∙ take_all 256 (later_keys v b a) few in
+      let n : length keys ≡ min most_keys (length (later_keys v b a)) = ap length is ∙ length-take most_keys (later_keys v b a) in
+      let few : length (later_keys v b a) ≤ most_keys = let lt : length keys < most_keys = short in omega arith in
+      let same : keys ≡ later_keys v b a = is ∙ take_all most_keys (later_keys v b a) few in
       subst (λ (ks : List (List ℕ)). MakesAll v b t (plans_at v b t ks) x y v2) same m
   goes_by_page (Some next) x y v2 last m =
       let byte : (length (last_key keys) == 0) ≡ false = subst (λ (k : List ℕ). (length k == 0) ≡ false) last.last (has_byte (length next) last.known) in

@@ -1,5 +1,6 @@
 //! The keys of a bucket that a rule may be for, page by page.
 ghost use Rattle.std.specs.Prelude.{◌≡◌, ◌≤◌, ◌<◌, [], length, IfOk, MatchOption};
+ghost use Rattle.vault_base.specs.Limits.{most_keys};
 ghost use Rattle.vault_core_model.specs.Leaves.{Leaves};
 ghost use Rattle.vault_core_model.specs.Halts.{is_device};
 ghost use Rattle.vault_core_model.specs.Plan.{rules_in};
@@ -12,13 +13,11 @@ use crate::change::BucketRun;
 use crate::key::run_key;
 use crate::ranges::{is_place_ruled, nearest};
 use std::alloc::{AllocError, Global};
+use vault_base::limits::MOST_KEYS;
 use vault_base::name::{KeyPrefix, ObjectKey};
 use vault_core_model::halt::{Fault, Halt};
 use vault_core_model::keeper::Keeper;
 use vault_core_model::reply::Counts;
-
-/// How many keys are asked for at once.
-const PAGE: u32 = 256;
 
 /// Makes the plan of a bucket, range by range and in pages of keys.
 pub fn run_pages<K: Keeper>(
@@ -120,7 +119,7 @@ fn run_after<K: Keeper>(
     ensures goes { K.is_honest keeper.new → GoesOn result (K.vault keeper.old) run.now.bucket run.now.at place.now counts.old counts.new (K.vault keeper.new) }
     ensures leaves { Leaves K.Kept keeper.old keeper.new (is_device result) }
 {
-    let keys = keeper.keys(&run.bucket, place, PAGE)?;
+    let keys = keeper.keys(&run.bucket, place, MOST_KEYS)?;
     run_page(alloc, keeper, run, &keys, counts)?;
     let last = last_seen(&keys)?;
     Ok(last)
@@ -138,9 +137,9 @@ fn before_all(alloc: Global) -> Result<KeyPrefix, AllocError>
 
 /// The last key of a whole page, after which the next page begins; none of the last page.
 fn last_seen(keys: &[ObjectKey]) -> Result<Option<KeyPrefix>, AllocError>
-    ensures { IfOk result (λ found. MatchOption found (length keys.now < 256) (λ last. IsLastKey keys.now last)) }
+    ensures { IfOk result (λ found. MatchOption found (length keys.now < most_keys) (λ last. IsLastKey keys.now last)) }
 {
-    if keys.len() < PAGE as usize {
+    if keys.len() < MOST_KEYS as usize {
         return Ok(None);
     }
     let Some(last) = keys.last() else {

@@ -4,6 +4,7 @@ use Rattle.std.specs.Prelude.{IfOk, option_map, unwrap_or, is_some, nat_le, ◌&
 use Rattle.std.proofs.lemmas.Bool.{leb-true}
 use Rattle.vault_base.specs.declared.refusal.Refusal.TheVariants.{RetentionOutOfRange, InvalidArgument, MethodNotAllowed, EntityTooLarge, QuotaExceeded, VaultFull}
 use Rattle.vault_base.specs.declared.right.Right.TheVariants as right
+use Rattle.vault_base.specs.Limits.{most_content, most_ids}
 use Rattle.vault_lock.specs.declared.lock.Denial.{Denial}
 use Rattle.vault_lock.specs.declared.lock.Denial.TheVariants.{Hold, Compliance, Governance}
 use Rattle.vault_lock.specs.declared.lock.Lock.{Lock}
@@ -35,7 +36,7 @@ use Rattle.vault_core_model.specs.Sound.{Sound}
 use Rattle.vault_core_model.specs.Totals.{admitted_bytes, received_bytes}
 use Rattle.vault_core_model.specs.Allowed.{IsFirstNote, IsHeldId}
 use Rattle.vault_core_model.specs.Rights.{has}
-use Rattle.vault_core_model.specs.Checks.{check, found, needs_if, access, small_enough, most_content, most_ids, ends_later_if_given, held_entry, version_meant, permitted, lock_at_admission, within_quota, free_id}
+use Rattle.vault_core_model.specs.Checks.{check, found, needs_if, access, small_enough, ends_later_if_given, held_entry, version_meant, permitted, lock_at_admission, within_quota, free_id}
 use Rattle.vault_core_model.specs.Change.{changed}
 use Rattle.vault_core_model.specs.EntryOutcomes as entries
 use Rattle.vault_core_model.specs.IntakeOutcome as intakes

@@ -4,6 +4,7 @@ use Rattle.std.specs.Prelude.{IfOk, nat_le, nat_lt, ◌&&◌, if◌then◌else�
 use Rattle.std.proofs.lemmas.Bool.{leb-true, ltb-true, ltb-false, and_parts}
 use Rattle.vault_base.specs.declared.refusal.Refusal.TheVariants.{InvalidArgument, VaultFull}
 use Rattle.vault_base.specs.declared.right.Right.TheVariants as right
+use Rattle.vault_base.specs.Limits.{most_settings}
 use Rattle.vault_lock.specs.declared.lock.Lock.{Lock}
 use Rattle.vault_lock.specs.declared.lock.Permit.{Permit}
 use Rattle.vault_lock.specs.declared.lock.Permit.TheVariants.{Free, Bypass}
@@ -23,7 +24,7 @@ use Rattle.vault_core_model.specs.Vault.{Vault, caller_of}
 use Rattle.vault_core_model.specs.Reads.{setting_of, lock_of, count_of_settings}
 use Rattle.vault_core_model.specs.Sound.{Sound}
 use Rattle.vault_core_model.specs.Allowed.{IsNextSetting, IsHeldId}
-use Rattle.vault_core_model.specs.Checks.{access, ends_later, version_meant, permitted, free_setting, most_settings}
+use Rattle.vault_core_model.specs.Checks.{access, ends_later, version_meant, permitted, free_setting}
 use Rattle.vault_core_model.specs.LockOutcomes as locks
 use Rattle.vault_core_worm_laws.specs.Entitled.{HasRight, IsSetByRight}
 use Rattle.vault_core_worm_laws.specs.Permits.{IsRetentionSetting, IsPermittedSetting}

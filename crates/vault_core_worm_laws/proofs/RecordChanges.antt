@@ -8,6 +8,7 @@ use Rattle.vault_base.specs.declared.refusal.Refusal.TheVariants.{NameTaken, Buc
 use Rattle.vault_rules.specs.Rules.{is_rule_set, passes_if_given}
 use Rattle.vault_tally.specs.Row.{quota}
 use Rattle.vault_base.specs.declared.right.Right.TheVariants as right
+use Rattle.vault_base.specs.Limits.{most_moves}
 use Rattle.vault_core_model.specs.declared.change.Change.{Change}
 use Rattle.vault_core_model.specs.declared.change.Change.TheVariants as change
 use Rattle.vault_core_model.specs.declared.command.AddDept.{AddDept}
@@ -27,7 +28,7 @@ use Rattle.vault_core_model.specs.declared.reply.Answer.{Answer}
 use Rattle.vault_core_model.specs.Vault.{Vault, caller_of, config_of, has_department, rules_of}
 use Rattle.vault_core_model.specs.Change.{changed}
 use Rattle.vault_core_model.specs.Totals.{admitted_bytes, received_bytes, bucket_bytes}
-use Rattle.vault_core_model.specs.Checks.{check, found, needs, access, allowed_default, has_period, asking, administrator, known_department, known_department_if_given, other_department, within_quota, free_move, most_moves, may_report}
+use Rattle.vault_core_model.specs.Checks.{check, found, needs, access, allowed_default, has_period, asking, administrator, known_department, known_department_if_given, other_department, within_quota, free_move, may_report}
 use Rattle.vault_core_model.specs.RecordOutcomes as records
 use Rattle.vault_core_worm_laws.specs.Chains.{MayMake, MayMakeAll}
 use Rattle.vault_core_worm_laws.proofs.Checked.{bind_if, if_weaker, any-is, check-is, found-is, not-true, not_some, some_is, IsAsking, asking-is, administrator-is, HasAccess, access-only}

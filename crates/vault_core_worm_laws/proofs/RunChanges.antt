@@ -6,6 +6,7 @@ use Rattle.std.proofs.lemmas.Bool.{ltb-true}
 use Rattle.std.proofs.lemmas.List.{length-map, length-append}
 use Rattle.vault_base.specs.declared.refusal.Refusal.{Refusal}
 use Rattle.vault_base.specs.declared.right.Right.TheVariants as right
+use Rattle.vault_base.specs.Limits.{most_ids}
 use Rattle.vault_lock.specs.declared.lock.Denial.{Denial}
 use Rattle.vault_lock.specs.Lock.{guards, is_locked}
 use Rattle.vault_rules.specs.declared.plan.Step.{Step}
@@ -26,7 +27,7 @@ use Rattle.vault_core_model.specs.declared.reply.Reply.TheVariants.{Done, Refuse
 use Rattle.vault_core_model.specs.declared.reply.Stop.TheVariants as stop
 use Rattle.vault_core_model.specs.Vault.{Vault, history_of, config_of, next_id, last_lock}
 use Rattle.vault_core_model.specs.Change.{changed}
-use Rattle.vault_core_model.specs.Checks.{most_ids, access}
+use Rattle.vault_core_model.specs.Checks.{access}
 use Rattle.vault_core_model.specs.Sound.{IsWhole, IsWholeAs, Sound}
 use Rattle.vault_core_model.specs.Places.{keys_of}
 use Rattle.vault_core_model.specs.Plan.{rules_in, change_at, change_of, after_steps, plan, is_mark, with_ids}

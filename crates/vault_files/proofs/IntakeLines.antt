@@ -8,6 +8,7 @@ use Rattle.sha2.specs.Sha256.{sha256}
 use Rattle.vault_base.specs.Days.{last_moment}
 use Rattle.vault_base.specs.declared.refusal.Refusal.{Refusal}
 use Rattle.vault_base.specs.declared.refusal.Refusal.TheVariants.{ClockBack, VaultFull, RetentionOutOfRange, QuotaExceeded, InvalidArgument, IntakeConflict}
+use Rattle.vault_base.specs.Limits.{most_ids}
 use Rattle.vault_lock.specs.declared.lock.Lock.{Lock}
 use Rattle.vault_lock.specs.declared.retention.Mode.{Mode}
 use Rattle.vault_lock.specs.declared.retention.Mode.TheVariants.{Governance, Compliance}
@@ -23,7 +24,7 @@ use Rattle.vault_core_model.specs.declared.reply.Answer.{Answer}
 use Rattle.vault_core_model.specs.declared.reply.Answer.TheVariants as answer
 use Rattle.vault_core_model.specs.declared.reply.TakenIn.{TakenIn}
 use Rattle.vault_core_model.specs.Change.{changed}
-use Rattle.vault_core_model.specs.Checks.{◌>>=◌, check, found, small_enough, ends_later_if_given, lock_at_admission, within_quota, free_id, most_ids}
+use Rattle.vault_core_model.specs.Checks.{◌>>=◌, check, found, small_enough, ends_later_if_given, lock_at_admission, within_quota, free_id}
 use Rattle.vault_core_model.specs.EntryOutcomes.{access_to_put, new_version}
 use Rattle.vault_core_model.specs.IntakeOutcome.{is_same_retention, is_same_hold, agrees, is_line, new_note, lock_to_take_in, take_in, intake_by, intake}
 use Rattle.vault_core_model.specs.Totals.{admitted_bytes, received_bytes}

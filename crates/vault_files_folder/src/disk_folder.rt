@@ -7,8 +7,8 @@ use crate::reading::read_at_most;
 use std::alloc::{AllocError, Global};
 use std::path::{Path, PathBuf};
 use std::rt::Files;
+use vault_base::limits::MOST_CONTENT;
 use vault_core_model::halt::Fault;
-use vault_core_model::limits::MOST_CONTENT;
 use vault_files_intake::file_name::FileName;
 use vault_files_intake::folder::Folder;
 

@@ -7,7 +7,7 @@ use std::io::{self, ErrorKind, Read};
 use std::rt::Files;
 use thiserror::Error;
 use unicode_normalization::{to_nfc, to_nfd};
-use vault_core_model::limits::MOST_CONTENT;
+use vault_base::limits::MOST_CONTENT;
 use vault_files_intake::file_name::FileName;
 
 /// Why the file of a row isn't taken in.

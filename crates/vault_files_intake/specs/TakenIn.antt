@@ -3,6 +3,7 @@ use Rattle.std.specs.Prelude.{◌≡◌, ℕ, ◌+◌, ◌<◌, List, [], ◌∷
 use Rattle.std.specs.List.{list_any}
 use Rattle.vault_base.specs.declared.refusal.Refusal.{Refusal}
 use Rattle.vault_base.specs.declared.refusal.Refusal.TheVariants as refusal
+use Rattle.vault_base.specs.Limits.{most_content}
 use Rattle.vault_core_model.specs.declared.command.Command.TheVariants as command
 use Rattle.vault_core_model.specs.declared.command.Intake.{Intake}
 use Rattle.vault_core_model.specs.declared.halt.Fault.{Fault}
@@ -11,7 +12,6 @@ use Rattle.vault_core_model.specs.declared.halt.Halt.{Halt}
 use Rattle.vault_core_model.specs.declared.halt.Halt.TheVariants as halt
 use Rattle.vault_core_model.specs.declared.reply.Reply.{Reply}
 use Rattle.vault_core_model.specs.declared.reply.Reply.TheVariants as reply
-use Rattle.vault_core_model.specs.Checks.{most_content}
 use Rattle.vault_core_model.specs.Halts.{is_device_fault, is_device_refusal, is_device_reply}
 use Rattle.vault_core_model.specs.Step.{IsStep, is_fault}
 use Rattle.vault_core_model.specs.Vault.{Vault}

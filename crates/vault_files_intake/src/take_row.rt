@@ -18,6 +18,7 @@ use crate::row::{Row, read_row};
 use csv::ByteRecord;
 use std::alloc::{AllocError, Global};
 use vault_base::content::Content;
+use vault_base::limits::MOST_CONTENT;
 use vault_base::moment::Moment;
 use vault_base::name::{BatchName, BucketName, CallerName};
 use vault_base::refusal::Refusal;
@@ -25,7 +26,6 @@ use vault_core::step::step;
 use vault_core_model::command::{Command, Intake, Put};
 use vault_core_model::halt::{Fault, Halt};
 use vault_core_model::keeper::Keeper;
-use vault_core_model::limits::MOST_CONTENT;
 use vault_core_model::reply::Reply;
 use vault_values::fault::LineFault;
 

@@ -7,10 +7,10 @@ ghost use Rattle.vault_http_lines.specs.ListLine as spec;
 
 use serde_json::Value;
 use std::alloc::Global;
+use vault_base::limits::MOST_LISTED;
 use vault_base::name::VersionId;
 use vault_base::refusal::Refusal;
 use vault_core_model::command::{Command, ListVersions};
-use vault_core_model::limits::MOST_LISTED;
 use vault_http_values::values;
 use vault_values::fault::LineFault;
 

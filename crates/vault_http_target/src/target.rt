@@ -10,10 +10,10 @@ use crate::path::{before, behind};
 use crate::query::{Pair, are_among, count_among, has_named, pairs_of, value_named};
 use crate::resource_path::{ResourcePath, resource_path_of};
 use std::alloc::Global;
+use vault_base::limits::MOST_LISTED;
 use vault_base::name::{BucketName, KeyPrefix, ObjectKey, VersionId};
 use vault_base::refusal::Refusal;
 use vault_core_model::command::ListVersions;
-use vault_core_model::limits::MOST_LISTED;
 use vault_values::fault::LineFault;
 use vault_values::named::prefix_named;
 

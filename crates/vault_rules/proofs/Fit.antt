@@ -6,6 +6,7 @@ use Rattle.std.proofs.lemmas.List.Elements.{All-head, All-tail, All-nil, All-con
 use Rattle.std.proofs.lemmas.Iterator.Adapters.{position_from-zero}
 use Rattle.std.proofs.lemmas.Bool.Decides.{nat_tests}
 use Rattle.vault_base.specs.Days.{day_length, midnight_from}
+use Rattle.vault_base.specs.Limits.{most_rules}
 use Rattle.vault_rules.specs.declared.rule.Rule.{Rule}
 use Rattle.vault_rules.specs.declared.rule.Noncurrent.{Noncurrent}
 use Rattle.vault_rules.specs.declared.rule_set.RuleFault.{RuleFault}
@@ -70,7 +71,7 @@ all_timed before (r ∷ rs) h =
 
 set_timed : (rules : List Rule) → IsTrue (is_rule_set rules) → All IsTimed rules
 set_timed [] h = absurd (cc)
-set_timed (r ∷ rs) h = all_timed [] (r ∷ rs) (no_fault (nat_lt 1000 (length (r ∷ rs))) TooMany (first_fault [] (r ∷ rs)) h).1
+set_timed (r ∷ rs) h = all_timed [] (r ∷ rs) (no_fault (nat_lt most_rules (length (r ∷ rs))) TooMany (first_fault [] (r ∷ rs)) h).1
 
 -- ---- what is due
 

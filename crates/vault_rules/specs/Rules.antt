@@ -1,7 +1,8 @@
 -- Which lists of lifecycle rules a bucket may have.
-use Rattle.std.specs.Prelude.{ℕ, Bool, true, false, not, ◌&&◌, ◌||◌, ◌==◌, nat_lt, nat_le, List, [], ◌∷◌, ◌++◌, length, Option, Some, None, is_some, is_none}
+use Rattle.std.specs.Prelude.{ℕ, ◌+◌, Bool, true, false, not, ◌&&◌, ◌||◌, ◌==◌, nat_lt, nat_le, List, [], ◌∷◌, ◌++◌, length, Option, Some, None, is_some, is_none}
 use Rattle.std.specs.List.{list_any}
 use Rattle.std.specs.Str.{bytes_eq}
+use Rattle.vault_base.specs.Limits.{most_content, most_rules}
 use Rattle.vault_rules.specs.declared.rule.Noncurrent.{Noncurrent}
 use Rattle.vault_rules.specs.declared.rule.Rule.{Rule}
 use Rattle.vault_rules.specs.declared.rule_set.RuleFault.{RuleFault}
@@ -25,11 +26,11 @@ is_noncurrent_action n = is_day_count n.days && passes_if_given is_newer_count n
 
 -- ObjectSizeGreaterThan is at most 1,048,576, which is the most that a version has
 abbrev pub is_lower_bound : ℕ → Bool
-is_lower_bound n = nat_le n 1048576
+is_lower_bound n = nat_le n most_content
 
 -- ObjectSizeLessThan is 1 to 1,048,577
 abbrev pub is_upper_bound : ℕ → Bool
-is_upper_bound n = nat_le 1 n && nat_le n 1048577
+is_upper_bound n = nat_le 1 n && nat_le n (most_content + 1)
 
 -- where both bounds are given, the lower one is below the upper one
 abbrev pub are_in_order : Option ℕ → Option ℕ → Bool
@@ -83,7 +84,7 @@ first_fault before (r ∷ rs) = first_of_both (fault_of before r) (first_fault (
 -- what is wrong with a list of rules, if anything is (S3 User Guide, "Lifecycle configuration elements")
 abbrev pub rules_fault : List Rule → Option RuleFault
 rules_fault [] = Some NoRules
-rules_fault (r ∷ rs) = fault_where (nat_lt 1000 (length (r ∷ rs))) TooMany (first_fault [] (r ∷ rs))
+rules_fault (r ∷ rs) = fault_where (nat_lt most_rules (length (r ∷ rs))) TooMany (first_fault [] (r ∷ rs))
 
 -- a list that a bucket may have
 abbrev pub is_rule_set : List Rule → Bool

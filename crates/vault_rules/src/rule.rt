@@ -4,6 +4,7 @@ ghost use Rattle.vault_rules.specs.Rules.{is_day_count, is_newer_count, is_noncu
 ghost use Rattle.vault_rules.specs.Due.{have_passed, fits, days_have_passed, noncurrent_has_passed};
 
 use std::alloc::AllocError;
+use vault_base::limits::MOST_CONTENT;
 use vault_base::moment::{DAY, Moment};
 use vault_base::name::{KeyPrefix, ObjectKey, RuleId};
 
@@ -68,14 +69,14 @@ pub fn is_newer_count(newer: u32) -> bool
 fn is_lower_bound(bound: u64) -> bool
     ensures { result ≡ is_lower_bound bound }
 {
-    bound <= 1_048_576
+    bound <= MOST_CONTENT as u64
 }
 
 /// Whether an upper bound of sizes that a rule names is from 1 to 1,048,577.
 fn is_upper_bound(bound: u64) -> bool
     ensures { result ≡ is_upper_bound bound }
 {
-    1 <= bound && bound <= 1_048_577
+    1 <= bound && bound <= MOST_CONTENT as u64 + 1
 }
 
 /// Whether the lower bound is below the upper one, where both are given.

@@ -6,6 +6,7 @@ use crate::rule::Rule;
 use std::alloc::AllocError;
 use std::marker::Model;
 use thiserror::Error;
+use vault_base::limits::MOST_RULES;
 use vault_base::name::RuleId;
 
 /// What is wrong with a list of rules.
@@ -67,7 +68,7 @@ impl RuleSet {
         if rules.is_empty() {
             return Err(RuleFault::NoRules);
         }
-        if rules.len() > 1_000 {
+        if rules.len() > MOST_RULES {
             return Err(RuleFault::TooMany);
         }
         match first_fault(&rules) {

@@ -3,6 +3,7 @@ use Rattle.std.proofs.Common.{◌≡◌, ℕ, ◌≤◌, List, [], ◌∷◌, le
 use Rattle.std.specs.Prelude.{is_none, nat_lt}
 use Rattle.std.specs.List.{AllByRecursion}
 use Rattle.vault_base.specs.Days.{last_moment}
+use Rattle.vault_base.specs.Limits.{most_content}
 use Rattle.vault_base.specs.Name.{is_version_id}
 use Rattle.vault_lock.specs.Retention.{is_period}
 use Rattle.vault_lock.specs.declared.retention.Default.{Default}
@@ -18,7 +19,7 @@ use Rattle.vault_core_model.specs.declared.change.Admission.{Admission}
 use Rattle.vault_core_model.specs.declared.change.Change.TheVariants as change
 use Rattle.vault_core_model.specs.Allowed.{IsAdmission, IsFirstNote, IsNextSetting, HasFirst}
 use Rattle.vault_core_model.specs.Allowed as allowed
-use Rattle.vault_core_model.specs.Checks.{has_period, most_content}
+use Rattle.vault_core_model.specs.Checks.{has_period}
 use Rattle.vault_core_model.specs.IntakeOutcome.{is_line}
 use Rattle.vault_core_model.specs.Sound.{HasItsBytes, IsWholeAs, IsNoted}
 use Rattle.vault_core_model.specs.Vault.{Vault}

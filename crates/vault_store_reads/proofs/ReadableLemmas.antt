@@ -6,8 +6,8 @@ use Rattle.std.specs.Cmp.Lexicographic.{slice_cmp}
 use Rattle.std.specs.Str.{bytes_eq}
 use Rattle.sqlite_keyed.proofs.ListLemmas.{map-map}
 use Rattle.sqlite_value.specs.Order.{Row}
+use Rattle.vault_base.specs.Limits.{most_content, most_settings}
 use Rattle.vault_base.specs.Name.{is_version_id}
-use Rattle.vault_core_model.specs.Checks.{most_content, most_settings}
 use Rattle.vault_core_model.specs.Places.{is_held_at, is_held_in, is_behind, held_at, keys_of, key_set, with_key, with_key_by}
 use Rattle.vault_core_model.specs.Reads.{buckets_after, entries_of, head_over, held_of, ids_before, is_older, keys_after, last_setting, setting_of}
 use Rattle.vault_core_model.specs.Sound.{IsWhole}

@@ -3,9 +3,9 @@ use Rattle.std.specs.Prelude.{◌≤◌, List, IsTrue, IfSome}
 use Rattle.std.specs.List.{AllByRecursion}
 use Rattle.sqlite_value.specs.Order.{Row}
 use Rattle.vault_base.specs.Days.{last_moment}
+use Rattle.vault_base.specs.Limits.{most_content, most_settings}
 use Rattle.vault_base.specs.Name.{is_version_id}
 use Rattle.vault_core_model.specs.declared.records.LastSetting.{LastSetting}
-use Rattle.vault_core_model.specs.Checks.{most_content, most_settings}
 use Rattle.vault_audit_model.specs.Limits.{IsRetention}
 use Rattle.vault_audit_walk.specs.Records.{ReportsOne}
 use Rattle.vault_store_reads.specs.declared.rows_in_order.shown.HeldRow.{HeldRow}

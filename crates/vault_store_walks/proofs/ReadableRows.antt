@@ -2,7 +2,7 @@
 use Rattle.std.proofs.Common.{◌≡◌, ℕ, ◌≤◌, List, [], ◌∷◌, ◌++◌, map, flat_map, not, option_to_list, sym, subst}
 use Rattle.std.specs.List.{AllByRecursion}
 use Rattle.sqlite_value.specs.Order.{Row}
-use Rattle.vault_core_model.specs.Checks.{most_content}
+use Rattle.vault_base.specs.Limits.{most_content}
 use Rattle.vault_core_model.specs.Places.{is_held, is_held_version_in}
 use Rattle.vault_core_model.specs.Reads.{removed_entries}
 use Rattle.vault_core_model.specs.Sound.{last_tenure}

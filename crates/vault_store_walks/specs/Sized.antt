@@ -2,7 +2,7 @@
 use Rattle.std.specs.Prelude.{ℕ, ◌*◌, ◌≤◌, List, [], ◌∷◌, map, option_to_list}
 use Rattle.sqlite_value.specs.Order.{Row}
 use Rattle.vault_base.specs.Days.{day, last_moment}
-use Rattle.vault_core_model.specs.Checks.{most_content}
+use Rattle.vault_base.specs.Limits.{most_content}
 use Rattle.vault_core_model.specs.Sound.{last_tenure}
 use Rattle.vault_core_model.specs.declared.records.History.{History}
 use Rattle.vault_core_model.specs.declared.records.Tenure.{Tenure}

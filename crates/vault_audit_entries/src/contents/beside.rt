@@ -15,7 +15,7 @@ use vault_audit_model::schema::Edition;
 use vault_audit_rows::cell::{bytes, content, is_null, number, version_id};
 use vault_audit_rows::misread::Misread;
 use vault_audit_walk::walk::{Pass, walk};
-use vault_core_model::limits::MOST_CONTENT;
+use vault_base::limits::MOST_CONTENT;
 
 /// The check of bytes by rising id.
 #[derive(Drop)]

@@ -19,9 +19,9 @@ use vault_audit_rows::cell::{moment, moment_or_null, number, number_within, vers
 use vault_audit_rows::misread::Misread;
 use vault_audit_rows::name::dept_name;
 use vault_audit_walk::walk::{Pass, walk};
+use vault_base::limits::MOST_MOVES;
 use vault_base::moment::Moment;
 use vault_base::name::VersionId;
-use vault_core_model::limits::MOST_MOVES;
 use vault_core_model::records::Tenure;
 
 /// A tenure, and what counts of its version.

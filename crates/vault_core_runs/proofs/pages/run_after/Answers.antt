@@ -1,5 +1,6 @@
 use Rattle.std.proofs.Common.{ℕ, ◌<◌, List, length, sym, ap, subst, ◌∙◌}
 use Rattle.std.specs.Prelude.{MatchOption}
+use Rattle.vault_base.specs.Limits.{most_keys}
 use Rattle.vault_core_model.specs.declared.halt.Fault.TheVariants as fault
 use Rattle.vault_core_model.specs.declared.halt.Halt.TheVariants as halt
 use Rattle.vault_core_model.specs.Vault.{Vault}
@@ -72,6 +73,6 @@ returns-clause-goes g c = λ h.
     let v2 = g.K.Kept.vault c.run_page.new.keeper in
     let page = c.deref.ensures.value ∙ c.in_ok-keys.ensures.value (c.run_page.ensures.leaves.honest h) in
     let last = c.in_ok-last.last in
-    let found = subst (λ (ks : List (List ℕ)). MatchOption last (length ks < 256) (λ k. IsLastKey ks k)) (c.deref-2.ensures.value ∙ sym c.deref.ensures.value) c.in_ok-last.ensures in
+    let found = subst (λ (ks : List (List ℕ)). MatchOption last (length ks < most_keys) (λ k. IsLastKey ks k)) (c.deref-2.ensures.value ∙ sym c.deref.ensures.value) c.in_ok-last.ensures in
     goes_by_page v b t c.args.place.now keys page last c.args.counts.now y v2 found
     (subst (λ (u : Vault). MakesAll u b t (plans_at u b t keys) c.args.counts.now y v2) c.keys.ensures.leaves.same (c.in_ok-run_page.ensures.makes h))

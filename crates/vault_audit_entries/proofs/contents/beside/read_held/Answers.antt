@@ -2,7 +2,7 @@ use Rattle.std.proofs.Common.{rules, ◌≡◌, ◌≤◌, length, ◌∙◌, ap
 use Rattle.sha2.specs.Sha256.{sha256}
 use Rattle.sqlite_value.specs.declared.value.Value.TheVariants.{Null, Blob}
 use Rattle.sqlite_value.specs.Order.{column}
-use Rattle.vault_core_model.specs.Checks.{most_content}
+use Rattle.vault_base.specs.Limits.{most_content}
 use Rattle.vault_audit_model.specs.Values.{number}
 use Rattle.vault_audit_rows.proofs.RowLemmas.{row_of_5}
 use Rattle.vault_audit_entries.proofs.contents.beside.read_held.Goals as goal
