@@ -1,23 +1,29 @@
 -- The first step of a plan removes nothing that is locked.
-use Rattle.std.proofs.Common.{◌≡◌, ◌⊎◌, ℕ, ◌++◌, Bool, true, false, IsTrue, List, [], ◌∷◌, Option, Some, None, refl, sym, ap, subst, ◌∙◌, inl, inr}
-use Rattle.std.specs.Prelude.{not}
+use Rattle.std.proofs.Common.{◌≡◌, ◌⊎◌, ℕ, ◌++◌, Bool, true, false, List, [], ◌∷◌, Option, Some, None, refl, sym, ap, subst, ◌∙◌, inl, inr}
+use Rattle.std.specs.Prelude.{◌==◌, find, not}
+use Rattle.std.specs.List.{AllByRecursion}
 use Rattle.vault_lock.specs.Lock.{is_locked}
-use Rattle.vault_rules.specs.declared.rule.Rule.{Rule}
 use Rattle.vault_rules.specs.declared.plan.Held.{Held}
 use Rattle.vault_rules.specs.declared.plan.Step.{Step}
 use Rattle.vault_rules.specs.declared.plan.Step.TheVariants.{Mark, Remove, RemoveLone}
-use Rattle.vault_rules.specs.Rules.{are_rules}
 use Rattle.vault_rules.specs.KeyPlan.{Planned, id_above}
 use Rattle.vault_rules.specs.Walk.{Dues, dues, unless, last_mark, marker_at, marked_by, removal, mark_step, remove_step, lone_step, removals, left_over, lone_removal, later_phases, walk}
 use Rattle.vault_rules.proofs.KeyRepeat.{rises, left_all}
 use Rattle.vault_rules.proofs.Lasts.{walk_unmarked}
 use Rattle.vault_rules.proofs.Sets.{key_plan-walk}
 use Rattle.vault_core_model.specs.declared.records.History.{History}
+use Rattle.vault_core_model.specs.declared.records.Setting.{Setting}
 use Rattle.vault_core_model.specs.Vault.{Vault, last_lock}
 use Rattle.vault_core_model.specs.Places.{is_held_at}
 use Rattle.vault_core_model.specs.Reads.{held_of, entries_of}
-use Rattle.vault_core_run_laws.proofs.Entries.{AreOrderly, put_if, entries_in, entries_in-cons, order_entries}
-use Rattle.vault_core_run_laws.proofs.OnePlan.{IsPlan, first_of}
+use Rattle.vault_core_model.specs.Sound.{IsWhole, IsWholeAs, Sound}
+use Rattle.vault_core_model.specs.Plan.{rules_in}
+use Rattle.vault_core_laws.proofs.Newest.{finds_itself}
+use Rattle.vault_core_run_laws.specs.KeyRuns.{MayRun, plans_at}
+use Rattle.vault_core_run_laws.specs.RunLaws.{IsFree, RemovesFree}
+use Rattle.vault_core_run_laws.proofs.Entries.{put_if, entries_in, entries_in-cons, order_entries}
+use Rattle.vault_core_run_laws.proofs.OnePlan.{first_of}
+use Rattle.vault_core_run_laws.proofs.Steps.{orderly}
 
 -- ---- at a key
 
@@ -88,38 +94,48 @@ walk_free d t hs s ss e = cases (last_mark d hs) refl
         let same : Mark r ≡ s = cc in
         subst (Frees d hs) same tt
 
--- ---- in the bucket
+-- ---- in the vault
 
--- a held entry of that id and key isn't locked at t, or is a marker
-abbrev pub HasFree : List ℕ → List ℕ → ℕ → ℕ → List History → Type 0
-HasFree b k t i [] = ⊥
-HasFree b k t i (h ∷ hs) =
-    ((h.entry.id ≡ i) × (is_held_at b k h.entry ≡ true) × ((is_locked (last_lock h.settings) t ≡ false) ⊎ (h.entry.marker ≡ true))) ⊎ HasFree b k t i hs
+bare : (h : History) (marker : Bool) → marker ≡ true → IsWholeAs marker h.entry h.content h.settings → h.settings ≡ []
+bare h true e whole = whole.3
+bare h false e whole = absurd (cc e)
 
--- what the step removes, if anything, may be removed
-abbrev pub IsFreeStep : List ℕ → List ℕ → ℕ → List History → Step → Type 0
-IsFreeStep b k t hs (Mark r) = Unit {0}
-IsFreeStep b k t hs (Remove i r) = HasFree b k t i hs
-IsFreeStep b k t hs (RemoveLone i r) = HasFree b k t i hs
+-- a marker has no lock
+unlocked : (h : History) (t : ℕ) → IsWhole h → (is_locked (last_lock h.settings) t ≡ false) ⊎ (h.entry.marker ≡ true) → is_locked (last_lock h.settings) t ≡ false
+unlocked h t whole (inl free) = free
+unlocked h t whole (inr marker) =
+    let P : List Setting → Type 0 = λ ss. is_locked (last_lock ss) t ≡ false in subst P (sym (bare h h.entry.marker marker whole)) refl
 
-module _ (rules : List Rule) (b : List ℕ) (t : ℕ) (k : List ℕ) where
-  put_free : (i : ℕ) (h : History) (hs : List History) (c : Bool) → is_held_at b k h.entry ≡ c → FreeIn (dues rules k t) i (put_if c (held_of h) (entries_in b k hs)) → (FreeIn (dues rules k t) i (entries_in b k hs) → HasFree b k t i hs) → HasFree b k t i (h ∷ hs)
-  put_free i h hs true here (inl own) later = inl (own.0, here, own.1)
-  put_free i h hs true here (inr rest) later = inr (later rest)
-  put_free i h hs false here rest later = inr (later rest)
+module _ (v : Vault) (b k : List ℕ) (t : ℕ) (sound : Sound v) where
+  abbrev d : Dues
+  d = dues (rules_in v b) k t
 
-  has_free : (i : ℕ) (hs : List History) → FreeIn (dues rules k t) i (entries_in b k hs) → HasFree b k t i hs
-  has_free i [] free = absurd free
-  has_free i (h ∷ hs) free = put_free i h hs (is_held_at b k h.entry) refl (subst (FreeIn (dues rules k t) i) (entries_in-cons b k h hs) free) (has_free i hs)
+  free_in : (i : ℕ) (hs : List History) → AllByRecursion (λ y. find (λ h. h.entry.id == y.entry.id) v.histories ≡ Some y) hs → AllByRecursion IsWhole hs → FreeIn d i (entries_in b k hs) → IsFree v b k t i
+  free_in i [] own whole free = absurd free
+  free_in i (h ∷ hs) own whole free = cases (is_held_at b k h.entry) refl (subst (FreeIn d i) (entries_in-cons b k h hs) free) (free_in i hs own.1 whole.1)
+    where
+      cases : (c : Bool) → is_held_at b k h.entry ≡ c → FreeIn d i (put_if c (held_of h) (entries_in b k hs)) → (FreeIn d i (entries_in b k hs) → IsFree v b k t i) → IsFree v b k t i
+      cases true held (inl here) later = record {
+        history = h;
+        there = subst (λ n. find (λ g. g.entry.id == n) v.histories ≡ Some h) here.0 own.0;
+        held = held;
+        unlocked = unlocked h t whole.0 here.1;
+      }
+      cases true held (inr rest) later = later rest
+      cases false held rest later = later rest
 
-  free_step : (hs : List History) (s : Step) → Frees (dues rules k t) (entries_in b k hs) s → IsFreeStep b k t hs s
-  free_step hs (Mark r) free = tt
-  free_step hs (Remove i r) free = has_free i hs free
-  free_step hs (RemoveLone i r) free = has_free i hs free
+  is_free : (i : ℕ) → FreeIn d i (entries_of v b k) → IsFree v b k t i
+  is_free i free = free_in i v.histories (finds_itself 1 v.histories sound.ids) sound.whole free
 
-pub first_free : (rules : List Rule) (v : Vault) (b : List ℕ) (t : ℕ) (p : Planned) (ps : List Planned) → IsTrue (are_rules rules) → AreOrderly 1 0 t v.histories → IsPlan rules v b t (p ∷ ps) → IsFreeStep b p.key t v.histories p.step
-first_free rules v b t p ps ok c plan =
-    let f = first_of rules b t ok v plan.keys p ps (sym plan.steps) in
+  free_step : (s : Step) → Frees d (entries_of v b k) s → RemovesFree v b k t s
+  free_step (Mark r) free = tt
+  free_step (Remove i r) free = is_free i free
+  free_step (RemoveLone i r) free = is_free i free
+
+pub first_free : (v : Vault) (b : List ℕ) (t : ℕ) (ks : List (List ℕ)) (p : Planned) (ps : List Planned) → MayRun v b t → plans_at v b t ks ≡ p ∷ ps → RemovesFree v b p.key t p.step
+first_free v b t ks p ps may e =
+    let f = first_of (rules_in v b) b t may.rules v ks p ps e in
     let es = entries_of v b p.key in
-    free_step rules b t p.key v.histories p.step
-    (walk_free (dues rules p.key t) t es p.step f.others (sym (key_plan-walk rules p.key t es (rises es (order_entries b p.key 1 0 t v.histories c))) ∙ f.first))
+    let rise = rises es (order_entries b p.key 1 0 t v.histories (orderly v b t may)) in
+    free_step v b p.key t may.sound p.step
+    (walk_free (dues (rules_in v b) p.key t) t es p.step f.others (sym (key_plan-walk (rules_in v b) p.key t es rise) ∙ f.first))

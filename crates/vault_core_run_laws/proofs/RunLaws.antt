@@ -14,13 +14,14 @@ use Rattle.vault_core_model.specs.Change.{changed}
 use Rattle.vault_core_model.specs.Plan.{after_steps, change_of, rules_in, is_mark}
 use Rattle.vault_core_run_laws.specs.KeyOrder.{IsIn, IsUnder, IsRising}
 use Rattle.vault_core_run_laws.specs.KeyRuns.{MayRun, plan_at, plans_at, HaveIds, last_key}
-use Rattle.vault_core_run_laws.specs.RunLaws.{VaultPlansAreKeyByKey, KeysRise, EntriesRise, RunsGoOn, NextStepsAreAllowed, KeyRunsGoOn, KeyStepsAreAllowed, OtherKeysStay, LaterKeysAreOthers, PagesGoOn}
+use Rattle.vault_core_run_laws.specs.RunLaws.{VaultPlansAreKeyByKey, KeysRise, EntriesRise, RunsGoOn, NextStepsAreAllowed, NextStepsRemoveFree, KeyRunsGoOn, KeyStepsAreAllowed, OtherKeysStay, LaterKeysAreOthers, PagesGoOn}
 use Rattle.vault_core_run_laws.proofs.KeyOrder.{IsApart, IsAway, apart, flip_eq, away_in, away_out, irreflexive, under_in, under_each, one_list, later_others, turn, turn_back}
 use Rattle.vault_core_run_laws.proofs.Entries.{AreOrderly, orderly_of, order_entries}
 use Rattle.vault_core_run_laws.proofs.AfterSteps.{buckets_stay, rules_stay, orderly_after_step, entries-away}
 use Rattle.vault_core_run_laws.proofs.Keys.{HasAny, keys_rise, held_key, key_held}
 use Rattle.vault_core_run_laws.proofs.OnePlan.{key_plans, first_of, step_of, one_step}
 use Rattle.vault_core_run_laws.proofs.ByKey.{by_key}
+use Rattle.vault_core_run_laws.proofs.FirstStep.{first_free}
 use Rattle.vault_core_run_laws.proofs.Steps.{orderly, changes_in, changes_few, count_first, first_allowed, stepped, taken, has_id}
 
 pub plans_are_key_by_key : VaultPlansAreKeyByKey
@@ -72,6 +73,11 @@ pub next_steps_are_allowed : NextStepsAreAllowed
 next_steps_are_allowed v b t ks ps qs p may rising e ids few =
     let h = go v b t ks ps (p ∷ qs) may rising e ids in
     first_allowed (after_steps v b t ps) b t ks h.may rising p qs h.rest few
+
+pub next_steps_remove_free : NextStepsRemoveFree
+next_steps_remove_free v b t ks ps qs p may rising e ids =
+    let h = go v b t ks ps (p ∷ qs) may rising e ids in
+    first_free (after_steps v b t ps) b t ks p qs h.may h.rest
 
 -- ---- within a key
 

@@ -1,11 +1,14 @@
 -- Laws of a run of the lifecycle rules over a bucket, step by step and key by key.
-use Rattle.std.specs.Prelude.{◌≡◌, ℕ, ◌+◌, ◌*◌, ◌≤◌, true, List, [], ◌∷◌, ◌++◌, length, take, count_by, IsTrue}
+use Rattle.std.specs.Prelude.{◌≡◌, ℕ, ◌+◌, ◌*◌, ◌≤◌, true, false, List, [], ◌∷◌, ◌++◌, length, take, count_by, Some, IsTrue}
 use Rattle.vault_base.specs.Limits.{most_ids}
+use Rattle.vault_lock.specs.Lock.{is_locked}
 use Rattle.vault_rules.specs.declared.plan.Step.{Step}
+use Rattle.vault_rules.specs.declared.plan.Step.TheVariants.{Mark, Remove, RemoveLone}
 use Rattle.vault_rules.specs.KeyPlan.{Planned, at_key, key_plan, ids_rise}
 use Rattle.vault_core_run_laws.specs.KeyOrder.{IsIn, IsRising}
-use Rattle.vault_core_model.specs.Vault.{Vault, config_of, next_id}
-use Rattle.vault_core_model.specs.Places.{keys_of}
+use Rattle.vault_core_model.specs.declared.records.History.{History}
+use Rattle.vault_core_model.specs.Vault.{Vault, config_of, history_of, last_lock, next_id}
+use Rattle.vault_core_model.specs.Places.{is_held_at, keys_of}
 use Rattle.vault_core_model.specs.Reads.{entries_of, keys_after}
 use Rattle.vault_core_model.specs.Sound.{Sound}
 use Rattle.vault_core_model.specs.Allowed.{Allows}
@@ -47,6 +50,26 @@ NextStepsAreAllowed =
     → MayRun v bucket t → IsRising keys → plans_at v bucket t keys ≡ ps ++ p ∷ qs → HaveIds v ps
     → (is_mark p.step ≡ true → next_id (after_steps v bucket t ps) ≤ most_ids)
     → Allows (after_steps v bucket t ps) t (change_of (after_steps v bucket t ps) bucket t p)
+
+-- the entry of that id is held at that key, and isn't locked at t
+pub record IsFree (v : Vault) (bucket key : List ℕ) (t id : ℕ) : Type 0 where
+  pub history : History
+  pub there : history_of v id ≡ Some history
+  pub held : IsTrue (is_held_at bucket key history.entry)
+  pub unlocked : is_locked (last_lock history.settings) t ≡ false
+
+-- what the step at that key removes, if anything, is held there and isn't locked
+abbrev pub RemovesFree : Vault → List ℕ → List ℕ → ℕ → Step → Type 0
+RemovesFree v bucket key t (Mark r) = Unit {0}
+RemovesFree v bucket key t (Remove id r) = IsFree v bucket key t id
+RemovesFree v bucket key t (RemoveLone id r) = IsFree v bucket key t id
+
+-- the next step removes nothing that is locked
+abbrev pub NextStepsRemoveFree : Type 0
+NextStepsRemoveFree =
+    (v : Vault) (bucket : List ℕ) (t : ℕ) (keys : List (List ℕ)) (ps qs : List Planned) (p : Planned)
+    → MayRun v bucket t → IsRising keys → plans_at v bucket t keys ≡ ps ++ p ∷ qs → HaveIds v ps
+    → RemovesFree (after_steps v bucket t ps) bucket p.key t p.step
 
 -- the same within one key
 abbrev pub KeyRunsGoOn : Type 0

@@ -4,7 +4,7 @@
 
 ghost use Rattle.vault_core_run_laws.specs.Noncurrent.{PlacesAgree};
 ghost use Rattle.vault_core_run_laws.specs.Repeats.{CutRunsAddUp, RunsRepeat, VaultPlansRepeat};
-ghost use Rattle.vault_core_run_laws.specs.RunLaws.{EntriesRise, KeyRunsGoOn, KeyStepsAreAllowed, KeysRise, LaterKeysAreOthers, NextStepsAreAllowed, OtherKeysStay, PagesGoOn, RunsGoOn, VaultPlansAreKeyByKey};
+ghost use Rattle.vault_core_run_laws.specs.RunLaws.{EntriesRise, KeyRunsGoOn, KeyStepsAreAllowed, KeysRise, LaterKeysAreOthers, NextStepsAreAllowed, NextStepsRemoveFree, OtherKeysStay, PagesGoOn, RunsGoOn, VaultPlansAreKeyByKey};
 
 /// The plan of a bucket by three phases over the whole vault is the plans of its keys, one after
 /// another; the keys rise, and so do the ids of each key's entries.
@@ -27,10 +27,11 @@ pub fn runs_go_on()
     ensures key { KeyRunsGoOn }
 {}
 
-/// The next step of a run may be made: what it removes is held; a mark needs an id.
+/// The next step of a run may be made: what it removes is held at its key, and isn't locked; a mark needs an id.
 pub fn next_steps_are_allowed()
     ensures keys { NextStepsAreAllowed }
     ensures key { KeyStepsAreAllowed }
+    ensures free { NextStepsRemoveFree }
 {}
 
 /// The steps at some keys alter no entry of another key.
