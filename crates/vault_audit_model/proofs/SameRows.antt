@@ -1,5 +1,5 @@
 -- One row holds one record.
-use Rattle.std.proofs.Common.{◌≡◌, ℕ, ◌+◌, ◌*◌, List, [], ◌∷◌, length, get_or, Bool, true, false, Option, Some, None, refl, sym, ap, ◌∙◌, arith}
+use Rattle.std.proofs.Common.{◌≡◌, ℕ, ◌+◌, ◌*◌, List, [], ◌∷◌, length, map, Bool, true, false, Option, Some, None, refl, sym, ap, ◌∙◌, arith}
 use Rattle.sqlite_value.specs.declared.value.Value.{Value}
 use Rattle.sqlite_value.specs.declared.value.Value.TheVariants.{Null, Text, Blob}
 use Rattle.sqlite_value.specs.Order.{Row, column}
@@ -10,6 +10,9 @@ use Rattle.vault_lock.specs.declared.retention.Period.{Period}
 use Rattle.vault_lock.specs.declared.retention.Period.TheVariants.{Days, Years}
 use Rattle.vault_lock.specs.declared.retention.Retention.{Retention}
 use Rattle.vault_rules.specs.declared.rule.Noncurrent.{Noncurrent}
+use Rattle.vault_base.specs.Right.{rights}
+use Rattle.vault_core_model.proofs.RightLemmas.{same-digits}
+use Rattle.vault_core_model.specs.Rights.{has, digits_number, rights_number}
 use Rattle.vault_core_model.specs.declared.rights.Rights.{Rights}
 use Rattle.vault_core_model.specs.declared.records.Author.{Author}
 use Rattle.vault_core_model.specs.declared.records.Author.TheVariants as author
@@ -25,7 +28,7 @@ use Rattle.vault_audit_model.specs.declared.rows.MetaRow.{MetaRow}
 use Rattle.vault_audit_model.specs.declared.rows.RuleRow.{RuleRow}
 use Rattle.vault_audit_model.specs.declared.rows.SettingRow.{SettingRow}
 use Rattle.vault_audit_model.specs.declared.rows.TenureRow.{TenureRow}
-use Rattle.vault_audit_model.specs.Rows.{bit, rights_number, mode_number, days_of, years_of, default_mode, default_days, default_years, retention_mode, retention_until, author_kind, author_name, cause_number, cause_text, removal_at, removal_cause, removal_by, noncurrent_days, noncurrent_newer, meta_row, caller_row, bucket_row, rule_row, entry_row, content_row, setting_row, note_row, tenure_row}
+use Rattle.vault_audit_model.specs.Rows.{mode_number, days_of, years_of, default_mode, default_days, default_years, retention_mode, retention_until, author_kind, author_name, cause_number, cause_text, removal_at, removal_cause, removal_by, noncurrent_days, noncurrent_newer, meta_row, caller_row, bucket_row, rule_row, entry_row, content_row, setting_row, note_row, tenure_row}
 use Rattle.vault_audit_model.specs.Values.{number, number_or_null, text_or_null, bytes_or_null, flag, flag_or_null}
 
 -- ---- values
@@ -79,42 +82,18 @@ bytes_same (Some a) (Some b) e = let same : a ≡ b = cc in ap Some same
 
 -- ---- rights
 
--- the number that these digits spell, the lowest first
-abbrev number_of : List Bool → ℕ
-number_of [] = 0
-number_of (b ∷ bs) = bit b 1 + 2 * number_of bs
-
-bit_same : (a b : Bool) (m n : ℕ) → bit a 1 + 2 * m ≡ bit b 1 + 2 * n → (a ≡ b) × (m ≡ n)
-bit_same false false m n e = (refl, omega (arith, e))
-bit_same true true m n e = (refl, omega (arith, e))
-bit_same false true m n e = absurd (omega (arith, e))
-bit_same true false m n e = absurd (omega (arith, e))
-
-digits_same : (a b : List Bool) → length a ≡ length b → number_of a ≡ number_of b → a ≡ b
+digits_same : (a b : List Bool) → length a ≡ length b → digits_number a ≡ digits_number b → a ≡ b
 digits_same [] [] size e = refl
 digits_same [] (b ∷ bs) size e = absurd (omega (arith, size))
 digits_same (a ∷ as_) [] size e = absurd (omega (arith, size))
-digits_same (a ∷ as_) (b ∷ bs) size e =
-    let it = bit_same a b (number_of as_) (number_of bs) e in
-    let rest : as_ ≡ bs = digits_same as_ bs (omega (arith, size)) it.1 in cc (it.0, rest)
-
-bit_times : (b : Bool) (k : ℕ) → bit b k ≡ k * bit b 1
-bit_times false k = omega arith
-bit_times true k = omega arith
-
-abbrev digits : Rights → List Bool
-digits r =
-    r.admin ∷ r.config ∷ r.put ∷ r.retain ∷ r.hold ∷ r.get ∷ r.list ∷ r.delete ∷ r.delete_version ∷ r.run ∷ r.report ∷ r.bypass ∷ []
-
-digits_spell : (r : Rights) → rights_number r ≡ number_of (digits r)
-digits_spell r =
-    omega (arith, bit_times r.config 2, bit_times r.put 4, bit_times r.retain 8, bit_times r.hold 16, bit_times r.get 32, bit_times r.list 64, bit_times r.delete 128, bit_times r.delete_version 256, bit_times r.run 512, bit_times r.report 1024, bit_times r.bypass 2048)
+digits_same (false ∷ as_) (false ∷ bs) size e = rw (digits_same as_ bs (omega (arith, size)) (omega (arith, e))) refl
+digits_same (true ∷ as_) (true ∷ bs) size e = rw (digits_same as_ bs (omega (arith, size)) (omega (arith, e))) refl
+digits_same (false ∷ as_) (true ∷ bs) size e = absurd (omega (arith, e))
+digits_same (true ∷ as_) (false ∷ bs) size e = absurd (omega (arith, e))
 
 rights_same : (r s : Rights) → rights_number r ≡ rights_number s → r ≡ s
-rights_same r s e =
-    let same : digits r ≡ digits s = digits_same (digits r) (digits s) refl (sym (digits_spell r) ∙ e ∙ digits_spell s) in
-    let at = λ (n : ℕ). ap (λ ds. get_or ds n false) same in
-    rw (at 0, at 1, at 2, at 3, at 4, at 5, at 6, at 7, at 8, at 9, at 10, at 11) refl
+unfolding rights_number
+rights_same r s e = same-digits r s (digits_same (map (has r) rights) (map (has s) rights) refl e)
 
 -- ---- parts of rows
 

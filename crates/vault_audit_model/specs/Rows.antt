@@ -1,5 +1,5 @@
 -- What stands in the columns of a row, for each record that a row holds.
-use Rattle.std.specs.Prelude.{ℕ, ◌+◌, Bool, true, false, List, [], ◌∷◌, Option, Some, None, option_map, option_and_then}
+use Rattle.std.specs.Prelude.{ℕ, Bool, true, false, List, [], ◌∷◌, Option, Some, None, option_map, option_and_then}
 use Rattle.sqlite_value.specs.declared.value.Value.{Value}
 use Rattle.sqlite_value.specs.declared.value.Value.TheVariants.{Null, Text, Blob}
 use Rattle.sqlite_value.specs.Order.{Row, column}
@@ -10,7 +10,7 @@ use Rattle.vault_lock.specs.declared.retention.Period.{Period}
 use Rattle.vault_lock.specs.declared.retention.Period.TheVariants.{Days, Years}
 use Rattle.vault_lock.specs.declared.retention.Default.{Default}
 use Rattle.vault_rules.specs.declared.rule.Noncurrent.{Noncurrent}
-use Rattle.vault_core_model.specs.declared.rights.Rights.{Rights}
+use Rattle.vault_core_model.specs.Rights.{rights_number}
 use Rattle.vault_core_model.specs.declared.records.Author.{Author}
 use Rattle.vault_core_model.specs.declared.records.Author.TheVariants as author
 use Rattle.vault_core_model.specs.declared.records.Cause.{Cause}
@@ -38,12 +38,6 @@ use Rattle.vault_audit_model.specs.Values.{number, number_or_null, text_or_null,
 abbrev pub bit : Bool → ℕ → ℕ
 bit false n = 0
 bit true n = n
-
--- a digit for each right, the right to administer being the lowest
-abbrev pub rights_number : Rights → ℕ
-rights_number r =
-    bit r.admin 1 + bit r.config 2 + bit r.put 4 + bit r.retain 8 + bit r.hold 16 + bit r.get 32 + bit r.list 64
-    + bit r.delete 128 + bit r.delete_version 256 + bit r.run 512 + bit r.report 1024 + bit r.bypass 2048
 
 -- an absent mode is 0
 abbrev pub mode_number : Option Mode → ℕ

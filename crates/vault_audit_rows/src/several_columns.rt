@@ -10,11 +10,12 @@ ghost use Rattle.vault_lock.specs.declared.retention.Default.{Default};
 ghost use Rattle.vault_lock.specs.declared.retention.Retention.{Retention};
 ghost use Rattle.vault_rules.specs.Rules.{passes_if_given, is_day_count, is_newer_count, is_noncurrent_action, are_bounds};
 ghost use Rattle.vault_rules.specs.declared.rule.Noncurrent.{Noncurrent};
+ghost use Rattle.vault_core_model.specs.Rights.{rights_number};
 ghost use Rattle.vault_core_model.specs.declared.rights.Rights.{Rights};
 ghost use Rattle.vault_core_model.specs.declared.records.Author.{Author};
 ghost use Rattle.vault_core_model.specs.declared.records.Cause.{Cause};
 ghost use Rattle.vault_audit_model.specs.Limits.{IsSizedAs, IsRetention, IsAuthor, IsCause, IsRemoval};
-ghost use Rattle.vault_audit_model.specs.Rows.{mode_number, days_of, years_of, cause_number, cause_text, rights_number, default_mode, default_days, default_years, retention_mode, retention_until, noncurrent_days, noncurrent_newer, author_kind, author_name, removal_at, removal_cause, removal_by};
+ghost use Rattle.vault_audit_model.specs.Rows.{mode_number, days_of, years_of, cause_number, cause_text, default_mode, default_days, default_years, retention_mode, retention_until, noncurrent_days, noncurrent_newer, author_kind, author_name, removal_at, removal_cause, removal_by};
 ghost use Rattle.vault_audit_model.specs.Values.{number, number_or_null, bytes_or_null, flag};
 ghost use Rattle.vault_audit_rows.specs.Cells.{ShowNoRemoval};
 
@@ -226,45 +227,12 @@ pub fn removal(
     Ok(Some(Removal { at, cause }))
 }
 
-/// Whether the digit of that value is set in a number.
-fn digit(number: u32, value: u32) -> bool
-    requires { 1 ≤ value }
-    ensures { result ≡ ((number / value) % 2 == 1) }
-{
-    number / value % 2 == 1
-}
-
-/// The rights of which each is a digit of a number.
-fn rights_of(n: u32) -> Rights
-    requires { n < 4096 }
-    ensures { rights_number result ≡ n }
-{
-    Rights {
-        admin: digit(n, 1),
-        config: digit(n, 2),
-        put: digit(n, 4),
-        retain: digit(n, 8),
-        hold: digit(n, 16),
-        get: digit(n, 32),
-        list: digit(n, 64),
-        delete: digit(n, 128),
-        delete_version: digit(n, 256),
-        run: digit(n, 512),
-        report: digit(n, 1024),
-        bypass: digit(n, 2048),
-    }
-}
-
 /// The rights in a column.
-#[tactic(auto, using(crate::proofs::ColumnLemmas::rights_below, crate::proofs::ColumnLemmas::rights_fit))]
+#[tactic(auto, using(crate::proofs::ColumnLemmas::rights_fit))]
 pub fn rights(row: &Row, at: usize) -> Option<Rights>
     ensures { MatchOption result ((r : Rights) → column row.now at ≢ number (rights_number r)) (λ r. column row.now at ≡ number (rights_number r)) }
 {
-    let n = small_number(row, at)?;
-    if n >= 4096 {
-        return None;
-    }
-    Some(rights_of(n))
+    Rights::of_number(small_number(row, at)?)
 }
 
 /// Whether an entry is a delete marker, its size and its digest.

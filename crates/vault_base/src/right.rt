@@ -37,7 +37,7 @@ impl Right {
     ghost use Rattle.std.specs.Prelude.{◌≡◌, ◌++◌, codes};
     ghost use Rattle.vault_base.specs.Right.{right_name, right_of};
 
-    /// Every right, in the order in which a line names them.
+    /// Every right, in the order in which lines name them and numbers have their digits: a new one comes last.
     pub const ALL: [Right; 12] = [
         Right::Admin,
         Right::Config,

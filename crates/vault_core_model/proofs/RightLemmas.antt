@@ -136,6 +136,7 @@ digits-given (q ∷ rs) n once low =
     even n e = grind (arith, nat_tests)
 
 pub of_number : (n : ℕ) → n < 2 ^ length rights → rights_number (with_digits rights n) ≡ n
+unfolding rights_number
 of_number n low = digits-given rights n refl low
 
 pub digits-below : (digits : List Bool) → digits_number digits < 2 ^ length digits
@@ -144,6 +145,7 @@ digits-below (true ∷ digits) = let later = digits-below digits in omega (arith
 digits-below (false ∷ digits) = let later = digits-below digits in omega (arith, later, doubles (length digits))
 
 pub is_below : (r : Rights) → rights_number r < 2 ^ length rights
+unfolding rights_number
 is_below r = digits-below (map (has r) rights)
 
 -- 32 digits fit in a `u32`

@@ -46,7 +46,7 @@ digits_number (false ∷ digits) = 2 * digits_number digits
 digits_number (true ∷ digits) = 1 + 2 * digits_number digits
 
 -- a digit for each right, the first of all rights being the lowest
-abbrev pub rights_number : Rights → ℕ
+unfoldable pub rights_number : Rights → ℕ
 rights_number r = digits_number (map (has r) rights)
 
 -- those of these rights whose digit is set in the number

@@ -86,6 +86,7 @@ impl Rights {
     }
 
     /// Their number: a binary digit for each right, the first of `Right::ALL` being the lowest.
+    #[tactic(auto, unfolding(crate::specs::Rights::rights_number))]
     pub fn number(self) -> u32
         ensures { result ≡ rights_number self }
     {
