@@ -24,16 +24,16 @@ Lawful-permitted v lawful =
 first_binds : (v : Vault) (s : Setting) → s.bypass ≡ false → AllBind v s.at s.lock.retention (s ∷ [])
 first_binds v s free = all_bind-push v s.at s.at [] s.lock s (omega arith) (refl, inr (refl, free)) tt
 
-later_bind : (v : Vault) (done : List Setting) (s : Setting) (rest : List Setting) → AllBind v s.at s.lock.retention (done ++ s ∷ []) → AreLawfulAfter v s rest → AllBind v (last_at s.at rest) (last_lock (s ∷ rest)).retention (done ++ s ∷ rest)
-later_bind v done s [] bind after = bind
-later_bind v done s (n ∷ ns) bind after =
-    let P : List Setting → Type 0 = λ ss. AllBind v (last_at n.at ns) (last_lock (n ∷ ns)).retention ss in
+later_bind : (v : Vault) (from : ℕ) (done : List Setting) (s : Setting) (rest : List Setting) → AllBind v s.at s.lock.retention (done ++ s ∷ []) → AreLawfulAfter v s rest → AllBind v (last_at from (s ∷ rest)) (last_lock (s ∷ rest)).retention (done ++ s ∷ rest)
+later_bind v from done s [] bind after = bind
+later_bind v from done s (n ∷ ns) bind after =
+    let P : List Setting → Type 0 = λ ss. AllBind v (last_at from (n ∷ ns)) (last_lock (n ∷ ns)).retention ss in
     subst P (append_assoc done (s ∷ []) (n ∷ ns))
-    (later_bind v (done ++ s ∷ []) n ns (all_bind-push v s.at n.at (done ++ s ∷ []) s.lock n after.0.in_order after.0.permitted bind) after.1)
+    (later_bind v from (done ++ s ∷ []) n ns (all_bind-push v s.at n.at (done ++ s ∷ []) s.lock n after.0.in_order after.0.permitted bind) after.1)
 
 settings_bind : (v : Vault) (admitted : ℕ) (by : Author) (ss : List Setting) → AreLawful v admitted by ss → IsSafe v (last_at admitted ss) None ss
 settings_bind v admitted by [] lawful = tt
-settings_bind v admitted by (s ∷ ss) lawful = later_bind v [] s ss (first_binds v s lawful.0.free) lawful.1
+settings_bind v admitted by (s ∷ ss) lawful = later_bind v admitted [] s ss (first_binds v s lawful.0.free) lawful.1
 
 worm_by : (v : Vault) (admitted : ℕ) (by : Author) (ss : List Setting) (o : Option Removal) → AreLawful v admitted by ss → IsLawfulEnd v (last_at admitted ss) (last_lock ss) o → AreKept v o ss × HoldIsKept o (last_lock ss).hold
 worm_by v admitted by ss None lawful end = (kept-held v ss, tt)

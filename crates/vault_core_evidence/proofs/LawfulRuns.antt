@@ -151,15 +151,16 @@ lawful-on v w h keep le is = record {
 
 last_at-push : (from : ℕ) (ss : List Setting) (n : Setting) → last_at from (ss ++ n ∷ []) ≡ n.at
 last_at-push from [] n = refl
-last_at-push from (s ∷ ss) n = last_at-push s.at ss n
+last_at-push from (s ∷ []) n = refl
+last_at-push from (s ∷ r ∷ rs) n = last_at-push from (r ∷ rs) n
 
-after-push : (v : Vault) (s : Setting) (ss : List Setting) (n : Setting) → last_at s.at ss ≤ n.at → IsPermittedSetting v n.at n.by (last_lock (s ∷ ss)) n → IsSetByRight v n.at (last_lock (s ∷ ss)) n → AreLawfulAfter v s ss → AreLawfulAfter v s (ss ++ n ∷ [])
-after-push v s [] n le permitted by all = (record { in_order = le; permitted = permitted; by = by }, tt)
-after-push v s (x ∷ xs) n le permitted by all = (all.0, after-push v x xs n le permitted by all.1)
+after-push : (v : Vault) (from : ℕ) (s : Setting) (ss : List Setting) (n : Setting) → last_at from (s ∷ ss) ≤ n.at → IsPermittedSetting v n.at n.by (last_lock (s ∷ ss)) n → IsSetByRight v n.at (last_lock (s ∷ ss)) n → AreLawfulAfter v s ss → AreLawfulAfter v s (ss ++ n ∷ [])
+after-push v from s [] n le permitted by all = (record { in_order = le; permitted = permitted; by = by }, tt)
+after-push v from s (x ∷ xs) n le permitted by all = (all.0, after-push v from x xs n le permitted by all.1)
 
 settings-push : (v : Vault) (admitted : ℕ) (author : Author) (ss : List Setting) (n : Setting) → 1 ≤ length ss → last_at admitted ss ≤ n.at → IsPermittedSetting v n.at n.by (last_lock ss) n → IsSetByRight v n.at (last_lock ss) n → AreSet v admitted author ss → AreSet v admitted author (ss ++ n ∷ [])
 settings-push v admitted author [] n some le permitted by all = absurd (omega (arith, some))
-settings-push v admitted author (s ∷ ss) n some le permitted by all = (all.0, after-push v s ss n le permitted by all.1)
+settings-push v admitted author (s ∷ ss) n some le permitted by all = (all.0, after-push v admitted s ss n le permitted by all.1)
 
 some_setting : (h : History) (marker : Bool) → marker ≡ false → IsWholeAs marker h.entry h.content h.settings → 1 ≤ length h.settings
 some_setting h true e whole = absurd (cc e)

@@ -24,7 +24,7 @@ lock-last (r ∷ rs) s is = sym (lock-at r rs s (simp unary_clauses at is))
 
 moment-at : (from : ℕ) (r : Setting) (rs : List Setting) (s : Setting) → slice_get (r ∷ rs) (length rs) ≡ Some s → last_at from (r ∷ rs) ≡ s.at
 moment-at from r [] s is = let e : r ≡ s = cc in ap (λ (o : Setting). o.at) e
-moment-at from r (q ∷ qs) s is = moment-at r.at q qs s is
+moment-at from r (q ∷ qs) s is = moment-at from q qs s is
 
 pub moment-last : (from : ℕ) (ss : List Setting) (s : Setting) → slice_get ss (length ss - 1) ≡ Some s → s.at ≡ last_at from ss
 moment-last from [] s is = absurd (cc is)

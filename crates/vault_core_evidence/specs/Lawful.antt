@@ -1,6 +1,6 @@
 -- A history that commands can have made: every setting and every removal keeps the lock rules.
-use Rattle.std.specs.Prelude.{◌≡◌, ◌≤◌, ◌<◌, ℕ, Bool, true, false, List, [], ◌∷◌, Option, Some, None, IsSome, option_and_then}
-use Rattle.std.specs.List.{AllByRecursion}
+use Rattle.std.specs.Prelude.{◌≡◌, ◌≤◌, ◌<◌, ℕ, Bool, true, false, List, [], ◌∷◌, Option, Some, None, IsSome, option_and_then, option_map, unwrap_or}
+use Rattle.std.specs.List.{AllByRecursion, last_or}
 use Rattle.vault_lock.specs.declared.lock.Lock.{Lock}
 use Rattle.vault_lock.specs.declared.retention.Retention.{Retention}
 use Rattle.vault_lock.specs.Lock.{guards}
@@ -55,8 +55,7 @@ AreLawful v admitted by (s ∷ ss) = IsLawfulFirst v admitted by s × AreLawfulA
 
 -- the moment of the last of these settings; without a setting, the moment that is given
 abbrev pub last_at : ℕ → List Setting → ℕ
-last_at from [] = from
-last_at from (s ∷ ss) = last_at s.at ss
+last_at from ss = unwrap_or (option_map (λ s. s.at) (last_or None ss)) from
 
 -- the removal, where there is one, is not before the last setting, and under nothing that guards or by an allowed bypass, by a caller with the right to it; nothing is past the last moment
 abbrev pub IsLawfulEnd : Vault → ℕ → Lock → Option Removal → Type 0

@@ -1,6 +1,6 @@
 -- What holds of every vault that a keeper has.
 use Rattle.std.specs.Prelude.{◌≡◌, ℕ, ◌+◌, ◌≤◌, Bool, true, false, List, [], ◌∷◌, length, Option, Some, None, IsSome, IsTrue, ◌<◌, option_map}
-use Rattle.std.specs.List.{AllByRecursion}
+use Rattle.std.specs.List.{AllByRecursion, last_or}
 use Rattle.sha2.specs.Sha256.{sha256}
 use Rattle.vault_tally.specs.Row.{quota}
 use Rattle.vault_rules.specs.Rules.{is_rule_set, passes_if_given}
@@ -71,9 +71,7 @@ AreTenures v e [] = ⊥
 AreTenures v e (t ∷ ts) = (t.number ≡ 0) × (t.from ≡ e.admitted) × FollowOn v.moves (end_of v.last e.removal) t ts
 
 abbrev pub last_tenure : List Tenure → Option Tenure
-last_tenure [] = None
-last_tenure (t ∷ []) = Some t
-last_tenure (t ∷ u ∷ us) = last_tenure (u ∷ us)
+last_tenure ts = last_or None ts
 
 -- while it is held, the last tenure is that of the bucket's department
 abbrev pub IsWithBucket : Vault → Option Removal → History → Type 0

@@ -1,4 +1,4 @@
--- The history machine: one step, a run of steps, and the vaults that are reached.
+-- The history machine: what is judged of each command, one step, a run of steps, and the vaults that are reached.
 use Rattle.std.specs.Prelude.{◌≡◌, ℕ, List, [], ◌∷◌, Bool, true, false, IsTrue, ◌⊎◌, Result, Ok, Err}
 use Rattle.vault_base.specs.declared.refusal.Refusal.{Refusal}
 use Rattle.vault_base.specs.declared.refusal.Refusal.TheVariants.{Memory, Device}

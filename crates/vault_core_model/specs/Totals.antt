@@ -1,5 +1,6 @@
 -- The sums of a department, over the tenures that it has of content versions.
-use Rattle.std.specs.Prelude.{ℕ, ◌*◌, ◌-◌, Bool, true, false, not, List, [], ◌∷◌, filter, map, flat_map, Option, Some, option_map, sum_by}
+use Rattle.std.specs.Prelude.{ℕ, ◌*◌, ◌-◌, Bool, true, false, not, List, [], ◌∷◌, filter, map, flat_map, Option, None, Some, option_map, unwrap_or, sum_by}
+use Rattle.std.specs.List.{last_or}
 use Rattle.std.specs.Str.{bytes_eq}
 use Rattle.vault_base.specs.Days.{day}
 use Rattle.vault_tally.specs.Row.{Item, IsRowOf, end_day, admitted_size, received_size, held_size, removed_size, handed_size, charge}
@@ -85,9 +86,7 @@ vault_byte_days v t = sum_by (λ h. h.entry.size * (end_day (removal_day h.entry
 
 -- the day from which a version's department has it: that of its last tenure
 abbrev pub last_day_from : List Tenure → ℕ
-last_day_from [] = 0
-last_day_from (t ∷ []) = day t.from
-last_day_from (t ∷ u ∷ us) = last_day_from (u ∷ us)
+last_day_from ts = unwrap_or (option_map (λ t. day t.from) (last_or None ts)) 0
 
 -- the held content versions of a bucket
 abbrev pub held_versions_in : Vault → List ℕ → List History

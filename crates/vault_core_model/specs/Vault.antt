@@ -1,6 +1,6 @@
 -- The vault: one list of whole histories, removed ones included, and the records beside it.
-use Rattle.std.specs.Prelude.{ℕ, ◌+◌, List, [], ◌∷◌, length, true, false, ◌==◌, ◌&&◌, Bool, Option, None, find, option_map, option_and_then, codes}
-use Rattle.std.specs.List.{list_any}
+use Rattle.std.specs.Prelude.{ℕ, ◌+◌, List, [], ◌∷◌, length, true, false, ◌==◌, ◌&&◌, Bool, Option, None, find, option_map, option_and_then, unwrap_or, codes}
+use Rattle.std.specs.List.{last_or, list_any}
 use Rattle.std.specs.Str.{bytes_eq}
 use Rattle.vault_lock.specs.declared.lock.Lock.{Lock}
 use Rattle.vault_rules.specs.declared.rule.Rule.{Rule}
@@ -73,6 +73,4 @@ next_id v = length v.histories + 1
 
 -- the lock of the last of these settings; a marker has none
 abbrev pub last_lock : List Setting → Lock
-last_lock [] = record { retention = None; hold = false }
-last_lock (s ∷ []) = s.lock
-last_lock (s ∷ r ∷ rs) = last_lock (r ∷ rs)
+last_lock ss = unwrap_or (option_map (λ s. s.lock) (last_or None ss)) (record { retention = None; hold = false })

@@ -1,5 +1,6 @@
 -- What a run of the lifecycle rules over a bucket does at one key after another.
-use Rattle.std.specs.Prelude.{◌≡◌, ℕ, ◌≤◌, List, [], ◌∷◌, length, flat_map, IsSome, IsTrue}
+use Rattle.std.specs.Prelude.{◌≡◌, ℕ, ◌≤◌, List, [], length, flat_map, None, unwrap_or, IsSome, IsTrue}
+use Rattle.std.specs.List.{last_or}
 use Rattle.vault_rules.specs.KeyPlan.{Planned, at_key, key_plan}
 use Rattle.vault_rules_laws.specs.BucketLaws.{are_rules}
 use Rattle.vault_core_model.specs.Vault.{Vault, config_of}
@@ -28,6 +29,4 @@ HaveIds v ps = with_ids (length v.histories) ps ≡ ps
 
 -- the last of these keys; before the first key the empty text
 abbrev pub last_key : List (List ℕ) → List ℕ
-last_key [] = []
-last_key (k ∷ []) = k
-last_key (k ∷ j ∷ ks) = last_key (j ∷ ks)
+last_key ks = unwrap_or (last_or None ks) []

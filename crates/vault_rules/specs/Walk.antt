@@ -1,5 +1,6 @@
 -- The plan of a run at one key by a walk over its held entries, oldest first, as the calls below `plan_key` make it. `KeyPlan` says it by sets, and the two are one.
-use Rattle.std.specs.Prelude.{ℕ, ◌++◌, Bool, true, false, not, List, [], ◌∷◌, length, Option, Some, None}
+use Rattle.std.specs.Prelude.{ℕ, ◌++◌, Bool, true, false, not, List, [], ◌∷◌, length, Option, Some, None, option_and_then}
+use Rattle.std.specs.List.{last_or}
 use Rattle.vault_lock.specs.declared.lock.Lock.{Lock}
 use Rattle.vault_lock.specs.Lock.{is_locked}
 use Rattle.vault_rules.specs.declared.plan.Held.{Held}
@@ -30,9 +31,7 @@ unless false o = o
 
 -- the rule that marks the key: that of its last entry, where this is content
 abbrev pub last_mark : Dues → List Held → Option ℕ
-last_mark d [] = None
-last_mark d (x ∷ []) = unless x.marker (d.current x.size x.admitted)
-last_mark d (x ∷ y ∷ ys) = last_mark d (y ∷ ys)
+last_mark d hs = option_and_then (λ x. unless x.marker (d.current x.size x.admitted)) (last_or None hs)
 
 abbrev pub marker_at : ℕ → ℕ → Held
 marker_at id t = record { id = id; marker = true; size = 0; admitted = t; lock = record { retention = None; hold = false } }
