@@ -1,5 +1,5 @@
 //! Why a line is refused: the kinds of causes, and the words for each.
-use crate::members::{allowed, example, kind_words};
+use crate::members::{example, kind_words, write_allowed};
 use std::alloc::{AllocError, Global};
 use std::fmt;
 use vault_base::refusal::Refusal;
@@ -202,6 +202,14 @@ fn write_shape_cause<W: fmt::Write>(f: &mut fmt::Formatter<W>, cause: Cause<'_>)
     }
 }
 
+/// Writes what the value of a member has to be.
+fn write_not_allowed<W: fmt::Write>(f: &mut fmt::Formatter<W>, name: &str) -> fmt::Result {
+    write!(f, "\"{name}\" has to be ")?;
+    write_allowed(f, name)?;
+    let example = example(name);
+    write!(f, ", as {example}")
+}
+
 /// Writes the words on values.
 fn write_value_cause<W: fmt::Write>(f: &mut fmt::Formatter<W>, cause: Cause<'_>) -> fmt::Result {
     match cause {
@@ -210,10 +218,7 @@ fn write_value_cause<W: fmt::Write>(f: &mut fmt::Formatter<W>, cause: Cause<'_>)
             write!(f, "\"{name}\" stands beside {beside}, as {example}")
         }
         Cause::BothPeriods => f.write_str("a default has one of \"days\" and \"years\", not both"),
-        Cause::NotAllowed { name } => {
-            let (allowed, example) = (allowed(name), example(name));
-            write!(f, "\"{name}\" has to be {allowed}, as {example}")
-        }
+        Cause::NotAllowed { name } => write_not_allowed(f, name),
         Cause::NoRules => f.write_str("\"rules\" is empty; drop-rules takes a bucket's rules away"),
         Cause::TooManyRules => f.write_str("\"rules\" has more than 1,000 rules"),
         Cause::SameId => f.write_str("an earlier rule has the same \"ID\""),

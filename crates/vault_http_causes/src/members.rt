@@ -1,4 +1,6 @@
 //! What each member of a line and of a rule may be, in words, with an example.
+use std::fmt;
+use vault_base::right::Right;
 use vault_http_values::shape::Kind;
 
 /// A JSON type in words.
@@ -61,16 +63,33 @@ fn rule_example(name: &str) -> &'static str {
     }
 }
 
-/// What a member's value may be.
-pub(crate) fn allowed(name: &str) -> &'static str {
+/// Writes what the member `rights` may be.
+fn write_rights<W: fmt::Write>(f: &mut fmt::Formatter<W>) -> fmt::Result {
+    f.write_str("a list of ")?;
+    for (place, right) in Right::ALL.iter().enumerate() {
+        if place > 0 {
+            f.write_str(", ")?;
+        }
+        f.write_str(right.name())?;
+    }
+    Ok(())
+}
+
+/// Writes what a member's value may be.
+pub(crate) fn write_allowed<W: fmt::Write>(f: &mut fmt::Formatter<W>, name: &str) -> fmt::Result {
+    if name == "rights" {
+        return write_rights(f);
+    }
+    f.write_str(allowed(name))
+}
+
+/// What the value of a member other than `rights` may be.
+fn allowed(name: &str) -> &'static str {
     match name {
         "at" | "until" => {
             "a moment from 1970 to 9999: date, T, time to the second, and Z or an offset"
         }
         "as" | "caller" | "dept" | "batch" => "1 to 64 of a-z, 0-9, -, _ and .",
-        "rights" => {
-            "a list of admin, config, put, retain, hold, get, list, delete, delete-version, run, report, bypass"
-        }
         "bucket" => "3 to 63 of a-z, 0-9 and -, with no - at either end",
         "key" => "1 to 1,024 bytes without control characters",
         "prefix" | "after_key" | "Prefix" => "up to 1,024 bytes without control characters",

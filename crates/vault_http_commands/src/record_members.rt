@@ -20,22 +20,6 @@ use vault_core_model::command::{
 use vault_core_model::rights::Rights;
 use vault_http_lines::verb::Verb;
 
-/// Every right, in the order in which a line names them.
-const RIGHTS: [Right; 12] = [
-    Right::Admin,
-    Right::Config,
-    Right::Put,
-    Right::Retain,
-    Right::Hold,
-    Right::Get,
-    Right::List,
-    Right::Delete,
-    Right::DeleteVersion,
-    Right::Run,
-    Right::Report,
-    Right::Bypass,
-];
-
 pub fn add_dept(alloc: Global, command: &AddDept) -> Result<Map<String, Value>, AllocError>
     ensures members { IfOk result (λ members. members_view members.entries ≡ spec.members_of (command_of.AddDept command.now)) }
     ensures spelled { IfOk result (λ members. IsSpelled (command_of.AddDept command.now)) }
@@ -94,7 +78,7 @@ fn right_names(alloc: Global, rights: Rights) -> Result<Vec<Value>, AllocError>
     ensures { IfOk result (λ names. map view names.items ≡ spec.right_values rights) }
 {
     let mut names = Vec::new(alloc);
-    push_rights(&mut names, alloc, rights, &RIGHTS)?;
+    push_rights(&mut names, alloc, rights, &Right::ALL)?;
     Ok(names)
 }
 

@@ -4,7 +4,8 @@ use Rattle.sqlite_tied.specs.Compute.{everything}
 use Rattle.sqlite.specs.Listing.{understood}
 use Rattle.vault_base.specs.declared.refusal.Table.TheVariants as table
 use Rattle.vault_core_model.specs.declared.records.Caller.{Caller}
-use Rattle.vault_audit_model.specs.Rows.{caller_row, rights_number}
+use Rattle.vault_core_model.specs.Rights.{rights_number}
+use Rattle.vault_audit_model.specs.Rows.{caller_row}
 use Rattle.vault_audit_model.specs.Tables.{callers}
 use Rattle.vault_audit_model.proofs.ValueLemmas.{cast_null}
 use Rattle.vault_store_edits.specs.Casts.{cast_number, cast_flag, cast_text_or_null}

@@ -1,10 +1,11 @@
 //! The parameters of the statements: values of records as a statement takes them.
-ghost use Rattle.std.specs.Prelude.{◌≡◌, ◌≤◌, ◌+◌, pos, IfOk, IfSome, option_map, option_and_then};
+ghost use Rattle.std.specs.Prelude.{◌≡◌, ◌≤◌, pos, IfOk, IfSome, option_map, option_and_then};
 ghost use Rattle.sqlite_value.specs.declared.value.Value.TheVariants.{Text};
 ghost use Rattle.sqlite.specs.Values.{or_null};
 ghost use Rattle.vault_base.specs.Days.{last_moment};
+ghost use Rattle.vault_core_model.specs.Rights.{rights_number};
 ghost use Rattle.vault_audit_model.specs.Limits.{IsPlainName, IsRetention};
-ghost use Rattle.vault_audit_model.specs.Rows.{bit, rights_number, mode_number, days_of, years_of};
+ghost use Rattle.vault_audit_model.specs.Rows.{mode_number, days_of, years_of};
 ghost use Rattle.vault_audit_model.specs.Values.{text_or_null};
 
 use sqlite::{Error, ErrorCode};
@@ -112,38 +113,11 @@ pub fn dept_text(dept: &Option<DeptName>) -> Option<&str>
     }
 }
 
-/// A binary digit that is set or not.
-fn bit(is_set: bool, value: u32) -> u32
-    ensures value { result ≡ bit is_set value }
-    ensures most { result ≤ value }
-{
-    if is_set { value } else { 0 }
-}
-
-/// The rights of the first half: to administer, configure, put, retain, hold and get.
-fn low_rights(rights: Rights) -> u32
-    ensures value { result ≡ bit rights.admin 1 + bit rights.config 2 + bit rights.put 4 + bit rights.retain 8 + bit rights.hold 16 + bit rights.get 32 }
-    ensures most { result ≤ 63 }
-{
-    bit(rights.admin, 1)
-        + bit(rights.config, 2)
-        + bit(rights.put, 4)
-        + bit(rights.retain, 8)
-        + bit(rights.hold, 16)
-        + bit(rights.get, 32)
-}
-
 /// A digit for each right, the right to administer being the lowest.
 pub fn rights_number(rights: Rights) -> u32
     ensures { result ≡ rights_number rights }
 {
-    low_rights(rights)
-        + bit(rights.list, 64)
-        + bit(rights.delete, 128)
-        + bit(rights.delete_version, 256)
-        + bit(rights.run, 512)
-        + bit(rights.report, 1024)
-        + bit(rights.bypass, 2048)
+    rights.number()
 }
 
 /// The days of an action on noncurrent entries.

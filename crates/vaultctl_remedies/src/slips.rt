@@ -1,6 +1,6 @@
 //! Which value of a job's words isn't allowed: a second look, after one of them was refused.
 use std::alloc::{AllocError, Global};
-use std::io::Write;
+use std::io::{self, Write};
 use vault_base::moment::{Moment, MomentFault};
 use vault_base::name::{BucketName, CallerName, VersionId};
 use vault_base::right::Right;
@@ -157,9 +157,23 @@ pub fn first_slip(alloc: Global, job: &Job) -> Result<Option<Value<'_>>, AllocEr
     }
 }
 
-/// What such a word may be, with an example.
-fn allowed(kind: Kind) -> &'static str {
-    match kind {
+/// Writes the names of all rights.
+fn write_rights<E: Write>(err: &mut E) -> io::Result<()> {
+    err.write_all(b"rights are ")?;
+    for (place, right) in Right::ALL.iter().enumerate() {
+        if place + 1 == Right::ALL.len() {
+            err.write_all(b" and ")?;
+        } else if place > 0 {
+            err.write_all(b", ")?;
+        }
+        err.write_all(right.name().as_bytes())?;
+    }
+    err.write_all(b": each is a word of its own, without a comma")
+}
+
+/// Writes what such a word may be, with an example.
+fn write_allowed<E: Write>(kind: Kind, err: &mut E) -> io::Result<()> {
+    let allowed = match kind {
         Kind::Moment => {
             "a moment is written as 2024-01-15T10:30:00Z or 2024-01-15T11:30:00+01:00: date and time, a T between them, and Z or the difference from UTC at the end"
         }
@@ -177,24 +191,31 @@ fn allowed(kind: Kind) -> &'static str {
         Kind::Version => {
             "a version is named by its number, from 1 to 1000000000, in digits alone, as 17"
         }
-        Kind::Right => {
-            "rights are admin, config, put, retain, hold, get, list, delete, delete-version, run, report and bypass: each is a word of its own, without a comma"
-        }
-    }
+        Kind::Right => return write_rights(err),
+    };
+    err.write_all(allowed.as_bytes())
 }
 
-/// What is wrong with a value that isn't allowed.
-fn fault(value: Value<'_>) -> &'static str {
-    if value.kind != Kind::Moment {
-        return allowed(value.kind);
+/// Writes what is wrong with a value that isn't allowed.
+fn write_fault<E: Write>(value: Value<'_>, err: &mut E) -> io::Result<()> {
+    if value.kind == Kind::Moment && is_outside(value.text) {
+        return err.write_all(b"a moment lies from 1970 to 9999");
     }
-    match Moment::read(value.text) {
-        Err(MomentFault::Range) => "a moment lies from 1970 to 9999",
-        _ => allowed(Kind::Moment),
-    }
+    write_allowed(value.kind, err)
+}
+
+/// Whether a text spells a second that isn't a moment.
+fn is_outside(text: &str) -> bool {
+    matches!(Moment::read(text), Err(MomentFault::Range))
+}
+
+fn write_slip<E: Write>(value: Value<'_>, err: &mut E) -> io::Result<()> {
+    write!(err, "{} '{}': ", value.word, value.text)?;
+    write_fault(value, err)?;
+    err.write_all(b"\n")
 }
 
 /// Writes which word isn't allowed, what it was, and what it may be.
 pub fn say_slip<E: Write>(value: Value<'_>, err: &mut E) {
-    let _ = writeln!(err, "{} '{}': {}", value.word, value.text, fault(value));
+    let _ = write_slip(value, err);
 }
