@@ -23,11 +23,11 @@ use Rattle.vaultctl_machine.specs.Closings.{Closes}
 use Rattle.vaultctl_machine.specs.Faults.{ReportsFailure, refusal_of}
 use Rattle.vaultctl_machine.specs.Files.{AreSoundEarlier, AreTreesAs, IsWholeAs}
 use Rattle.vaultctl_machine.specs.Refusals.{FailsForItsRow, IsRefusedOver, IsUncopiedFrom, IsUnmade, IsUnmadeOver, LetsBothGo, RefusesItsRowEarlier, Reports}
-use Rattle.vaultctl_machine.specs.declared.unopened.Unopened.{Unopened}
+use Rattle.vaultctl_machine.specs.declared.open_error.OpenError.{OpenError}
 
 -- ---- what is reported
 
-module _ (P : Refusal → Type 0) (x : Unopened) where
+module _ (P : Refusal → Type 0) (x : OpenError) where
   pub reports_as : (r : Refusal) → refusal_of x ≡ r → ReportsFailure x → P r → Reports P x
   reports_as r is failure holds = record { stated = subst P (sym is) holds; failure = failure }
 
@@ -37,11 +37,11 @@ module _ (P : Refusal → Type 0) (x : Unopened) where
   reports_either a r (inr is) failure at_a at_r = reports_as r is failure at_r
 
   -- as another cause, of which more is seen
-  pub reports_after : (e : Unopened) → refusal_of x ≡ refusal_of e → (ReportsFailure e → ReportsFailure x) → Reports P e → Reports P x
+  pub reports_after : (e : OpenError) → refusal_of x ≡ refusal_of e → (ReportsFailure e → ReportsFailure x) → Reports P e → Reports P x
   reports_after e same failure reports = reports_as (refusal_of e) same (failure reports.failure) reports.stated
 
 -- of more refusals
-pub reports_weaker : (P Q : Refusal → Type 0) (x : Unopened) → ((r : Refusal) → P r → Q r) → Reports P x → Reports Q x
+pub reports_weaker : (P Q : Refusal → Type 0) (x : OpenError) → ((r : Refusal) → P r → Q r) → Reports P x → Reports Q x
 reports_weaker P Q x weaker reports = record { stated = weaker (refusal_of x) reports.stated; failure = reports.failure }
 
 -- one connection more, of which it holds, where what is reported is that

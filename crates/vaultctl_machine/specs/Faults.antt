@@ -8,28 +8,28 @@ use Rattle.vault_base.specs.declared.refusal.Refusal.TheVariants.{Device, Memory
 use Rattle.vault_store.specs.Create.{without_tables}
 use Rattle.vaultctl_machine_places.specs.declared.cause.Cause.{Cause}
 use Rattle.vaultctl_machine_places.specs.declared.cause.Cause.TheVariants.{Full, Failed}
-use Rattle.vaultctl_machine.specs.declared.unopened.Unopened.{Unopened}
-use Rattle.vaultctl_machine.specs.declared.unopened.Unopened.TheVariants.{Held, Seen, Refused}
+use Rattle.vaultctl_machine.specs.declared.open_error.OpenError.{OpenError}
+use Rattle.vaultctl_machine.specs.declared.open_error.OpenError.TheVariants.{InUse, Seen, Refused}
 
 -- where a vault should be in it: what is no store of tables holds none
-abbrev pub unopened_of : Error → Refusal
-unopened_of (SqliteFailure code.OutOfMemory) = Memory
-unopened_of (SqliteFailure code.NotADatabase) = without_tables
-unopened_of (SqliteFailure code.DatabaseCorrupt) = without_tables
-unopened_of (SqliteFailure code.TooBig) = without_tables
-unopened_of _ = Device
+abbrev pub open_refusal_of : Error → Refusal
+open_refusal_of (SqliteFailure code.OutOfMemory) = Memory
+open_refusal_of (SqliteFailure code.NotADatabase) = without_tables
+open_refusal_of (SqliteFailure code.DatabaseCorrupt) = without_tables
+open_refusal_of (SqliteFailure code.TooBig) = without_tables
+open_refusal_of _ = Device
 
 -- where a new vault is to be made in it: what is there is never written over
-abbrev pub unmade_of : Error → Refusal
-unmade_of (SqliteFailure code.OutOfMemory) = Memory
-unmade_of (SqliteFailure code.NotADatabase) = NameTaken
-unmade_of (SqliteFailure code.DatabaseCorrupt) = NameTaken
-unmade_of (SqliteFailure code.TooBig) = NameTaken
-unmade_of _ = Device
+abbrev pub create_refusal_of : Error → Refusal
+create_refusal_of (SqliteFailure code.OutOfMemory) = Memory
+create_refusal_of (SqliteFailure code.NotADatabase) = NameTaken
+create_refusal_of (SqliteFailure code.DatabaseCorrupt) = NameTaken
+create_refusal_of (SqliteFailure code.TooBig) = NameTaken
+create_refusal_of _ = Device
 
 -- another program has it, the disk has no room or failed, or none of these is known; it is reported as this
-abbrev pub cause_of : Error → Refusal → Unopened
-cause_of (SqliteFailure code.DatabaseBusy) stated = Held
+abbrev pub cause_of : Error → Refusal → OpenError
+cause_of (SqliteFailure code.DatabaseBusy) stated = InUse
 cause_of (SqliteFailure code.DiskFull) stated = Seen Full stated
 cause_of (SqliteFailure code.SystemIoFailure) stated = Seen Failed stated
 cause_of _ stated = Refused stated
@@ -41,12 +41,12 @@ is_failure Failed = true
 is_failure _ = false
 
 -- a failure of the disk that is seen is reported as one, and never as want of memory or a damage
-abbrev pub ReportsFailure : Unopened → Type 0
+abbrev pub ReportsFailure : OpenError → Type 0
 ReportsFailure (Seen seen refusal) = IsTrue (is_failure seen) → refusal ≡ Device
 ReportsFailure _ = ⊤
 
 -- what another program has can't be had
-abbrev pub refusal_of : Unopened → Refusal
-refusal_of Held = Device
+abbrev pub refusal_of : OpenError → Refusal
+refusal_of InUse = Device
 refusal_of (Seen seen refusal) = refusal
 refusal_of (Refused refusal) = refusal

@@ -17,7 +17,7 @@ use Rattle.vault_store.specs.Create.{IsFault}
 use Rattle.vaultctl_machine.specs.Closings.{Closes}
 use Rattle.vaultctl_machine.specs.Faults.{ReportsFailure, refusal_of}
 use Rattle.vaultctl_machine.specs.Files.{AreSoundEarlier, IsFoundEarlier, IsWholeAs}
-use Rattle.vaultctl_machine.specs.declared.unopened.Unopened.{Unopened}
+use Rattle.vaultctl_machine.specs.declared.open_error.OpenError.{OpenError}
 
 -- a making is refused where something is there already, or for want of memory, or by the device
 abbrev pub IsUnmade : Refusal → Type 0
@@ -28,7 +28,7 @@ abbrev pub IsUncopied : Refusal → Type 0
 IsUncopied r = r ≢ NameTaken → IsReported r
 
 -- what is reported is a refusal of these, and a failure of the disk is reported as one
-pub record Reports (Reported : Refusal → Type 0) (cause : Unopened) : Type 0 where
+pub record Reports (Reported : Refusal → Type 0) (cause : OpenError) : Type 0 where
   pub stated : Reported (refusal_of cause)
   pub failure : ReportsFailure cause
 

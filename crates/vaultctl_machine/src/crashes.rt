@@ -10,7 +10,7 @@ ghost use Rattle.vault_store.specs.VaultOf.{vault_of};
 ghost use Rattle.vault_store_apply.specs.Left.{LeavesAlone};
 ghost use Rattle.vaultctl_machine.specs.Openings.{FindsWhatWasLeft, IsFoundAgain, MayLeaveFiles};
 
-use crate::unopened::Unopened;
+use crate::open_error::OpenError;
 use crate::vaults::{FileMachine, FileVault, VaultStore};
 use sqlite::{Alter, FileStore, Start};
 use sqlite_disk::Disk;
@@ -46,7 +46,7 @@ pub fn open_after_a_crash<A: Start, B: Start>(
     lost: FileVault<A>,
     path: &str,
     start: B,
-) -> (VaultStore<A>, Result<FileVault<B>, Unopened>)
+) -> (VaultStore<A>, Result<FileVault<B>, OpenError>)
     // Where the files hold what a crash may leave of the vault that was lost, that vault is found again.
     ensures again { IsClean (view result.0) → MayLeaveFiles lost (image_at B.Start) → IfOk result.1 (λ vault. HasCleanDisk (file_state vault.conn) → IsFoundAgain lost (file_state vault.conn)) }
 {

@@ -6,6 +6,6 @@ mod editions;
 pub mod given;
 mod looks;
 pub mod migration;
+pub mod open_error;
 pub mod starts;
-pub mod unopened;
 pub mod vaults;

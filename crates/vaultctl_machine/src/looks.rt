@@ -2,7 +2,7 @@
 ghost use Rattle.std.specs.Prelude.{◌≡◌};
 ghost use Rattle.vaultctl_machine.specs.Faults as spec;
 
-use crate::unopened::{Unopened, with_cause};
+use crate::open_error::{OpenError, with_cause};
 use std::fs::{self, Metadata, OpenOptions};
 use std::io::{self, ErrorKind};
 use std::os::unix::fs::MetadataExt;
@@ -145,12 +145,12 @@ fn seen_at(rt: &HostRuntime, path: &str, refusal: Refusal) -> Option<Cause> {
 }
 
 /// The same cause, with what is seen at the path where no other is known. It is reported as before.
-pub(crate) fn looked_at(rt: &HostRuntime, path: &str, cause: Unopened) -> Unopened
+pub(crate) fn looked_at(rt: &HostRuntime, path: &str, cause: OpenError) -> OpenError
     ensures refusal { spec.refusal_of result ≡ spec.refusal_of cause }
     ensures failure { spec.ReportsFailure cause → spec.ReportsFailure result }
 {
     match cause {
-        Unopened::Refused(refusal) => with_cause(refusal, seen_at(rt, path, refusal)),
+        OpenError::Refused(refusal) => with_cause(refusal, seen_at(rt, path, refusal)),
         other => other,
     }
 }

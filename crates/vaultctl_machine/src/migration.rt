@@ -22,8 +22,8 @@ ghost use Rattle.vaultctl_machine.specs.Refusals.{FailsForItsRow, IsUncopied, Is
 
 use crate::editions::{edition_of, why_uncopied};
 use crate::looks::{is_one_file, looked_at};
+use crate::open_error::OpenError;
 use crate::starts::Starts;
-use crate::unopened::Unopened;
 use crate::vaults::{
     FileVault, Machine, VaultStore, close_keeper, connect_new, connect_there, let_go, refused,
     site_for_new, site_there,
@@ -150,7 +150,7 @@ fn copy_into<A: Start, B: Start>(
     new: &Site<'_>,
     found: Opened<VaultStore<A>>,
     empty: Opened<VaultStore<B>>,
-) -> Result<Migrated<VaultStore<A>, VaultStore<B>>, Unopened>
+) -> Result<Migrated<VaultStore<A>, VaultStore<B>>, OpenError>
     requires opened { HasCleanDisk (file_state found.conn) → IsOpened found.conn }
     requires found { HasCleanDisk (file_state found.conn) → FindsIn (image_at A.Start) (file_state found.conn) }
     requires opened_new { HasCleanDisk (file_state empty.conn) → IsOpened empty.conn }
@@ -188,16 +188,16 @@ fn copy_into<A: Start, B: Start>(
 }
 
 /// Why the file that is to get a copy isn't opened or made. That another program has it is reported as `Device`.
-fn unmade_new(rt: &HostRuntime, old: &str, new: &str, cause: Unopened) -> Unopened
+fn create_error(rt: &HostRuntime, old: &str, new: &str, cause: OpenError) -> OpenError
     ensures refusal { refusal_of result ≡ refusal_of cause }
     ensures failure { ReportsFailure cause → ReportsFailure result }
 {
     match cause {
-        Unopened::Held if is_one_file(rt, old, new) => Unopened::Seen(
+        OpenError::InUse if is_one_file(rt, old, new) => OpenError::Seen(
             Cause::SameFile,
             Refusal::Device,
         ),
-        Unopened::Held => Unopened::Seen(Cause::NewHeld, Refusal::Device),
+        OpenError::InUse => OpenError::Seen(Cause::NewHeld, Refusal::Device),
         other => looked_at(rt, new, other),
     }
 }
@@ -212,7 +212,7 @@ fn copy_at<A: Start, B: Start>(
     old: &str,
     new: &str,
     starts: Starts<A, B>,
-) -> Result<Migrated<VaultStore<A>, VaultStore<B>>, Unopened>
+) -> Result<Migrated<VaultStore<A>, VaultStore<B>>, OpenError>
     ensures sound { IfOk result (λ m. HasCleanDisk (file_state m.vault.conn) → AreSound (file_state m.vault.conn).now (vault_of over_files m.vault)) }
     ensures found { IfOk result (λ m. HasCleanDisk (file_state m.source) → HasCleanDisk (file_state m.vault.conn)
         → IsFoundEarlier (image_at A.Start) (vault_of over_files m.vault)) }
@@ -246,7 +246,7 @@ fn copy_at<A: Start, B: Start>(
                 opening: _,
             } = found;
             let _ = let_go(lost, &origin, conn, &before);
-            Err(unmade_new(rt, old, new, cause))
+            Err(create_error(rt, old, new, cause))
         }
     }
 }
@@ -257,7 +257,7 @@ impl<'a, A: Start, B: Start> Machine<'a, VaultStore<A>, VaultStore<B>> {
     ///
     /// `Damaged` with the first table at `old` that isn't sound; with `meta` where no file is there, or where it is empty, of the
     /// newest edition, or no store of tables whose rows keep its own schema. `NameTaken` where something is in the file at
-    /// `new`, or changes may be in the log beside it. `Memory` where memory was refused. `Held` where another program has
+    /// `new`, or changes may be in the log beside it. `Memory` where memory was refused. `InUse` where another program has
     /// the file at `old`. `Device` where a file can't be read or made, where somebody has the one at `new`, and where
     /// both are one file. With each of the errors the files are as they were, but for an
     /// empty one that was made at `new` and couldn't be opened. With a copy the file at `old` isn't changed; beside it a log
@@ -267,7 +267,7 @@ impl<'a, A: Start, B: Start> Machine<'a, VaultStore<A>, VaultStore<B>> {
         old: &str,
         new: &str,
         starts: Starts<A, B>,
-    ) -> Result<Migrated<VaultStore<A>, VaultStore<B>>, Unopened>
+    ) -> Result<Migrated<VaultStore<A>, VaultStore<B>>, OpenError>
         // It is counted just where there is a copy.
         ensures counted { OnOk result (self.new ≡ record self.old { looked = after_a_look self.old.looked; given = with_copied self.old.given }) }
         ensures uncounted { OnErr result (self.new ≡ record self.old { looked = after_a_look self.old.looked; refused = self.new.refused; uncopied = self.new.uncopied }) }

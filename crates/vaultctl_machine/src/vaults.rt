@@ -31,7 +31,7 @@ ghost use Rattle.vaultctl_machine.specs.Refusals.{IsRefusedOver, IsUnmade, IsUnm
 use crate::editions::why_unsound;
 use crate::given::Given;
 use crate::looks::{cause_of_kind, looked_at};
-use crate::unopened::{Unopened, with_cause};
+use crate::open_error::{OpenError, with_cause};
 use http_server::Log;
 use sqlite::{Alter, Connection, Error, ErrorCode, FileStore, Files, Start};
 use sqlite_disk::Disk;
@@ -78,8 +78,8 @@ pub struct Machine<'a, S: Alter, T: Alter> {
 pub type FileMachine<'a, A, B> = Machine<'a, VaultStore<A>, VaultStore<B>>;
 
 /// What a failure to open a file is reported as, where a vault should be in it.
-fn unopened(error: Error) -> Refusal
-    ensures exact { result ≡ spec.unopened_of error }
+fn open_refusal(error: Error) -> Refusal
+    ensures exact { result ≡ spec.open_refusal_of error }
     ensures reported { IsReported result }
 {
     match error {
@@ -92,46 +92,46 @@ fn unopened(error: Error) -> Refusal
 }
 
 /// What a failure to open a file is reported as, where a new vault is to be made in it.
-pub(crate) fn unmade(error: Error) -> Refusal
-    ensures exact { result ≡ spec.unmade_of error }
+pub(crate) fn create_refusal(error: Error) -> Refusal
+    ensures exact { result ≡ spec.create_refusal_of error }
     ensures reported { IsUnmade result }
 {
-    match unopened(error) {
+    match open_refusal(error) {
         Refusal::Damaged(_) => Refusal::NameTaken,
         other => other,
     }
 }
 
 /// Why the files at a path aren't opened, where the failure is reported as that unless another program has them.
-pub(crate) fn cause(error: Error, stated: Refusal) -> Unopened
+pub(crate) fn cause(error: Error, stated: Refusal) -> OpenError
     ensures exact { result ≡ spec.cause_of error stated }
     ensures refusal { (refusal_of result ≡ Refusal.Device) ⊎ (refusal_of result ≡ stated) }
-    ensures failure { (stated ≡ spec.unopened_of error) ⊎ (stated ≡ spec.unmade_of error) → ReportsFailure result }
+    ensures failure { (stated ≡ spec.open_refusal_of error) ⊎ (stated ≡ spec.create_refusal_of error) → ReportsFailure result }
 {
     match error {
-        Error::SqliteFailure(ErrorCode::DatabaseBusy) => Unopened::Held,
-        Error::SqliteFailure(ErrorCode::DiskFull) => Unopened::Seen(Cause::Full, stated),
-        Error::SqliteFailure(ErrorCode::SystemIoFailure) => Unopened::Seen(Cause::Failed, stated),
-        _ => Unopened::Refused(stated),
+        Error::SqliteFailure(ErrorCode::DatabaseBusy) => OpenError::InUse,
+        Error::SqliteFailure(ErrorCode::DiskFull) => OpenError::Seen(Cause::Full, stated),
+        Error::SqliteFailure(ErrorCode::SystemIoFailure) => OpenError::Seen(Cause::Failed, stated),
+        _ => OpenError::Refused(stated),
     }
 }
 
 /// What it is reported as that one can't see what is at a path.
-fn unseen(error: io::Error) -> Unopened
+fn look_error(error: io::Error) -> OpenError
     ensures { Reports IsFault result }
 {
     if error.kind() == ErrorKind::OutOfMemory {
-        return Unopened::Refused(Refusal::Memory);
+        return OpenError::Refused(Refusal::Memory);
     }
-    Unopened::Refused(Refusal::Device)
+    OpenError::Refused(Refusal::Device)
 }
 
 /// What it is reported as that no file can be made at a path.
-fn unmakable(error: io::Error) -> Unopened
+fn folder_error(error: io::Error) -> OpenError
     ensures { Reports IsFault result }
 {
-    match unseen(error) {
-        Unopened::Refused(Refusal::Device) => with_cause(
+    match look_error(error) {
+        OpenError::Refused(Refusal::Device) => with_cause(
             Refusal::Device,
             cause_of_kind(error.kind()),
         ),
@@ -140,63 +140,63 @@ fn unmakable(error: io::Error) -> Unopened
 }
 
 /// The files at a path where tables may be, or why none can be there.
-pub(crate) fn site_there<'a>(rt: &'a HostRuntime, path: &'a str) -> Result<Site<'a>, Unopened>
+pub(crate) fn site_there<'a>(rt: &'a HostRuntime, path: &'a str) -> Result<Site<'a>, OpenError>
     ensures { IfErr result (Reports IsReported) }
 {
     match place_at(rt, path) {
         Ok(place) if place.may_hold_tables() => Ok(Site::new(rt, path, place)),
-        Ok(_) => Err(Unopened::Refused(without_tables())),
-        Err(error) => Err(unseen(error)),
+        Ok(_) => Err(OpenError::Refused(without_tables())),
+        Err(error) => Err(look_error(error)),
     }
 }
 
 /// The files at a path where a vault may be made, or why none can be.
-pub(crate) fn site_for_new<'a>(rt: &'a HostRuntime, path: &'a str) -> Result<Site<'a>, Unopened>
+pub(crate) fn site_for_new<'a>(rt: &'a HostRuntime, path: &'a str) -> Result<Site<'a>, OpenError>
     ensures { IfErr result (Reports IsUnmade) }
 {
     match place_at(rt, path) {
         Ok(place) if place.may_be_made() => Ok(Site::new(rt, path, place)),
-        Ok(_) => Err(Unopened::Refused(Refusal::NameTaken)),
-        Err(error) => Err(unseen(error)),
+        Ok(_) => Err(OpenError::Refused(Refusal::NameTaken)),
+        Err(error) => Err(look_error(error)),
     }
 }
 
 /// Opens the files at a path where a vault should be. None is made there but a log.
 ///
 /// `Damaged` with `meta` where no file is there, where it is empty or no store of tables whose rows keep its own schema.
-/// `Memory` where memory was refused, `Device` where the file can't be read, and `Held` where another program has it. With
+/// `Memory` where memory was refused, `Device` where the file can't be read, and `InUse` where another program has it. With
 /// each of them the files are as they were.
 pub(crate) fn connect_there<S: Start>(
     site: &Site<'_>,
     start: S,
-) -> Result<Opened<VaultStore<S>>, Unopened>
+) -> Result<Opened<VaultStore<S>>, OpenError>
     ensures opened { IfOk result (λ it. HasCleanDisk (file_state it.conn) → IsOpened it.conn) }
     ensures found { IfOk result (λ it. HasCleanDisk (file_state it.conn) → FindsIn (image_at S.Start) (file_state it.conn)) }
     ensures reported { IfErr result (Reports IsReported) }
 {
     match connect::connect_there(site, start) {
         Ok(opened) => Ok(opened),
-        Err(error) => Err(cause(error, unopened(error))),
+        Err(error) => Err(cause(error, open_refusal(error))),
     }
 }
 
 /// Opens the files at a path where a vault is to be made, and makes those that are missing.
 ///
 /// `NameTaken` where something is in the file that is no store of tables, `Memory` where memory was refused, `Device` where
-/// the file can't be made, and `Held` where another program has it. With each of them the files are as they were.
+/// the file can't be made, and `InUse` where another program has it. With each of them the files are as they were.
 pub(crate) fn connect_new<S: Start>(
     site: &Site<'_>,
     start: S,
-) -> Result<Opened<VaultStore<S>>, Unopened>
+) -> Result<Opened<VaultStore<S>>, OpenError>
     ensures opened { IfOk result (λ it. HasCleanDisk (file_state it.conn) → IsOpened it.conn) }
     ensures reported { IfErr result (Reports IsUnmade) }
 {
     if let Err(error) = site.make_file() {
-        return Err(unmakable(error));
+        return Err(folder_error(error));
     }
     match connect::connect_new(site, start) {
         Ok(opened) => Ok(opened),
-        Err(error) => Err(cause(error, unmade(error))),
+        Err(error) => Err(cause(error, create_refusal(error))),
     }
 }
 
@@ -219,7 +219,7 @@ pub(crate) fn let_go<S: Start>(
 
 /// Why a vault was refused that was looked at, or made, in an open store: what it is reported as, with the cause of a damage,
 /// which is `unsound` where `meta` isn't sound, and of a failure.
-pub(crate) fn refused(refusal: Refusal, unsound: Cause, had_no_room: bool) -> Unopened
+pub(crate) fn refused(refusal: Refusal, unsound: Cause, had_no_room: bool) -> OpenError
     ensures refusal { refusal_of result ≡ refusal }
     ensures failure { ReportsFailure result }
 {
@@ -292,7 +292,7 @@ fn found_in<S: Start>(
     lost: &mut Log<Connection<VaultStore<S>>, bool>,
     site: &Site<'_>,
     found: Opened<VaultStore<S>>,
-) -> Result<FileVault<S>, Unopened>
+) -> Result<FileVault<S>, OpenError>
     requires opened { HasCleanDisk (file_state found.conn) → IsOpened found.conn }
     requires found { HasCleanDisk (file_state found.conn) → FindsIn (image_at S.Start) (file_state found.conn) }
     ensures sound { IfOk result (λ vault. HasCleanDisk (file_state vault.conn) → AreSound (file_state vault.conn).now (vault_of over_files vault)) }
@@ -343,7 +343,7 @@ fn made_in<S: Start>(
     lost: &mut Log<Connection<VaultStore<S>>, bool>,
     site: &Site<'_>,
     empty: Opened<VaultStore<S>>,
-) -> Result<FileVault<S>, Unopened>
+) -> Result<FileVault<S>, OpenError>
     requires opened { HasCleanDisk (file_state empty.conn) → IsOpened empty.conn }
     ensures opening { IfOk result (λ vault. HasCleanDisk (file_state vault.conn) → vault_of over_files vault ≡ opening) }
     ensures sound { IfOk result (λ vault. HasCleanDisk (file_state vault.conn) → AreSound (file_state vault.conn).now opening) }
@@ -375,7 +375,7 @@ fn opened_at<S: Start>(
     rt: &HostRuntime,
     path: &str,
     start: S,
-) -> Result<FileVault<S>, Unopened>
+) -> Result<FileVault<S>, OpenError>
     ensures sound { IfOk result (λ vault. HasCleanDisk (file_state vault.conn) → AreSound (file_state vault.conn).now (vault_of over_files vault)) }
     ensures found { IfOk result (λ vault. HasCleanDisk (file_state vault.conn) → IsFoundIn (image_at S.Start) (vault_of over_files vault)) }
     ensures held { (v : Vault) → IsHeldIn (image_at S.Start) v → IfOk result (λ vault. HasCleanDisk (file_state vault.conn) → vault_of over_files vault ≡ v) }
@@ -404,7 +404,7 @@ fn made_at<S: Start>(
     rt: &HostRuntime,
     path: &str,
     start: S,
-) -> Result<FileVault<S>, Unopened>
+) -> Result<FileVault<S>, OpenError>
     ensures opening { IfOk result (λ vault. HasCleanDisk (file_state vault.conn) → vault_of over_files vault ≡ opening) }
     ensures sound { IfOk result (λ vault. HasCleanDisk (file_state vault.conn) → AreSound (file_state vault.conn).now opening) }
     ensures alone { IfOk result (λ vault. HasCleanDisk (file_state vault.conn) → LeavesAlone (file_state vault.conn) opening) }
@@ -456,8 +456,8 @@ impl<'a, A: Start, B: Start> Machine<'a, VaultStore<A>, VaultStore<B>> {
     /// `Damaged` with the first table that isn't; with `meta` where the file isn't there or is empty, or is no store
     /// of tables whose rows keep its own schema. With each of the errors the file and its log are as they were,
     /// and none is made. `Memory` where memory was refused, `Device` where the file can't be read, and
-    /// `Held` where another program has it.
-    pub fn open(&mut self, path: &str, start: A) -> Result<FileVault<A>, Unopened>
+    /// `InUse` where another program has it.
+    pub fn open(&mut self, path: &str, start: A) -> Result<FileVault<A>, OpenError>
         // It is counted just where there is one.
         ensures counted { OnOk result (self.new ≡ record self.old { looked = after_a_look self.old.looked; given = with_opened self.old.given }) }
         ensures uncounted { OnErr result (self.new ≡ record self.old { looked = after_a_look self.old.looked; refused = self.new.refused }) }
@@ -491,9 +491,9 @@ impl<'a, A: Start, B: Start> Machine<'a, VaultStore<A>, VaultStore<B>> {
     /// Makes a new vault in a file that isn't there or is empty. `start` stands for what the file and its log hold.
     ///
     /// `NameTaken` where something is in it, or changes may be in the log beside it, and both are left as they are.
-    /// `Memory` where memory was refused, `Device` where the file can't be made, and `Held` where another program
+    /// `Memory` where memory was refused, `Device` where the file can't be made, and `InUse` where another program
     /// has it.
-    pub fn make(&mut self, path: &str, start: A) -> Result<FileVault<A>, Unopened>
+    pub fn make(&mut self, path: &str, start: A) -> Result<FileVault<A>, OpenError>
         // It is counted just where there is one.
         ensures counted { OnOk result (self.new ≡ record self.old { looked = after_a_look self.old.looked; given = with_made self.old.given }) }
         ensures uncounted { OnErr result (self.new ≡ record self.old { looked = after_a_look self.old.looked; refused = self.new.refused }) }

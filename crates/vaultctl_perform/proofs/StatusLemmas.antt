@@ -4,7 +4,7 @@ use Rattle.std.specs.Prelude.{IfOk, OnOk}
 use Rattle.vaultctl_commands.specs.declared.fault.JobFault.{JobFault}
 use Rattle.vaultctl_commands.specs.declared.outcome.Outcome.{Outcome}
 use Rattle.vaultctl_commands.specs.declared.outcome.Outcome.TheVariants.{Done, Refused}
-use Rattle.vaultctl_machine.specs.declared.unopened.Unopened.{Unopened}
+use Rattle.vaultctl_machine.specs.declared.open_error.OpenError.{OpenError}
 use Rattle.vaultctl_perform.specs.Status.{made_status, status_of}
 
 -- status 0 is that of a job that was done, of which holds what holds of all outcomes
@@ -20,11 +20,11 @@ holds_at_zero P (Ok Refused) p z = absurd (cc)
 holds_at_zero P (Err fault) p z = absurd (cc)
 
 -- status 0 is that of a vault that was made, of which holds what holds where it was
-pub made_at_zero : (P : Type 0) (made : Result (Unit {0}) Unopened) → made_status made ≡ 0 → OnOk made P → P
+pub made_at_zero : (P : Type 0) (made : Result (Unit {0}) OpenError) → made_status made ≡ 0 → OnOk made P → P
 made_at_zero P (Ok done) z is = is
 made_at_zero P (Err cause) z is = absurd (cc)
 
 -- what holds where a step was done, of one that was
-pub holds_of_done : (P : Type 0) (step : Result (Unit {0}) Unopened) → step ≡ Ok tt → OnOk step P → P
+pub holds_of_done : (P : Type 0) (step : Result (Unit {0}) OpenError) → step ≡ Ok tt → OnOk step P → P
 holds_of_done P (Ok done) e is = is
 holds_of_done P (Err cause) e is = absurd (cc)

@@ -12,7 +12,7 @@ ghost use Rattle.vaultctl_perform.specs.Status as spec;
 use crate::messages::print_cause;
 use sqlite::Start;
 use std::io::Write;
-use vaultctl_machine::unopened::Unopened;
+use vaultctl_machine::open_error::OpenError;
 use vaultctl_machine::vaults::{FileMachine, FileVault};
 
 /// Closes a vault that was made just now.
@@ -29,7 +29,7 @@ fn make<A: Start, B: Start>(
     machine: &mut FileMachine<'_, A, B>,
     file: &str,
     start: A,
-) -> Result<(), Unopened>
+) -> Result<(), OpenError>
     ensures given { OnOk result (machine.new.given ≡ with_made machine.old.given) }
     ensures done { OnOk result (Closes machine.old.closed.items machine.new.closed.items (λ conn. HasCleanDisk (file_state conn) → ∥ StandsFor (file_state conn) opening ∥₁)) }
 {
@@ -39,7 +39,7 @@ fn make<A: Start, B: Start>(
 }
 
 /// Says why a vault wasn't made, and answers the status.
-fn print_made<E: Write>(err: &mut E, made: Result<(), Unopened>) -> u8
+fn print_made<E: Write>(err: &mut E, made: Result<(), OpenError>) -> u8
     ensures { result ≡ spec.made_status made }
 {
     match made {

@@ -12,7 +12,7 @@ use vault_io::writing::write_bytes;
 use vaultctl_commands::carrying::print_refusal;
 use vaultctl_commands::fault::JobFault;
 use vaultctl_commands::outcome::Outcome;
-use vaultctl_machine::unopened::Unopened;
+use vaultctl_machine::open_error::OpenError;
 use vaultctl_remedies::remedies::remedy;
 use vaultctl_remedies::slips::{Value, say_slip};
 use vaultctl_work::saying::say;
@@ -91,7 +91,7 @@ pub fn print_unopened<E: Write>(err: &mut E, deed: &str, refusal: Refusal) -> u8
 }
 
 /// What a refusal of a file means whose cause the files don't show.
-fn unseen(refusal: Refusal) -> &'static str {
+fn plain_words(refusal: Refusal) -> &'static str {
     match refusal {
         Refusal::Device => {
             "the system doesn't let the file be looked at or opened: check the path, the length of its names, and the disk"
@@ -101,12 +101,12 @@ fn unseen(refusal: Refusal) -> &'static str {
 }
 
 /// Writes a cause in words on a line of its own.
-pub fn print_words<E: Write>(err: &mut E, cause: Unopened) {
-    say(err, cause.words().unwrap_or(unseen(cause.refusal())));
+pub fn print_words<E: Write>(err: &mut E, cause: OpenError) {
+    say(err, cause.words().unwrap_or(plain_words(cause.refusal())));
 }
 
 /// Names why a vault can't be opened or made; and on a second line says in words what the cause is and what to do.
-pub fn print_cause<E: Write>(err: &mut E, deed: &str, cause: Unopened) -> u8
+pub fn print_cause<E: Write>(err: &mut E, deed: &str, cause: OpenError) -> u8
     ensures { result ≡ 1 }
 {
     let status = print_unopened(err, deed, cause.refusal());

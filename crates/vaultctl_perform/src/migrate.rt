@@ -13,8 +13,8 @@ use std::io::Write;
 use vaultctl_commands::fault::JobFault;
 use vaultctl_commands::outcome::Outcome;
 use vaultctl_commands::printing::print;
+use vaultctl_machine::open_error::OpenError;
 use vaultctl_machine::starts::Starts;
-use vaultctl_machine::unopened::Unopened;
 use vaultctl_machine::vaults::FileMachine;
 
 /// Copies the vault and closes both files.
@@ -23,7 +23,7 @@ fn copy<A: Start, B: Start>(
     old: &str,
     new: &str,
     starts: Starts<A, B>,
-) -> Result<(), Unopened>
+) -> Result<(), OpenError>
     ensures looked { machine.new.looked ≡ after_a_look machine.old.looked }
     ensures given { OnOk result (machine.new.given ≡ with_copied machine.old.given) }
     ensures done { OnOk result (Copies (image_at A.Start) machine.old.closed.items machine.new.closed.items machine.old.copies.items machine.new.copies.items) }
@@ -42,7 +42,7 @@ fn print_done<W: Write>(out: &mut W) -> Result<Outcome, JobFault>
 }
 
 /// Prints `migrated` of a vault that was copied, or names on `err` why it wasn't.
-fn print_copied<W: Write, E: Write>(copied: Result<(), Unopened>, out: &mut W, err: &mut E) -> u8
+fn print_copied<W: Write, E: Write>(copied: Result<(), OpenError>, out: &mut W, err: &mut E) -> u8
     ensures migrated { result ≡ 0 → (copied ≡ Ok tt) × Appends (W.contents out.old) (W.contents out.new) spec.migrated_line }
     ensures status { result ≢ 2 }
 {

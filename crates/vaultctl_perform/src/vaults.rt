@@ -16,7 +16,7 @@ use std::io::{Read, Write};
 use vault_core_model::keeper::Keeper;
 use vaultctl_commands::fault::JobFault;
 use vaultctl_commands::outcome::Outcome;
-use vaultctl_machine::unopened::Unopened;
+use vaultctl_machine::open_error::OpenError;
 use vaultctl_machine::vaults::{FileMachine, FileVault};
 use vaultctl_machine_places::opened_files::OpenedFiles;
 use vaultctl_machine_places::watched_keeper::{Watch, WatchedKeeper};
@@ -30,7 +30,7 @@ fn watch<'a, A: Start, B: Start>(
     machine: &mut FileMachine<'a, A, B>,
     file: &str,
     vault: FileVault<A>,
-) -> Result<WatchedVault<'a, A>, Unopened>
+) -> Result<WatchedVault<'a, A>, OpenError>
     ensures machine { OnOk result (machine.new ≡ machine.old) }
     ensures below { IfOk result (λ it. it.keeper ≡ vault) }
 {
@@ -38,7 +38,7 @@ fn watch<'a, A: Start, B: Start>(
         Ok(files) => Ok(WatchedKeeper::new(vault, files)),
         Err(refusal) => {
             drop(machine.close(vault));
-            Err(Unopened::Refused(refusal))
+            Err(OpenError::Refused(refusal))
         }
     }
 }
@@ -48,7 +48,7 @@ fn open_watched<'a, A: Start, B: Start>(
     machine: &mut FileMachine<'a, A, B>,
     file: &str,
     start: A,
-) -> Result<WatchedVault<'a, A>, Unopened>
+) -> Result<WatchedVault<'a, A>, OpenError>
     ensures given { OnOk result (machine.new.given ≡ with_opened machine.old.given) }
     ensures closed { OnOk result (machine.new.closed ≡ machine.old.closed) }
     ensures found { IfOk result (λ it. HasCleanDisk (file_state it.keeper.conn) → IsFoundIn (image_at A.Start) (vault_of over_files it.keeper)) }

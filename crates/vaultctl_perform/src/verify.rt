@@ -18,7 +18,7 @@ use vault_base::refusal::{Refusal, Table};
 use vaultctl_commands::fault::JobFault;
 use vaultctl_commands::outcome::Outcome;
 use vaultctl_commands::printing::print;
-use vaultctl_machine::unopened::Unopened;
+use vaultctl_machine::open_error::OpenError;
 use vaultctl_machine::vaults::{FileMachine, FileVault};
 
 /// The line that names a table which isn't sound. The error is want of memory.
@@ -55,7 +55,7 @@ fn print_sound<W: Write>(out: &mut W) -> Result<Outcome, JobFault>
 fn print_unsound<W: Write, E: Write>(
     alloc: Global,
     table: Table,
-    cause: Unopened,
+    cause: OpenError,
     out: &mut W,
     err: &mut E,
 ) -> u8
@@ -68,7 +68,12 @@ fn print_unsound<W: Write, E: Write>(
 }
 
 /// Prints `damaged` and the table that isn't sound, or names on `err` why else a vault wasn't opened.
-fn print_refused<W: Write, E: Write>(alloc: Global, cause: Unopened, out: &mut W, err: &mut E) -> u8
+fn print_refused<W: Write, E: Write>(
+    alloc: Global,
+    cause: OpenError,
+    out: &mut W,
+    err: &mut E,
+) -> u8
     ensures { result ≡ 1 }
 {
     match cause.refusal() {
@@ -80,7 +85,7 @@ fn print_refused<W: Write, E: Write>(alloc: Global, cause: Unopened, out: &mut W
 /// Prints `sound` of a vault that was opened, `damaged` and the table that isn't, or why else it wasn't opened.
 fn print_opened<W: Write, E: Write>(
     alloc: Global,
-    opened: Result<(), Unopened>,
+    opened: Result<(), OpenError>,
     out: &mut W,
     err: &mut E,
 ) -> u8
@@ -107,7 +112,7 @@ fn look<A: Start, B: Start>(
     machine: &mut FileMachine<'_, A, B>,
     file: &str,
     start: A,
-) -> Result<(), Unopened>
+) -> Result<(), OpenError>
     ensures given { OnOk result (machine.new.given ≡ with_opened machine.old.given) }
     ensures done { OnOk result (Carries (image_at A.Start) machine.old.closed.items machine.new.closed.items (λ v w. w ≡ v)) }
 {

@@ -8,10 +8,10 @@ use vaultctl_machine_places::cause::Cause;
 
 /// Why the vault in a file isn't opened or made.
 #[derive(Clone, Copy, Debug, PartialEq, Eq, Error)]
-pub enum Unopened {
+pub enum OpenError {
     /// Another program has the file or its log open, if only to read. It is reported as `Device`.
     #[error("another program has the file or its log open")]
-    Held,
+    InUse,
     /// For a cause that the files show, which is reported as this.
     #[error("{}", .0.words())]
     Seen(Cause, Refusal),
@@ -20,26 +20,26 @@ pub enum Unopened {
     Refused(Refusal),
 }
 
-impl Unopened {
+impl OpenError {
     /// What it is reported as.
     pub fn refusal(self) -> Refusal
         ensures { result ≡ spec.refusal_of self }
     {
         match self {
-            Unopened::Held => Refusal::Device,
-            Unopened::Seen(_, refusal) => refusal,
-            Unopened::Refused(refusal) => refusal,
+            OpenError::InUse => Refusal::Device,
+            OpenError::Seen(_, refusal) => refusal,
+            OpenError::Refused(refusal) => refusal,
         }
     }
 
     /// The cause in words, with what to do about it; none where the refusal says all that is known.
     pub fn words(self) -> Option<&'static str> {
         match self {
-            Unopened::Held => Some(
+            OpenError::InUse => Some(
                 "another program has the vault's file open, if only to read: end it, or wait, and give the command again",
             ),
-            Unopened::Seen(cause, _) => Some(cause.words()),
-            Unopened::Refused(_) => None,
+            OpenError::Seen(cause, _) => Some(cause.words()),
+            OpenError::Refused(_) => None,
         }
     }
 }
@@ -55,16 +55,16 @@ fn is_failure(cause: Cause) -> bool
 }
 
 /// The cause of a refusal that the files show, if they show one. A failure of the disk is shown with `Device` alone.
-pub(crate) fn with_cause(refusal: Refusal, seen: Option<Cause>) -> Unopened
+pub(crate) fn with_cause(refusal: Refusal, seen: Option<Cause>) -> OpenError
     ensures refusal { spec.refusal_of result ≡ refusal }
     ensures failure { spec.ReportsFailure result }
 {
     let Some(cause) = seen else {
-        return Unopened::Refused(refusal);
+        return OpenError::Refused(refusal);
     };
     match refusal {
-        Refusal::Device => Unopened::Seen(cause, Refusal::Device),
-        _ if is_failure(cause) => Unopened::Refused(refusal),
-        _ => Unopened::Seen(cause, refusal),
+        Refusal::Device => OpenError::Seen(cause, Refusal::Device),
+        _ if is_failure(cause) => OpenError::Refused(refusal),
+        _ => OpenError::Seen(cause, refusal),
     }
 }
