@@ -22,6 +22,7 @@ use Rattle.sqlite.specs.Listing.{understood}
 use Rattle.sqlite.specs.State.{State, Executes, mode_of}
 use Rattle.sqlite.proofs.Callers.{statement_of, runs_as, one_step}
 use Rattle.vault_base.specs.declared.refusal.Table.TheVariants as table
+use Rattle.vault_core_model.specs.Rights.{rights_number}
 use Rattle.vault_core_model.specs.Vault.{opening}
 use Rattle.vault_audit_model.specs.Order.{place_of}
 use Rattle.vault_audit_model.specs.Tables.{vault_schema, meta, callers, meta_tree, callers_tree}
@@ -79,6 +80,7 @@ meta_put old new count was h =
 
 -- the tables are those of a new vault after the statement that puts its caller
 pub registrar_put : (old new : State) (count : ℕ) → HasMetaRow old.now → Executes registrar_text [] old new (Ok count) → IsFilled new.now
+unfolding rights_number
 registrar_put old new count was h =
     let command = Insert (place_of table.Callers) (Values registrar_terms 5) in
     let w = runs_as registrar_text [] old new vault_schema was.schema command registrar_is registrar_plain count h in
