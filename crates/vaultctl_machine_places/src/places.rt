@@ -1,16 +1,17 @@
 //! What stands at a path before its files are opened: so nothing is made or changed where no vault can be.
-ghost use Rattle.std.specs.Prelude.{◌≡◌, ◌≢◌, ◌↔◌, ◌==◌, Ok, Err, Some, None, IfOk, IfErr, OnOk, IsTrue, false, true, is_some, not, option_map};
+ghost use Rattle.std.specs.Prelude.{◌≡◌, ◌≢◌, ◌↔◌, ◌==◌, Ok, Err, Some, None, IfOk, IfErr, IfSome, OnErr, OnOk, IsTrue, false, true, is_some, not, option_map, take};
 ghost use Rattle.std.specs.Fs.{IsFile, file_type, metadata_len};
 ghost use Rattle.std.specs.IoError.{error_kind};
 ghost use Rattle.std.specs.Str.{bytes_eq};
 ghost use Rattle.vaultctl_machine_places.specs.Places as spec;
 
 use crate::cause::Cause;
+use std::alloc::Global;
 use std::fs::{self, Metadata};
 use std::io::{self, ErrorKind, Read};
 
 /// How many bytes of a file are looked at.
-const FIRST_BYTES: usize = 16;
+const FIRST_BYTES: u64 = 16;
 
 /// The bytes of the shortest log that can have a change: its own header, and that of a frame. No opening reads a shorter one.
 const LEAST_LOG: u64 = 56;
@@ -108,24 +109,28 @@ fn are_first_bytes(bytes: &[u8]) -> bool
 }
 
 /// Whether a file begins as one that holds tables, by what the read of its first bytes returned. A shorter file doesn't.
-fn begins_as_read(read: io::Result<()>, first: &[u8]) -> io::Result<bool>
+fn begins_as_read(read: io::Result<usize>, first: &[u8]) -> io::Result<bool>
     ensures whole { OnOk read (result ≡ Ok (bytes_eq first.now spec.first_bytes)) }
-    ensures short { IfErr read (λ e. error_kind e ≡ ErrorKind.UnexpectedEof → result ≡ Ok false) }
-    ensures fails { IfErr read (λ e. error_kind e ≢ ErrorKind.UnexpectedEof → result ≡ Err e) }
+    ensures fails { IfErr read (λ e. result ≡ Err e) }
 {
     match read {
-        Ok(()) => Ok(are_first_bytes(first)),
-        Err(error) if error.kind() == ErrorKind::UnexpectedEof => Ok(false),
+        Ok(_) => Ok(are_first_bytes(first)),
         Err(error) => Err(error),
     }
 }
 
-/// Whether a file begins as one that holds tables. The error is that it can't be read.
+/// Whether what a reader gives begins as a file that holds tables. The error is that it can't be read, or want of memory.
+fn begins_as_tables<R: Read + Drop>(alloc: Global, reader: R) -> io::Result<bool>
+    ensures { IfOk result (λ begins. IfSome (R.remaining reader) (λ bytes. begins ≡ bytes_eq (take 16 bytes) spec.first_bytes)) }
+{
+    let mut first = Vec::new(alloc);
+    let read = reader.take(FIRST_BYTES).read_to_end(&mut first);
+    begins_as_read(read, first.as_slice())
+}
+
+/// Whether a file begins as one that holds tables. The error is that it can't be read, or want of memory.
 fn begins_well(rt: &HostRuntime, file: &str) -> io::Result<bool> {
-    let mut opened = fs::open(rt, file)?;
-    let mut first = [0u8; FIRST_BYTES];
-    let read = opened.read_exact(&mut first);
-    begins_as_read(read, &first)
+    begins_as_tables(rt.alloc(), fs::open(rt, file)?)
 }
 
 /// What a look at a path found, if anything is there. Any other error of the look stays one.
@@ -182,6 +187,9 @@ fn missing(rt: &HostRuntime, path: &str) -> io::Result<Place>
 fn plain(found: Metadata) -> io::Result<Metadata>
     ensures kept { IfOk result (λ it. it ≡ found) }
     ensures file { OnOk result (IsFile (file_type found)) }
+    // A file is never refused.
+    ensures other { OnErr result (¬ IsFile (file_type found)) }
+    ensures kind { IfErr result (λ e. error_kind e ≡ ErrorKind.Unsupported) }
 {
     if !found.is_file() {
         return Err(io::Error::from(ErrorKind::Unsupported));
