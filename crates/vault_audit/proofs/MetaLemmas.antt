@@ -13,6 +13,7 @@ use Rattle.vault_audit_model.specs.declared.schema.Edition.{Edition}
 use Rattle.vault_audit_model.specs.declared.schema.Edition.TheVariants.{First, Second, Third}
 use Rattle.vault_audit_model.specs.Rows.{meta_row, meta_columns_as}
 use Rattle.vault_audit_model.specs.Tables.{meta_tree}
+use Rattle.vault_audit_model.proofs.CommandLemmas.{meant}
 use Rattle.vault_audit_model.proofs.SameRows.{same_meta}
 use Rattle.vault_audit_records.specs.Meta.{IsFirstMeta, with_meta, IsMetaOf}
 use Rattle.vault_audit_schema.specs.Places.{BeginTo}
@@ -27,9 +28,9 @@ abbrev source : Edition → Database → List Row
 source n db = map (meta_columns_as n) (db.trees meta_tree)
 
 answers : (n : Edition) (s : Schema) → BeginTo n s.tables table.Meta → (a b : State) → a.now.schema ≡ s → (rows : List Row) → Shown (meta_query n) [] a b rows → IsPermutation (source n a.now) rows × IsSorted first_cmp rows
-answers First s begin a b has rows shown = let it = meta_walks First s begin in walked (meta_query First) a b s has it.plain it.unlisted meta_tree 0 (drop 1 (meta_terms First)) _ it.command refl rows shown
-answers Second s begin a b has rows shown = let it = meta_walks Second s begin in walked (meta_query Second) a b s has it.plain it.unlisted meta_tree 0 (drop 1 (meta_terms Second)) _ it.command refl rows shown
-answers Third s begin a b has rows shown = let it = meta_walks Third s begin in walked (meta_query Third) a b s has it.plain it.unlisted meta_tree 0 (drop 1 (meta_terms Third)) _ it.command refl rows shown
+answers First s begin a b has rows shown = let it = meta_walks First s begin in walked (meta_query First) a b s has it.plain it.unlisted meta_tree 0 (drop 1 (meta_terms First)) _ (meant s (meta_query First) it) refl rows shown
+answers Second s begin a b has rows shown = let it = meta_walks Second s begin in walked (meta_query Second) a b s has it.plain it.unlisted meta_tree 0 (drop 1 (meta_terms Second)) _ (meant s (meta_query Second) it) refl rows shown
+answers Third s begin a b has rows shown = let it = meta_walks Third s begin in walked (meta_query Third) a b s has it.plain it.unlisted meta_tree 0 (drop 1 (meta_terms Third)) _ (meant s (meta_query Third) it) refl rows shown
 
 abbrev start : Edition → MetaPass
 start n = record { edition = n; found = None }
@@ -41,7 +42,7 @@ rise n (x ∷ y ∷ xs) fit = absurd (let never = fit.1.0.0 in cc)
 
 module _ (n : Edition) (old new : State) (begin : BeginTo n old.now.schema.tables table.Meta) (same : IsUnchanged old new) (r : MetaPass) where
   pub meta_yes : Walked (Takes meta_row IsFirstMeta with_meta) (Refuses meta_row IsFirstMeta with_meta) (meta_query n) old new (start n) r true → (x : MetaRow) → r.found ≡ Some x → IsMetaOf n new.now (Some x)
-  meta_yes h = one (walk_yes meta_row IsFirstMeta with_meta same_meta old.now.schema (meta_query n) _ _ (meta_walks n old.now.schema begin).command (source n) (answers n old.now.schema begin) old new refl same (start n) r h)
+  meta_yes h = one (walk_yes meta_row IsFirstMeta with_meta same_meta old.now.schema (meta_query n) _ _ (meant old.now.schema (meta_query n) (meta_walks n old.now.schema begin)) (source n) (answers n old.now.schema begin) old new refl same (start n) r h)
     where
       one : (xs : List MetaRow) × IsPermutation (map meta_row xs) (source n new.now) × AllFit meta_row IsFirstMeta with_meta (start n) xs × (r ≡ after meta_row IsFirstMeta with_meta (start n) xs) → (x : MetaRow) → r.found ≡ Some x → IsMetaOf n new.now (Some x)
       one ([], are, fit, is) x found = absurd (let e = ap (λ (p : MetaPass). p.found) is in cc)
@@ -52,7 +53,7 @@ module _ (n : Edition) (old new : State) (begin : BeginTo n old.now.schema.table
 
   -- no row at all
   pub meta_none : Walked (Takes meta_row IsFirstMeta with_meta) (Refuses meta_row IsFirstMeta with_meta) (meta_query n) old new (start n) r true → r.found ≡ None → IsMetaOf n new.now None
-  meta_none h = one (walk_yes meta_row IsFirstMeta with_meta same_meta old.now.schema (meta_query n) _ _ (meta_walks n old.now.schema begin).command (source n) (answers n old.now.schema begin) old new refl same (start n) r h)
+  meta_none h = one (walk_yes meta_row IsFirstMeta with_meta same_meta old.now.schema (meta_query n) _ _ (meant old.now.schema (meta_query n) (meta_walks n old.now.schema begin)) (source n) (answers n old.now.schema begin) old new refl same (start n) r h)
     where
       one : (xs : List MetaRow) × IsPermutation (map meta_row xs) (source n new.now) × AllFit meta_row IsFirstMeta with_meta (start n) xs × (r ≡ after meta_row IsFirstMeta with_meta (start n) xs) → r.found ≡ None → IsMetaOf n new.now None
       one ([], are, fit, is) none x one_row head = absurd (let a = length_permutation _ _ are in let b = length_permutation _ _ one_row in omega arith)
@@ -60,7 +61,7 @@ module _ (n : Edition) (old new : State) (begin : BeginTo n old.now.schema.table
       one (y ∷ z ∷ more, are, fit, is) none x one_row head = absurd (let never = fit.1.0.0 in cc)
 
   pub meta_no : Walked (Takes meta_row IsFirstMeta with_meta) (Refuses meta_row IsFirstMeta with_meta) (meta_query n) old new (start n) r false → IsMetaOf n new.now None
-  meta_no h x are head = walk_no meta_row IsFirstMeta with_meta same_meta old.now.schema (meta_query n) _ _ (meta_walks n old.now.schema begin).command (source n) (answers n old.now.schema begin) old new refl same (start n) r (rise n) h (x ∷ []) are ((refl, head), tt)
+  meta_no h x are head = walk_no meta_row IsFirstMeta with_meta same_meta old.now.schema (meta_query n) _ _ (meant old.now.schema (meta_query n) (meta_walks n old.now.schema begin)) (source n) (answers n old.now.schema begin) old new refl same (start n) r (rise n) h (x ∷ []) are ((refl, head), tt)
 
   pub meta_all : Walked (Takes meta_row IsFirstMeta with_meta) (Refuses meta_row IsFirstMeta with_meta) (meta_query n) old new (start n) r true → IsMetaOf n new.now r.found
   meta_all h = of r.found refl

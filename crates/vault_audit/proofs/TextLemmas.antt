@@ -1,18 +1,16 @@
 -- What the first looks at entries and at meta read, where the tables up to that one are known and others may stand after them.
-use Rattle.std.proofs.Common.{◌≡◌, List, ℕ, [], codes, drop, false, refl, arith}
+use Rattle.std.proofs.Common.{List, ℕ, [], codes, drop, refl, arith}
 use Rattle.sqlite_tied.specs.Compute.{everything}
-use Rattle.sqlite.specs.Command.TheVariants.{Select}
 use Rattle.sqlite.specs.Schema.{Schema}
-use Rattle.sqlite.specs.Listing.{understood, reads_listing}
-use Rattle.sqlite.proofs.Callers.{IsPlain, command_of}
+use Rattle.sqlite.specs.Listing.{understood}
 use Rattle.vault_base.specs.declared.refusal.Table.TheVariants as table
 use Rattle.vault_audit_model.specs.declared.schema.Edition.{Edition}
 use Rattle.vault_audit_model.specs.declared.schema.Edition.TheVariants.{First, Second, Third}
+use Rattle.vault_audit_model.specs.Queries.{table_scan, Selects}
 use Rattle.vault_audit_model.specs.Tables.{meta, meta_tree, entries, entries_tree}
 use Rattle.vault_audit_schema.specs.Places.{BeginTo}
 use Rattle.vault_audit_schema.specs.Selects.{meta_select, meta_terms}
 use Rattle.vault_audit_schema.specs.Texts.{names_of, select_text, terms_of}
-use Rattle.vault_audit_walk.proofs.RecordLemmas.{Scans}
 use Rattle.vault_audit_walk.proofs.ScanLemmas.{walk_of}
 use Rattle.vault_audit_walk.specs.Health.{Asks}
 use Rattle.vault_audit.specs.Begun.{as_begun}
@@ -23,11 +21,11 @@ abbrev pub entries_text : List ℕ
 entries_text = select_text entries []
 
 abbrev pub EntriesScan : Schema → Type 0
-EntriesScan s = Scans s entries_text entries_tree (terms_of entries) (names_of entries)
+EntriesScan s = Selects s entries_text (table_scan entries_tree [] (terms_of entries))
 
 pub entries_scan : (n : Edition) (s : Schema) → BeginTo n s.tables table.Entries → EntriesScan s
 unfolding understood everything
-entries_scan n s begin = as_begun EntriesScan n s table.Entries begin (record { command = refl; unlisted = refl; plain = (refl, refl) })
+entries_scan n s begin = as_begun EntriesScan n s table.Entries begin (record { names = names_of entries; is = refl; plain = (refl, refl); unlisted = refl })
 
 pub entries_asks : (n : Edition) (s : Schema) → BeginTo n s.tables table.Entries → Asks s entries_text
 unfolding understood everything
@@ -39,16 +37,14 @@ abbrev pub meta_query : Edition → List ℕ
 meta_query n = meta_select n (codes " ORDER BY one")
 
 -- what it is in such a schema
-pub record WalksMeta (n : Edition) (s : Schema) : Type 0 where
-  pub command : command_of (understood s (meta_query n)) ≡ Select (record { lets = []; body = walk_of meta_tree 0 (drop 1 (meta_terms n)) }) (names_of meta)
-  pub unlisted : reads_listing s (meta_query n) ≡ false
-  pub plain : IsPlain (understood s (meta_query n))
+abbrev pub WalksMeta : Edition → Schema → Type 0
+WalksMeta n s = Selects s (meta_query n) (walk_of meta_tree 0 (drop 1 (meta_terms n)))
 
 pub meta_walks : (n : Edition) (s : Schema) → BeginTo n s.tables table.Meta → WalksMeta n s
 unfolding understood everything
-meta_walks First s begin = as_begun (WalksMeta First) First s table.Meta begin (record { command = refl; unlisted = refl; plain = (refl, refl) })
-meta_walks Second s begin = as_begun (WalksMeta Second) Second s table.Meta begin (record { command = refl; unlisted = refl; plain = (refl, refl) })
-meta_walks Third s begin = as_begun (WalksMeta Third) Third s table.Meta begin (record { command = refl; unlisted = refl; plain = (refl, refl) })
+meta_walks First s begin = as_begun (WalksMeta First) First s table.Meta begin (record { names = names_of meta; is = refl; plain = (refl, refl); unlisted = refl })
+meta_walks Second s begin = as_begun (WalksMeta Second) Second s table.Meta begin (record { names = names_of meta; is = refl; plain = (refl, refl); unlisted = refl })
+meta_walks Third s begin = as_begun (WalksMeta Third) Third s table.Meta begin (record { names = names_of meta; is = refl; plain = (refl, refl); unlisted = refl })
 
 pub meta_asks : (n : Edition) (s : Schema) → BeginTo n s.tables table.Meta → Asks s (meta_query n)
 unfolding understood everything

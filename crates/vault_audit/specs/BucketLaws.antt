@@ -26,8 +26,7 @@ pub bucket_shows_all : (n : Edition) (s : Schema) → ⊤ → BeginTo n s.tables
 unfolding understood everything
 bucket_shows_all n s has begin = as_begun Shows n s table.Buckets begin (record {
   terms = terms_of buckets;
-  names = names_of buckets;
-  scans = record { command = refl; unlisted = refl; plain = (refl, refl) };
+  scans = record { names = names_of buckets; is = refl; plain = (refl, refl); unlisted = refl };
   asks = record { is = (omega (arith), refl, (refl, refl, refl, refl)); unlisted = refl };
   alike = λ rows. refl;
 })

@@ -26,8 +26,7 @@ pub caller_shows_all : (n : Edition) (s : Schema) → ⊤ → BeginTo n s.tables
 unfolding understood everything
 caller_shows_all n s has begin = as_begun Shows n s table.Callers begin (record {
   terms = terms_of callers;
-  names = names_of callers;
-  scans = record { command = refl; unlisted = refl; plain = (refl, refl) };
+  scans = record { names = names_of callers; is = refl; plain = (refl, refl); unlisted = refl };
   asks = record { is = (omega (arith), refl, (refl, refl, refl, refl)); unlisted = refl };
   alike = λ rows. refl;
 })

@@ -26,8 +26,7 @@ pub content_shows_all : (n : Edition) (s : Schema) → ⊤ → BeginTo n s.table
 unfolding understood everything
 content_shows_all n s has begin = as_begun Shows n s table.Contents begin (record {
   terms = terms_of contents;
-  names = names_of contents;
-  scans = record { command = refl; unlisted = refl; plain = (refl, refl) };
+  scans = record { names = names_of contents; is = refl; plain = (refl, refl); unlisted = refl };
   asks = record { is = (omega (arith), refl, (refl, refl, refl, refl)); unlisted = refl };
   alike = λ rows. refl;
 })

@@ -28,22 +28,19 @@ pub department_shows_all : (n : Edition) (s : Schema) → ⊤ → BeginTo n s.ta
 unfolding understood everything
 department_shows_all First s has begin = as_begun (Shows First) First s table.Departments begin (record {
   terms = department_terms First;
-  names = names_of departments;
-  scans = record { command = refl; unlisted = refl; plain = (refl, refl) };
+  scans = record { names = names_of departments; is = refl; plain = (refl, refl); unlisted = refl };
   asks = record { is = (omega (arith), refl, (refl, refl, refl, refl)); unlisted = refl };
   alike = λ rows. refl;
 })
 department_shows_all Second s has begin = as_begun (Shows Second) Second s table.Departments begin (record {
   terms = department_terms Second;
-  names = names_of departments;
-  scans = record { command = refl; unlisted = refl; plain = (refl, refl) };
+  scans = record { names = names_of departments; is = refl; plain = (refl, refl); unlisted = refl };
   asks = record { is = (omega (arith), refl, (refl, refl, refl, refl)); unlisted = refl };
   alike = λ rows. refl;
 })
 department_shows_all Third s has begin = as_begun (Shows Third) Third s table.Departments begin (record {
   terms = department_terms Third;
-  names = names_of departments;
-  scans = record { command = refl; unlisted = refl; plain = (refl, refl) };
+  scans = record { names = names_of departments; is = refl; plain = (refl, refl); unlisted = refl };
   asks = record { is = (omega (arith), refl, (refl, refl, refl, refl)); unlisted = refl };
   alike = λ rows. refl;
 })

@@ -26,8 +26,7 @@ pub head_shows_all : (n : Edition) (s : Schema) → ⊤ → BeginTo n s.tables t
 unfolding understood everything
 head_shows_all n s has begin = as_begun Shows n s table.Heads begin (record {
   terms = terms_of heads;
-  names = names_of heads;
-  scans = record { command = refl; unlisted = refl; plain = (refl, refl) };
+  scans = record { names = names_of heads; is = refl; plain = (refl, refl); unlisted = refl };
   asks = record { is = (omega (arith), refl, (refl, refl, refl, refl)); unlisted = refl };
   alike = λ rows. refl;
 })

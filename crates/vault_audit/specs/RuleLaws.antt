@@ -28,22 +28,19 @@ pub rule_shows_all : (n : Edition) (s : Schema) → ⊤ → BeginTo n s.tables t
 unfolding understood everything
 rule_shows_all First s has begin = as_begun (Shows First) First s table.Rules begin (record {
   terms = rule_terms First;
-  names = names_of rules;
-  scans = record { command = refl; unlisted = refl; plain = (refl, refl) };
+  scans = record { names = names_of rules; is = refl; plain = (refl, refl); unlisted = refl };
   asks = record { is = (omega (arith), refl, (refl, refl, refl, refl)); unlisted = refl };
   alike = λ rows. refl;
 })
 rule_shows_all Second s has begin = as_begun (Shows Second) Second s table.Rules begin (record {
   terms = rule_terms Second;
-  names = names_of rules;
-  scans = record { command = refl; unlisted = refl; plain = (refl, refl) };
+  scans = record { names = names_of rules; is = refl; plain = (refl, refl); unlisted = refl };
   asks = record { is = (omega (arith), refl, (refl, refl, refl, refl)); unlisted = refl };
   alike = λ rows. refl;
 })
 rule_shows_all Third s has begin = as_begun (Shows Third) Third s table.Rules begin (record {
   terms = rule_terms Third;
-  names = names_of rules;
-  scans = record { command = refl; unlisted = refl; plain = (refl, refl) };
+  scans = record { names = names_of rules; is = refl; plain = (refl, refl); unlisted = refl };
   asks = record { is = (omega (arith), refl, (refl, refl, refl, refl)); unlisted = refl };
   alike = λ rows. refl;
 })

@@ -26,8 +26,7 @@ pub setting_shows_all : (n : Edition) (s : Schema) → ⊤ → BeginTo n s.table
 unfolding understood everything
 setting_shows_all n s has begin = as_begun Shows n s table.Settings begin (record {
   terms = terms_of settings;
-  names = names_of settings;
-  scans = record { command = refl; unlisted = refl; plain = (refl, refl) };
+  scans = record { names = names_of settings; is = refl; plain = (refl, refl); unlisted = refl };
   asks = record { is = (omega (arith), refl, (refl, refl, refl, refl)); unlisted = refl };
   alike = λ rows. refl;
 })

@@ -3,13 +3,12 @@ use Rattle.std.specs.Prelude.{◌≡◌, ℕ, List, [], map}
 use Rattle.sqlite_value.specs.Order.{Row}
 use Rattle.sqlite_sql.specs.Term.{Term}
 use Rattle.sqlite_schema.specs.declared.schema.Schema.{Schema}
+use Rattle.vault_audit_model.specs.Queries.{table_scan, Selects}
 use Rattle.vault_audit_walk.specs.Health.{Asks}
-use Rattle.vault_audit_walk.proofs.RecordLemmas.{Scans}
 use Rattle.vault_audit_walk.proofs.ScanLemmas.{shows}
 
 pub record ShowsAll (schema : Schema) (sql : List ℕ) (t : ℕ) (columns : Row → Row) : Type 0 where
   pub terms : List Term
-  pub names : List (List ℕ)
-  pub scans : Scans schema sql t terms names
+  pub scans : Selects schema sql (table_scan t [] terms)
   pub asks : Asks schema sql
   pub alike : (rows : List Row) → map (shows terms []) rows ≡ map columns rows

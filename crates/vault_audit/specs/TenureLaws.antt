@@ -35,8 +35,7 @@ tenure_shows_all First s has begin = absurd has
 tenure_shows_all Second s has begin = absurd has
 tenure_shows_all Third s has begin = as_begun Shows Third s table.Tenures begin (record {
   terms = terms_of tenures;
-  names = names_of tenures;
-  scans = record { command = refl; unlisted = refl; plain = (refl, refl) };
+  scans = record { names = names_of tenures; is = refl; plain = (refl, refl); unlisted = refl };
   asks = record { is = (omega (arith), refl, (refl, refl, refl, refl)); unlisted = refl };
   alike = λ rows. refl;
 })

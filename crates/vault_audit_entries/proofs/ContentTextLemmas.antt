@@ -7,8 +7,8 @@ use Rattle.sqlite.specs.Command.TheVariants.{Select}
 use Rattle.sqlite.specs.Listing.{understood, reads_listing}
 use Rattle.sqlite.proofs.Callers.{IsPlain, command_of}
 use Rattle.sqlite_sql.specs.Term.{Term, col}
+use Rattle.vault_audit_model.specs.Queries.{table_scan, Selects}
 use Rattle.vault_audit_model.specs.Tables.{schema_of, contents_tree}
-use Rattle.vault_audit_walk.proofs.RecordLemmas.{Scans}
 use Rattle.vault_audit_entries.proofs.JoinLemmas.{beside_of}
 use Rattle.vault_audit_walk.specs.Health.{Asks}
 use Rattle.vault_audit_model.specs.declared.schema.Edition.{Edition}
@@ -35,9 +35,9 @@ contents_walk_asks n = record { is = (omega (arith), refl, (refl, refl, refl, re
 abbrev pub held_text : List ℕ
 held_text = codes "SELECT marker, removed FROM entries"
 
-pub held_scan : (n : Edition) → Scans (schema_of n) held_text 9 (col 1 4 ∷ col 1 10 ∷ []) (codes "marker" ∷ codes "removed" ∷ [])
+pub held_scan : (n : Edition) → Selects (schema_of n) held_text (table_scan 9 [] (col 1 4 ∷ col 1 10 ∷ []))
 unfolding understood everything
-held_scan n = record { command = refl; unlisted = refl; plain = (refl, refl) }
+held_scan n = record { names = codes "marker" ∷ codes "removed" ∷ []; is = refl; plain = (refl, refl); unlisted = refl }
 
 pub held_asks : (n : Edition) → Asks (schema_of n) held_text
 unfolding understood everything

@@ -65,7 +65,7 @@ module _ (n : Edition) (old new : State) (has : old.now.schema ≡ schema_of n) 
   cells rows shown =
       let db : new.now ≡ old.now = same.0.now_is in
       let its : IsPermutation (map entry_row es) (map entry_columns (old.now.trees entries_tree)) = subst (λ (d : Database). IsPermutation (map entry_row es) (map entry_columns (d.trees entries_tree))) db are.0 in
-      let all = scanned (schema_of n) held_text _ _ _ (held_scan n) old new has refl rows shown in
+      let all = scanned (schema_of n) held_text _ _ (held_scan n) old new has refl rows shown in
       let both = map-map two_cells entry_columns (old.now.trees entries_tree) in
       IsPermutation-trans _ _ _ (subst (IsPermutation (map two_cells (map entry_row es))) both (IsPermutation-map two_cells _ _ its)) all
 

@@ -5,10 +5,11 @@ use Rattle.sqlite.specs.Command.TheVariants.{Select}
 use Rattle.sqlite.specs.Listing.{understood, reads_listing}
 use Rattle.sqlite.proofs.Callers.{IsPlain, command_of}
 use Rattle.sqlite_sql.specs.Term.{col}
+use Rattle.vault_audit_model.specs.Queries.{Selects}
 use Rattle.vault_audit_model.specs.Tables.{schema_of, settings, settings_tree}
 use Rattle.vault_audit_schema.specs.Texts.{names_of, select_text, terms_of}
 use Rattle.vault_audit_walk.proofs.PairLemmas.{pair_walk_of}
-use Rattle.vault_audit_walk.proofs.BesideLemmas.{LooksBeside}
+use Rattle.vault_audit_walk.proofs.BesideLemmas.{beside_of}
 use Rattle.vault_audit_walk.specs.Health.{Asks}
 use Rattle.vault_audit_model.specs.declared.schema.Edition.{Edition}
 
@@ -31,9 +32,9 @@ placed_walk_asks n = record { is = (omega (arith), refl, (refl, refl, refl, refl
 abbrev pub settings_beside : List ℕ
 settings_beside = codes "SELECT e.marker, s.id FROM entries AS e LEFT JOIN settings AS s ON s.id = e.id"
 
-pub settings_beside_is : (n : Edition) → LooksBeside (schema_of n) settings_beside 9 settings_tree (col 1 4) 1 0 (codes "marker" ∷ codes "id" ∷ [])
+pub settings_beside_is : (n : Edition) → Selects (schema_of n) settings_beside (beside_of 9 settings_tree (col 1 4) 1 0)
 unfolding understood everything
-settings_beside_is n = record { command = refl; unlisted = refl; plain = (refl, refl) }
+settings_beside_is n = record { names = codes "marker" ∷ codes "id" ∷ []; is = refl; plain = (refl, refl); unlisted = refl }
 
 pub settings_beside_asks : (n : Edition) → Asks (schema_of n) settings_beside
 unfolding understood everything

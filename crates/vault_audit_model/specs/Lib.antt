@@ -3,6 +3,7 @@ pub mod Editions
 pub mod Tables
 pub mod Order
 pub mod Commands
+pub mod Queries
 pub mod Rows
 pub mod Limits
 pub mod Tenures

@@ -15,10 +15,11 @@ use Rattle.vault_core_model.specs.Vault.{Vault}
 use Rattle.vault_audit_model.specs.declared.rows.MetaRow.{MetaRow}
 use Rattle.vault_audit_model.specs.Rows.{meta_row, entry_row, entry_columns}
 use Rattle.vault_audit_model.specs.Spells.{AreSoundAs, meta_stated}
+use Rattle.vault_audit_model.specs.Queries.{table_scan, Selects}
 use Rattle.vault_audit_model.specs.Tables.{schema_of, entries_tree}
 use Rattle.vault_audit_model.proofs.SameRows.{same_meta}
 use Rattle.vault_audit_walk.specs.Walk.{Goes, Walked}
-use Rattle.vault_audit_walk.proofs.RecordLemmas.{Scans, scanned}
+use Rattle.vault_audit_walk.proofs.RecordLemmas.{scanned}
 use Rattle.vault_audit_walk.proofs.ScanLemmas.{shows}
 use Rattle.vault_audit_records.specs.Meta.{IsMetaOf}
 use Rattle.vault_audit_records.specs.declared.meta.second_look.RowCount.{RowCount}
@@ -29,9 +30,9 @@ use Rattle.vault_audit_model.specs.declared.schema.Edition.{Edition}
 abbrev pub ids_text : List ℕ
 ids_text = codes "SELECT id FROM entries"
 
-pub ids_scan : (n : Edition) → Scans (schema_of n) ids_text 9 (col 1 0 ∷ []) (codes "id" ∷ [])
+pub ids_scan : (n : Edition) → Selects (schema_of n) ids_text (table_scan 9 [] (col 1 0 ∷ []))
 unfolding understood everything
-ids_scan n = record { command = refl; unlisted = refl; plain = (refl, refl) }
+ids_scan n = record { names = codes "id" ∷ []; is = refl; plain = (refl, refl); unlisted = refl }
 
 pub ids_asks : (n : Edition) → Asks (schema_of n) ids_text
 unfolding understood everything
@@ -47,7 +48,7 @@ counted p q (r ∷ rows) (m, one, more) = let it = counted m q rows more in omeg
 -- all rows were met, whatever the answer
 pub all_counted : (n : Edition) → (old new : State) → old.now.schema ≡ schema_of n → IsUnchanged old new → (p q : RowCount) → (whole : Bool) → Walked Counting (λ _ _. ⊥) ids_text old new p q whole → q.count ≡ p.count + length (new.now.trees entries_tree)
 all_counted n old new has same p q true (rows, shown, goes) =
-    let each = scanned (schema_of n) ids_text _ _ _ (ids_scan n) old new has refl rows shown in
+    let each = scanned (schema_of n) ids_text _ _ (ids_scan n) old new has refl rows shown in
     let a = length_permutation _ _ each in
     let b : length (map (shows (col 1 0 ∷ []) []) (old.now.trees entries_tree)) ≡ length (old.now.trees entries_tree) = simp length-map in
     let c = counted p q rows goes in

@@ -8,12 +8,13 @@ use Rattle.sqlite_sql.specs.Term.{lit}
 use Rattle.sqlite_value.specs.declared.value.Value.TheVariants.{Int}
 use Rattle.vault_audit_model.specs.declared.schema.Edition.{Edition}
 use Rattle.vault_audit_model.specs.declared.schema.Edition.TheVariants.{First, Second, Third}
+use Rattle.vault_audit_model.specs.Queries.{Selects}
 use Rattle.vault_audit_model.specs.Tables.{schema_of, buckets, buckets_tree, rules, rules_tree}
 use Rattle.vault_audit_schema.specs.Selects.{rules_select, rule_terms}
 use Rattle.vault_audit_schema.specs.Texts.{names_of, select_text, terms_of}
 use Rattle.vault_audit_walk.proofs.ScanLemmas.{walk_of}
 use Rattle.vault_audit_walk.proofs.PairLemmas.{pair_walk_of}
-use Rattle.vault_audit_walk.proofs.BesideLemmas.{LooksBeside}
+use Rattle.vault_audit_walk.proofs.BesideLemmas.{beside_of}
 use Rattle.vault_audit_walk.specs.Health.{Asks}
 
 abbrev pub buckets_walk : List ℕ
@@ -58,9 +59,9 @@ rules_walk_asks Third = record { is = (omega (arith), refl, (refl, refl, refl, r
 abbrev pub buckets_beside : List ℕ
 buckets_beside = codes "SELECT 0, b.name FROM rules AS r LEFT JOIN buckets AS b ON b.name = r.bucket"
 
-pub buckets_beside_is : (n : Edition) → LooksBeside (schema_of n) buckets_beside 7 5 (lit (Int (pos 0))) 1 1 (codes "0" ∷ codes "name" ∷ [])
+pub buckets_beside_is : (n : Edition) → Selects (schema_of n) buckets_beside (beside_of 7 5 (lit (Int (pos 0))) 1 1)
 unfolding understood everything
-buckets_beside_is n = record { command = refl; unlisted = refl; plain = (refl, refl) }
+buckets_beside_is n = record { names = codes "0" ∷ codes "name" ∷ []; is = refl; plain = (refl, refl); unlisted = refl }
 
 pub buckets_beside_asks : (n : Edition) → Asks (schema_of n) buckets_beside
 unfolding understood everything

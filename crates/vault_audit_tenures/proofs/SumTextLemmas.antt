@@ -11,21 +11,21 @@ use Rattle.sqlite.proofs.Callers.{IsPlain, command_of}
 use Rattle.sqlite_sql.specs.Term.{Term, col}
 use Rattle.vault_audit_model.specs.declared.schema.Edition.{Edition}
 use Rattle.vault_audit_model.specs.declared.schema.Edition.TheVariants.{First, Second, Third}
+use Rattle.vault_audit_model.specs.Queries.{table_scan, Selects}
 use Rattle.vault_audit_model.specs.Rows.{department_columns_as}
 use Rattle.vault_audit_model.specs.Tables.{schema_of, departments, departments_tree, buckets_tree, entries_tree, tenures_tree}
 use Rattle.vault_audit_entries.proofs.JoinLemmas.{beside_of}
 use Rattle.vault_audit_schema.specs.Selects.{departments_select, department_terms}
 use Rattle.vault_audit_schema.specs.Texts.{names_of}
 use Rattle.vault_audit_walk.proofs.JoinLemmas.{joined_of}
-use Rattle.vault_audit_walk.proofs.RecordLemmas.{Scans}
 use Rattle.vault_audit_walk.proofs.ScanLemmas.{shows}
 use Rattle.vault_audit_walk.specs.Health.{Asks}
 
-pub departments_scan : (n : Edition) → Scans (schema_of n) (departments_select n []) departments_tree (department_terms n) (names_of departments)
+pub departments_scan : (n : Edition) → Selects (schema_of n) (departments_select n []) (table_scan departments_tree [] (department_terms n))
 unfolding understood everything
-departments_scan First = record { command = refl; unlisted = refl; plain = (refl, refl) }
-departments_scan Second = record { command = refl; unlisted = refl; plain = (refl, refl) }
-departments_scan Third = record { command = refl; unlisted = refl; plain = (refl, refl) }
+departments_scan First = record { names = names_of departments; is = refl; plain = (refl, refl); unlisted = refl }
+departments_scan Second = record { names = names_of departments; is = refl; plain = (refl, refl); unlisted = refl }
+departments_scan Third = record { names = names_of departments; is = refl; plain = (refl, refl); unlisted = refl }
 
 pub departments_asks : (n : Edition) → Asks (schema_of n) (departments_select n [])
 unfolding understood everything

@@ -6,8 +6,9 @@ use Rattle.sqlite.specs.Listing.{understood, reads_listing}
 use Rattle.sqlite.proofs.Callers.{IsPlain, command_of}
 use Rattle.sqlite_sql.specs.Term.{col}
 use Rattle.vault_audit_model.specs.declared.schema.Edition.TheVariants.{Third}
+use Rattle.vault_audit_model.specs.Queries.{Selects}
 use Rattle.vault_audit_model.specs.Tables.{schema_of, entries_tree, tenures_tree}
-use Rattle.vault_audit_walk.proofs.BesideLemmas.{LooksBeside}
+use Rattle.vault_audit_walk.proofs.BesideLemmas.{beside_of}
 use Rattle.vault_audit_tenures.proofs.TenureJoinLemmas.{chain_query}
 use Rattle.vault_audit_walk.specs.Health.{Asks}
 
@@ -30,9 +31,9 @@ chain_asks = record { is = (omega (arith), refl, (refl, refl, refl, refl)); unli
 abbrev pub tenures_beside : List ℕ
 tenures_beside = codes "SELECT e.marker, t.id FROM entries AS e LEFT JOIN tenures AS t ON t.id = e.id"
 
-pub tenures_beside_is : LooksBeside (schema_of Third) tenures_beside entries_tree tenures_tree (col 1 4) 1 0 (codes "marker" ∷ codes "id" ∷ [])
+pub tenures_beside_is : Selects (schema_of Third) tenures_beside (beside_of entries_tree tenures_tree (col 1 4) 1 0)
 unfolding understood everything
-tenures_beside_is = record { command = refl; unlisted = refl; plain = (refl, refl) }
+tenures_beside_is = record { names = codes "marker" ∷ codes "id" ∷ []; is = refl; plain = (refl, refl); unlisted = refl }
 
 pub tenures_beside_asks : Asks (schema_of Third) tenures_beside
 unfolding understood everything

@@ -21,12 +21,12 @@ use Rattle.sqlite_sql.specs.Term.{Term, lit, col, op2, eval, eval_all, holds}
 use Rattle.sqlite_sql.specs.Query.{Query, inner, left, end, IsAnswer, Output, output, matches, or_nulls}
 use Rattle.sqlite_sql.specs.Program.{overlay}
 use Rattle.sqlite_schema.specs.declared.schema.Schema.{Schema}
-use Rattle.sqlite_schema.specs.declared.command.Command.TheVariants.{Select}
 use Rattle.sqlite.specs.Effect.{Database}
-use Rattle.sqlite.specs.Listing.{understood, reads_listing}
 use Rattle.sqlite.specs.State.{State, Shown, IsUnchanged}
-use Rattle.sqlite.proofs.Callers.{IsPlain, command_of, reads_as}
+use Rattle.sqlite.proofs.Callers.{reads_as}
+use Rattle.vault_audit_model.specs.Queries.{Selects}
 use Rattle.vault_audit_model.specs.Values.{number, flag}
+use Rattle.vault_audit_model.proofs.CommandLemmas.{meant}
 use Rattle.vault_audit_model.proofs.SameRows.{flag_same}
 use Rattle.vault_audit_model.proofs.ValueLemmas.{agrees, truth_back}
 use Rattle.vault_audit_walk.specs.Records.{Checked}
@@ -93,16 +93,11 @@ beside_answer t other shown c d db rows a =
     ap (map (λ (o : Output). o.1)) (a.distinct ∙ ap (map (output q)) a.grouped) ∙ map-map (λ (o : Output). o.1) (output q) all ∙ matched t other shown c d db in
     subst (λ xs. IsPermutation xs rows) kept (subst (IsPermutation (map (λ (o : Output). o.1) a.kept)) (sym a.shown) (IsPermutation-map (λ (o : Output). o.1) a.kept a.ordered a.same))
 
--- what a text means that is such a query
-pub record LooksBeside (schema : Schema) (sql : List ℕ) (t other : ℕ) (shown : Term) (c d : ℕ) (names : List (List ℕ)) : Type 0 where
-  pub command : command_of (understood schema sql) ≡ Select (record { lets = []; body = beside_of t other shown c d }) names
-  pub unlisted : reads_listing schema sql ≡ false
-  pub plain : IsPlain (understood schema sql)
-
-module _ {schema : Schema} {sql : List ℕ} {t other : ℕ} {shown : Term} {c d : ℕ} {names : List (List ℕ)} (it : LooksBeside schema sql t other shown c d names) (bare : (trees : Trees) → (overlay trees [] t ≡ trees t) × (overlay trees [] other ≡ trees other)) where
+-- what a text finds that is such a query
+module _ {schema : Schema} {sql : List ℕ} {t other : ℕ} {shown : Term} {c d : ℕ} (it : Selects schema sql (beside_of t other shown c d)) (bare : (trees : Trees) → (overlay trees [] t ≡ trees t) × (overlay trees [] other ≡ trees other)) where
   looked : (old new : State) → old.now.schema ≡ schema → (rows : List Row) → Shown sql [] old new rows → IsPermutation (beside_rows t other shown c d old.now.trees) rows
   looked old new has rows h =
-      let read = reads_as sql [] old new schema has _ it.command it.plain it.unlisted rows h in
+      let read = reads_as sql [] old new schema has _ (meant schema sql it) it.plain it.unlisted rows h in
       let same = ap₂ (λ (here there : List Row). flat_map (beside_row shown c d there) here) (bare old.now.trees).0 (bare old.now.trees).1 in
       subst (λ xs. IsPermutation xs rows) same (beside_answer t other shown c d (overlay old.now.trees []) rows (read.answer Null))
 
@@ -118,7 +113,7 @@ module _ {schema : Schema} {sql : List ℕ} {t other : ℕ} {shown : Term} {c d 
     pub beside_no : Checked Takes sql old new false → ¬ AllByRecursion (λ r. AllByRecursion Takes (beside_row shown c d (new.now.trees other) r)) (new.now.trees t)
     beside_no (rows, row, begins, none) all =
         let known : new.now.schema ≡ schema = ap (λ (b : Database). b.schema) same.0.now_is ∙ has in
-        let on = goes_on_to sql new schema known _ names it.command same.0.is_open (rows ++ row ∷ []) begins in
+        let on = goes_on_to sql new schema known _ it.names (meant schema sql it) same.0.is_open (rows ++ row ∷ []) begins in
         let whole = looked new new known ((rows ++ row ∷ []) ++ on.0) on.1 in
         let every = all-permutation Takes _ _ whole (all-flat_map Takes (beside_row shown c d (new.now.trees other)) (new.now.trees t) all) in
         none (between Takes rows row [] (front Takes (rows ++ row ∷ []) on.0 every))

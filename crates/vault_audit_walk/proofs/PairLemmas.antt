@@ -1,5 +1,5 @@
 -- A query over one table in the order of its first two columns.
-use Rattle.std.proofs.Common.{◌≡◌, ℕ, ◌+◌, ◌<◌, pos, negsuc, List, [], ◌∷◌, length, map, false, None, Ordering, IsPermutation, IsSorted, sym, ap, subst, ◌∙◌, refl, arith, All}
+use Rattle.std.proofs.Common.{◌≡◌, ℕ, ◌+◌, ◌<◌, List, [], ◌∷◌, length, map, false, Ordering, IsPermutation, IsSorted, sym, ap, subst, ◌∙◌, refl, arith, All}
 use Rattle.std.specs.List.{AllByRecursion}
 use Rattle.std.specs.Cmp.{IsTotalOrder}
 use Rattle.std.proofs.lemmas.List.{get_or-map, length-map}
@@ -7,12 +7,12 @@ use Rattle.std.proofs.lemmas.List.Elements.{All-from_recursion}
 use Rattle.std.proofs.lemmas.List.Sorted.{IsPermutation-map, All-permutation}
 use Rattle.sqlite_trees.specs.Tree.{Trees}
 use Rattle.sqlite_trees.proofs.ListLemmas.{map-map}
-use Rattle.sqlite_value.specs.declared.value.Value.TheVariants.{Null, Int}
+use Rattle.sqlite_value.specs.declared.value.Value.TheVariants.{Null}
 use Rattle.sqlite_value.specs.declared.keys.Collation.TheVariants.{Binary}
 use Rattle.sqlite_value.specs.Keys.{ascending}
 use Rattle.sqlite_value.specs.Order.{Row, column}
-use Rattle.sqlite_sql.specs.Term.{Term, Env, lit, col}
-use Rattle.sqlite_sql.specs.Query.{Query, inner, end, IsAnswer, Output, output, output_cmp, key_cmp}
+use Rattle.sqlite_sql.specs.Term.{Term, Env, col}
+use Rattle.sqlite_sql.specs.Query.{Query, IsAnswer, Output, output, output_cmp, key_cmp}
 use Rattle.sqlite_sql.specs.Program.{overlay}
 use Rattle.sqlite_sql.proofs.QueryLemmas.{key_cmp_total}
 use Rattle.sqlite_schema.specs.declared.schema.Schema.{Schema}
@@ -20,21 +20,12 @@ use Rattle.sqlite_schema.specs.declared.command.Command.TheVariants.{Select}
 use Rattle.sqlite.specs.Listing.{understood, reads_listing}
 use Rattle.sqlite.specs.State.{State, Shown}
 use Rattle.sqlite.proofs.Callers.{IsPlain, command_of, reads_as}
+use Rattle.vault_audit_model.specs.Queries.{select_from}
 use Rattle.vault_audit_walk.proofs.ScanLemmas.{shows, matched_in}
 
 -- SELECT first, second, rest FROM t ORDER BY first, second
 abbrev pub pair_walk_of : ℕ → ℕ → ℕ → List Term → Query
-pair_walk_of t first second rest = record {
-  from = inner t end;
-  filter = [];
-  group = None;
-  project = col 1 first ∷ col 1 second ∷ rest;
-  distinct = false;
-  collations = [];
-  order = (col 1 first, ascending Binary) ∷ (col 1 second, ascending Binary) ∷ [];
-  limit = lit (Int (negsuc 0));
-  offset = lit (Int (pos 0));
-}
+pair_walk_of t first second rest = select_from t [] (col 1 first ∷ col 1 second ∷ rest) ((col 1 first, ascending Binary) ∷ (col 1 second, ascending Binary) ∷ [])
 
 -- by the first column, and then by the second
 abbrev pub pair_cmp : Row → Row → Ordering

@@ -1,5 +1,5 @@
 -- A query over one table in the order of its first column.
-use Rattle.std.proofs.Common.{◌≡◌, ℕ, ◌+◌, ◌<◌, pos, negsuc, List, [], ◌∷◌, ◌++◌, length, map, flat_map, false, None, Ordering, Less, Equal, Greater, is_lt, IsPermutation, IsSorted, refl, sym, ap, subst, ◌∙◌, arith, All, IsTrue}
+use Rattle.std.proofs.Common.{◌≡◌, ℕ, ◌+◌, ◌<◌, List, [], ◌∷◌, ◌++◌, length, map, flat_map, false, Ordering, Less, Equal, Greater, is_lt, IsPermutation, IsSorted, refl, sym, ap, subst, ◌∙◌, arith, All, IsTrue}
 use Rattle.std.specs.List.{AllByRecursion}
 use Rattle.std.specs.Ordering.{on, ordering_then}
 use Rattle.std.specs.Cmp.{IsTotalOrder}
@@ -9,13 +9,13 @@ use Rattle.std.proofs.lemmas.List.Elements.{All-from_recursion}
 use Rattle.std.proofs.lemmas.List.Sorted.{IsPermutation-map, All-permutation}
 use Rattle.sqlite_trees.specs.Tree.{Trees}
 use Rattle.sqlite_trees.proofs.ListLemmas.{map-map}
-use Rattle.sqlite_value.specs.declared.value.Value.TheVariants.{Null, Int}
+use Rattle.sqlite_value.specs.declared.value.Value.TheVariants.{Null}
 use Rattle.sqlite_value.specs.declared.keys.Collation.TheVariants.{Binary}
 use Rattle.sqlite_value.specs.Keys.{ascending}
 use Rattle.sqlite_value.specs.Order.{Row, column, value_cmp}
 use Rattle.sqlite_value.proofs.OrderLemmas.{value_cmp_total}
-use Rattle.sqlite_sql.specs.Term.{Term, Env, lit, col, eval_all}
-use Rattle.sqlite_sql.specs.Query.{Query, inner, end, IsAnswer, Output, output, output_cmp}
+use Rattle.sqlite_sql.specs.Term.{Term, Env, col, eval_all}
+use Rattle.sqlite_sql.specs.Query.{Query, IsAnswer, Output, output, output_cmp}
 use Rattle.sqlite_sql.specs.Program.{overlay}
 use Rattle.sqlite_schema.specs.declared.schema.Schema.{Schema}
 use Rattle.sqlite_schema.specs.declared.command.Command.TheVariants.{Select}
@@ -23,20 +23,11 @@ use Rattle.sqlite.specs.Listing.{understood, reads_listing}
 use Rattle.sqlite.specs.State.{State, Shown, Begins, IsUnchanged}
 use Rattle.sqlite.specs.Clock.{timed}
 use Rattle.sqlite.proofs.Callers.{IsPlain, command_of, reads_as, begins_shown, EndsIn}
+use Rattle.vault_audit_model.specs.Queries.{select_from}
 
 -- SELECT first, rest FROM t ORDER BY first
 abbrev pub walk_of : ℕ → ℕ → List Term → Query
-walk_of t first rest = record {
-  from = inner t end;
-  filter = [];
-  group = None;
-  project = col 1 first ∷ rest;
-  distinct = false;
-  collations = [];
-  order = (col 1 first, ascending Binary) ∷ [];
-  limit = lit (Int (negsuc 0));
-  offset = lit (Int (pos 0));
-}
+walk_of t first rest = select_from t [] (col 1 first ∷ rest) ((col 1 first, ascending Binary) ∷ [])
 
 -- what the row shows
 abbrev pub shows : List Term → Row → Row → Row

@@ -15,10 +15,10 @@ use Rattle.vault_base.specs.declared.refusal.Table.TheVariants as table
 use Rattle.vault_audit_model.specs.declared.schema.Edition.{Edition}
 use Rattle.vault_audit_model.specs.declared.schema.Edition.TheVariants.{First, Second, Third}
 use Rattle.vault_audit_model.specs.Editions.{newest}
+use Rattle.vault_audit_model.specs.Queries.{table_scan, Selects}
 use Rattle.vault_audit_model.specs.Tables.{schema_of, entries_tree, buckets_tree}
 use Rattle.vault_audit_schema.specs.Selects.{meta_terms, department_terms, rule_terms, table_as}
 use Rattle.vault_audit_schema.specs.Texts.{names_of as all_names, terms_of as all_terms}
-use Rattle.vault_audit_walk.proofs.RecordLemmas.{Scans}
 use Rattle.vault_store_edits.specs.Trees.{tree_of}
 use Rattle.vault_store_create.specs.Listings.{listing_of, tenures_listing, first_tenures_listing}
 
@@ -42,57 +42,57 @@ names_of n table.Meta = codes "one" ∷ codes "3" ∷ codes "last" ∷ codes "ne
 names_of n t = all_names (table_as newest t)
 
 abbrev pub Reads : Edition → Table → Type 0
-Reads n t = Scans (schema_of n) (listing_of n t) (tree_of t) (terms_of n t) (names_of n t)
+Reads n t = Selects (schema_of n) (listing_of n t) (table_scan (tree_of t) [] (terms_of n t))
 
 pub reads_meta : (n : Edition) → Reads n table.Meta
 unfolding understood everything
-reads_meta First = record { command = refl; unlisted = refl; plain = (refl, refl) }
-reads_meta Second = record { command = refl; unlisted = refl; plain = (refl, refl) }
-reads_meta Third = record { command = refl; unlisted = refl; plain = (refl, refl) }
+reads_meta First = record { names = names_of First table.Meta; is = refl; plain = (refl, refl); unlisted = refl }
+reads_meta Second = record { names = names_of Second table.Meta; is = refl; plain = (refl, refl); unlisted = refl }
+reads_meta Third = record { names = names_of Third table.Meta; is = refl; plain = (refl, refl); unlisted = refl }
 
 pub reads_departments : (n : Edition) → Reads n table.Departments
 unfolding understood everything
-reads_departments First = record { command = refl; unlisted = refl; plain = (refl, refl) }
-reads_departments Second = record { command = refl; unlisted = refl; plain = (refl, refl) }
-reads_departments Third = record { command = refl; unlisted = refl; plain = (refl, refl) }
+reads_departments First = record { names = names_of First table.Departments; is = refl; plain = (refl, refl); unlisted = refl }
+reads_departments Second = record { names = names_of Second table.Departments; is = refl; plain = (refl, refl); unlisted = refl }
+reads_departments Third = record { names = names_of Third table.Departments; is = refl; plain = (refl, refl); unlisted = refl }
 
 pub reads_callers : (n : Edition) → Reads n table.Callers
 unfolding understood everything
-reads_callers n = record { command = refl; unlisted = refl; plain = (refl, refl) }
+reads_callers n = record { names = names_of n table.Callers; is = refl; plain = (refl, refl); unlisted = refl }
 
 pub reads_buckets : (n : Edition) → Reads n table.Buckets
 unfolding understood everything
-reads_buckets n = record { command = refl; unlisted = refl; plain = (refl, refl) }
+reads_buckets n = record { names = names_of n table.Buckets; is = refl; plain = (refl, refl); unlisted = refl }
 
 pub reads_rules : (n : Edition) → Reads n table.Rules
 unfolding understood everything
-reads_rules First = record { command = refl; unlisted = refl; plain = (refl, refl) }
-reads_rules Second = record { command = refl; unlisted = refl; plain = (refl, refl) }
-reads_rules Third = record { command = refl; unlisted = refl; plain = (refl, refl) }
+reads_rules First = record { names = names_of First table.Rules; is = refl; plain = (refl, refl); unlisted = refl }
+reads_rules Second = record { names = names_of Second table.Rules; is = refl; plain = (refl, refl); unlisted = refl }
+reads_rules Third = record { names = names_of Third table.Rules; is = refl; plain = (refl, refl); unlisted = refl }
 
 pub reads_entries : (n : Edition) → Reads n table.Entries
 unfolding understood everything
-reads_entries n = record { command = refl; unlisted = refl; plain = (refl, refl) }
+reads_entries n = record { names = names_of n table.Entries; is = refl; plain = (refl, refl); unlisted = refl }
 
 pub reads_contents : (n : Edition) → Reads n table.Contents
 unfolding understood everything
-reads_contents n = record { command = refl; unlisted = refl; plain = (refl, refl) }
+reads_contents n = record { names = names_of n table.Contents; is = refl; plain = (refl, refl); unlisted = refl }
 
 pub reads_settings : (n : Edition) → Reads n table.Settings
 unfolding understood everything
-reads_settings n = record { command = refl; unlisted = refl; plain = (refl, refl) }
+reads_settings n = record { names = names_of n table.Settings; is = refl; plain = (refl, refl); unlisted = refl }
 
 pub reads_intake : (n : Edition) → Reads n table.Intake
 unfolding understood everything
-reads_intake n = record { command = refl; unlisted = refl; plain = (refl, refl) }
+reads_intake n = record { names = names_of n table.Intake; is = refl; plain = (refl, refl); unlisted = refl }
 
 pub reads_heads : (n : Edition) → Reads n table.Heads
 unfolding understood everything
-reads_heads n = record { command = refl; unlisted = refl; plain = (refl, refl) }
+reads_heads n = record { names = names_of n table.Heads; is = refl; plain = (refl, refl); unlisted = refl }
 
 pub reads_tenures : Reads Third table.Tenures
 unfolding understood everything
-reads_tenures = record { command = refl; unlisted = refl; plain = (refl, refl) }
+reads_tenures = record { names = names_of Third table.Tenures; is = refl; plain = (refl, refl); unlisted = refl }
 
 -- ---- tenures of an edition that has no table for them
 

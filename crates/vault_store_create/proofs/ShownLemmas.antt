@@ -22,7 +22,7 @@ use Rattle.vault_store_model.specs.Rows.{rows_of}
 use Rattle.vault_store_edits.specs.Trees.{tree_of}
 use Rattle.vault_store_create.specs.Listings.{listing_of, tenures_listing}
 use Rattle.vault_store_create.proofs.TenureLemmas.{first_tenures_shown}
-use Rattle.vault_store_create.proofs.ListingLemmas.{Reads, terms_of, names_of, reads_meta, reads_departments, reads_callers, reads_buckets, reads_rules, reads_entries, reads_contents, reads_settings, reads_intake, reads_heads, reads_tenures}
+use Rattle.vault_store_create.proofs.ListingLemmas.{Reads, terms_of, reads_meta, reads_departments, reads_callers, reads_buckets, reads_rules, reads_entries, reads_contents, reads_settings, reads_intake, reads_heads, reads_tenures}
 
 -- the row of meta with the number of the newest edition
 abbrev as_newest : Row → Row
@@ -58,7 +58,7 @@ module _ (db : Database) (v : Vault) where
 module _ (n : Edition) (old new : State) (v : Vault) (is : AreSoundAs n old.now v) where
   by_scan : (t : Table) → Reads n t → ShowsTable n old.now v t → (rows : List Row) → Shown (listing_of n t) [] old new rows → IsPermutation (rows_of v t) rows
   by_scan t it stated rows shown =
-      IsPermutation-trans _ _ _ stated (scanned (schema_of n) (listing_of n t) (tree_of t) (terms_of n t) (names_of n t) it old new is.spells.schema (uncovered old.now.trees (tree_of t)) rows shown)
+      IsPermutation-trans _ _ _ stated (scanned (schema_of n) (listing_of n t) (tree_of t) (terms_of n t) it old new is.spells.schema (uncovered old.now.trees (tree_of t)) rows shown)
 
 tenures_shown : (n : Edition) (old new : State) (v : Vault) → AreSoundAs n old.now v → (rows : List Row) → Shown (tenures_listing n) [] old new rows → IsPermutation (rows_of v table.Tenures) rows
 tenures_shown First old new v is = first_tenures_shown First old new v is is.spells.kept.unmoved

@@ -23,6 +23,7 @@ use Rattle.vault_audit_model.specs.declared.schema.Edition.TheVariants.{First, S
 use Rattle.vault_audit_model.specs.Order.{place_of}
 use Rattle.vault_audit_model.specs.Spells.{AreSoundAs}
 use Rattle.vault_audit_model.specs.Tables.{schema_of, vault_schema}
+use Rattle.vault_audit_model.proofs.CommandLemmas.{meant}
 use Rattle.vault_audit_model.proofs.PlaceLemmas.{one_table}
 use Rattle.vault_audit_walk.proofs.RecordLemmas.{between, front}
 use Rattle.vault_audit_walk.proofs.ScanLemmas.{goes_on_to}
@@ -92,19 +93,19 @@ abbrev IsQuery : Edition → Table → Type 0
 IsQuery n t = (q : Query) × (names : List (List ℕ)) × (command_of (understood (schema_of n) (listing_of n t)) ≡ Select (record { lets = []; body = q }) names)
 
 query_of : (n : Edition) (t : Table) → IsQuery n t
-query_of n table.Meta = (_, _, (reads_meta n).command)
-query_of n table.Departments = (_, _, (reads_departments n).command)
-query_of n table.Callers = (_, _, (reads_callers n).command)
-query_of n table.Buckets = (_, _, (reads_buckets n).command)
-query_of n table.Rules = (_, _, (reads_rules n).command)
-query_of n table.Entries = (_, _, (reads_entries n).command)
-query_of n table.Contents = (_, _, (reads_contents n).command)
-query_of n table.Settings = (_, _, (reads_settings n).command)
-query_of n table.Intake = (_, _, (reads_intake n).command)
-query_of n table.Heads = (_, _, (reads_heads n).command)
+query_of n table.Meta = (_, _, meant (schema_of n) (listing_of n table.Meta) (reads_meta n))
+query_of n table.Departments = (_, _, meant (schema_of n) (listing_of n table.Departments) (reads_departments n))
+query_of n table.Callers = (_, _, meant (schema_of n) (listing_of n table.Callers) (reads_callers n))
+query_of n table.Buckets = (_, _, meant (schema_of n) (listing_of n table.Buckets) (reads_buckets n))
+query_of n table.Rules = (_, _, meant (schema_of n) (listing_of n table.Rules) (reads_rules n))
+query_of n table.Entries = (_, _, meant (schema_of n) (listing_of n table.Entries) (reads_entries n))
+query_of n table.Contents = (_, _, meant (schema_of n) (listing_of n table.Contents) (reads_contents n))
+query_of n table.Settings = (_, _, meant (schema_of n) (listing_of n table.Settings) (reads_settings n))
+query_of n table.Intake = (_, _, meant (schema_of n) (listing_of n table.Intake) (reads_intake n))
+query_of n table.Heads = (_, _, meant (schema_of n) (listing_of n table.Heads) (reads_heads n))
 query_of First table.Tenures = (_, _, pairs_are First)
 query_of Second table.Tenures = (_, _, pairs_are Second)
-query_of Third table.Tenures = (_, _, reads_tenures.command)
+query_of Third table.Tenures = (_, _, meant (schema_of Third) (listing_of Third table.Tenures) reads_tenures)
 
 module _ (n : Edition) (t : Table) (from : State) (v : Vault) (is : AreSoundAs n from.now v) where
   -- what begins an answer begins the rows of the vault

@@ -11,10 +11,11 @@ use Rattle.sqlite.specs.Term.{Term, lit, col}
 use Rattle.sqlite.specs.Source.TheVariants.{Query}
 use Rattle.sqlite.specs.Command.TheVariants.{Insert, Update, Delete}
 use Rattle.sqlite.specs.Listing.{understood}
-use Rattle.vault_audit_model.specs.Tables.{entries_tree, contents_tree, heads_tree, tenures}
+use Rattle.vault_audit_model.specs.Queries.{table_scan, Selects}
+use Rattle.vault_audit_model.specs.Tables.{entries_tree, contents_tree, heads_tree, tenures, vault_schema}
 use Rattle.vault_audit_schema.specs.Texts.{insert_into_text}
-use Rattle.vault_store_model.specs.Scans.{table_scan, scan_as}
-use Rattle.vault_store_edits.specs.Queries.{equals, FindsWhere}
+use Rattle.vault_store_model.specs.Scans.{scan_as}
+use Rattle.vault_store_edits.specs.Queries.{equals, rowids_where}
 use Rattle.vault_store_edits.proofs.StatementLemmas.{Means}
 
 -- ---- entries
@@ -34,9 +35,9 @@ pub removed_is : Means removed_text (Update 5 (record { lets = []; body = table_
 unfolding understood everything
 removed_is = record { command = refl; plain = (refl, refl) }
 
-pub finds_entry : FindsWhere (codes "SELECT id FROM entries WHERE id = ?1") entries_tree by_id
+pub finds_entry : Selects vault_schema (codes "SELECT id FROM entries WHERE id = ?1") (rowids_where entries_tree by_id)
 unfolding understood everything
-finds_entry = record { names = codes "id" ∷ []; command = refl; unlisted = refl; plain = (refl, refl) }
+finds_entry = record { names = codes "id" ∷ []; is = refl; plain = (refl, refl); unlisted = refl }
 
 -- ---- contents
 
@@ -47,9 +48,9 @@ pub no_content_is : Means no_content_text (Delete 6 (record { lets = []; body = 
 unfolding understood everything
 no_content_is = record { command = refl; plain = (refl, refl) }
 
-pub finds_content : FindsWhere (codes "SELECT id FROM contents WHERE id = ?1") contents_tree by_id
+pub finds_content : Selects vault_schema (codes "SELECT id FROM contents WHERE id = ?1") (rowids_where contents_tree by_id)
 unfolding understood everything
-finds_content = record { names = codes "id" ∷ []; command = refl; unlisted = refl; plain = (refl, refl) }
+finds_content = record { names = codes "id" ∷ []; is = refl; plain = (refl, refl); unlisted = refl }
 
 -- ---- settings, tenures and intake
 
@@ -93,6 +94,6 @@ pub no_head_is : Means no_head_text (Delete 9 (record { lets = []; body = table_
 unfolding understood everything
 no_head_is = record { command = refl; plain = (refl, refl) }
 
-pub finds_head : FindsWhere (codes "SELECT rowid FROM heads WHERE bucket = ?1 AND key = ?2") heads_tree by_key
+pub finds_head : Selects vault_schema (codes "SELECT rowid FROM heads WHERE bucket = ?1 AND key = ?2") (rowids_where heads_tree by_key)
 unfolding understood everything
-finds_head = record { names = codes "rowid" ∷ []; command = refl; unlisted = refl; plain = (refl, refl) }
+finds_head = record { names = codes "rowid" ∷ []; is = refl; plain = (refl, refl); unlisted = refl }

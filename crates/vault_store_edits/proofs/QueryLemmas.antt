@@ -11,8 +11,10 @@ use Rattle.sqlite.proofs.StateLemmas.{survives_then}
 use Rattle.vault_base.specs.declared.refusal.Table.{Table}
 use Rattle.vault_base.specs.declared.refusal.Table.TheVariants as table
 use Rattle.vault_audit_model.proofs.OutcomeLemmas.{kept_unchanged, kept_undone}
+use Rattle.vault_audit_model.specs.Queries.{Selects}
+use Rattle.vault_audit_model.specs.Tables.{vault_schema}
 use Rattle.vault_store_edits.specs.Trees.{tree_of}
-use Rattle.vault_store_edits.specs.Queries.{by_rowid, FindsWhere, rowid_text}
+use Rattle.vault_store_edits.specs.Queries.{by_rowid, rowid_text, rowids_where}
 
 pub kept_itself : (s : State) → KeepsCommit s s
 kept_itself s = record { was_open = λ h. h; committed = λ _. refl }
@@ -47,19 +49,19 @@ failed_kept sql params old new e (inl (inr h)) = fails_kept old new sql h.0 _ e 
 failed_kept sql params old new e (inr h) = kept_unchanged old new h.5
 
 -- the texts ask for the rowids of the rows with a rowid
-pub finds_by_rowid : (t : Table) → FindsWhere (rowid_text t) (tree_of t) by_rowid
+pub finds_by_rowid : (t : Table) → Selects vault_schema (rowid_text t) (rowids_where (tree_of t) by_rowid)
 unfolding understood everything
-finds_by_rowid table.Meta = record { names = codes "one" ∷ []; command = refl; unlisted = refl; plain = (refl, refl) }
-finds_by_rowid table.Departments = record { names = codes "rowid" ∷ []; command = refl; unlisted = refl; plain = (refl, refl) }
-finds_by_rowid table.Callers = record { names = codes "rowid" ∷ []; command = refl; unlisted = refl; plain = (refl, refl) }
-finds_by_rowid table.Buckets = record { names = codes "rowid" ∷ []; command = refl; unlisted = refl; plain = (refl, refl) }
-finds_by_rowid table.Rules = record { names = codes "rowid" ∷ []; command = refl; unlisted = refl; plain = (refl, refl) }
-finds_by_rowid table.Entries = record { names = codes "id" ∷ []; command = refl; unlisted = refl; plain = (refl, refl) }
-finds_by_rowid table.Contents = record { names = codes "id" ∷ []; command = refl; unlisted = refl; plain = (refl, refl) }
-finds_by_rowid table.Settings = record { names = codes "rowid" ∷ []; command = refl; unlisted = refl; plain = (refl, refl) }
-finds_by_rowid table.Intake = record { names = codes "rowid" ∷ []; command = refl; unlisted = refl; plain = (refl, refl) }
-finds_by_rowid table.Heads = record { names = codes "rowid" ∷ []; command = refl; unlisted = refl; plain = (refl, refl) }
-finds_by_rowid table.Tenures = record { names = codes "rowid" ∷ []; command = refl; unlisted = refl; plain = (refl, refl) }
+finds_by_rowid table.Meta = record { names = codes "one" ∷ []; is = refl; plain = (refl, refl); unlisted = refl }
+finds_by_rowid table.Departments = record { names = codes "rowid" ∷ []; is = refl; plain = (refl, refl); unlisted = refl }
+finds_by_rowid table.Callers = record { names = codes "rowid" ∷ []; is = refl; plain = (refl, refl); unlisted = refl }
+finds_by_rowid table.Buckets = record { names = codes "rowid" ∷ []; is = refl; plain = (refl, refl); unlisted = refl }
+finds_by_rowid table.Rules = record { names = codes "rowid" ∷ []; is = refl; plain = (refl, refl); unlisted = refl }
+finds_by_rowid table.Entries = record { names = codes "id" ∷ []; is = refl; plain = (refl, refl); unlisted = refl }
+finds_by_rowid table.Contents = record { names = codes "id" ∷ []; is = refl; plain = (refl, refl); unlisted = refl }
+finds_by_rowid table.Settings = record { names = codes "rowid" ∷ []; is = refl; plain = (refl, refl); unlisted = refl }
+finds_by_rowid table.Intake = record { names = codes "rowid" ∷ []; is = refl; plain = (refl, refl); unlisted = refl }
+finds_by_rowid table.Heads = record { names = codes "rowid" ∷ []; is = refl; plain = (refl, refl); unlisted = refl }
+finds_by_rowid table.Tenures = record { names = codes "rowid" ∷ []; is = refl; plain = (refl, refl); unlisted = refl }
 
 pub unchanged_itself : (s : State) → IsTrue s.is_open → IsUnchanged s s
 unchanged_itself s is_open =

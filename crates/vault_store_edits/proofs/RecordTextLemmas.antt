@@ -5,9 +5,9 @@ use Rattle.sqlite.specs.declared.types.Value.TheVariants.{Null, Int}
 use Rattle.sqlite.specs.Term.{Term, lit, col}
 use Rattle.sqlite.specs.Command.TheVariants.{Update, Delete}
 use Rattle.sqlite.specs.Listing.{understood}
-use Rattle.vault_audit_model.specs.Tables.{meta_tree, departments_tree, callers_tree, buckets_tree, rules_tree}
-use Rattle.vault_store_model.specs.Scans.{table_scan}
-use Rattle.vault_store_edits.specs.Queries.{equals, FindsWhere}
+use Rattle.vault_audit_model.specs.Queries.{table_scan, Selects}
+use Rattle.vault_audit_model.specs.Tables.{meta_tree, departments_tree, callers_tree, buckets_tree, rules_tree, vault_schema}
+use Rattle.vault_store_edits.specs.Queries.{equals, rowids_where}
 use Rattle.vault_store_edits.proofs.StatementLemmas.{Means}
 
 -- ---- departments
@@ -26,9 +26,9 @@ pub sums_is : Means sums_text (Update 1 (record { lets = []; body = table_scan d
 unfolding understood everything
 sums_is = record { command = refl; plain = (refl, refl) }
 
-pub finds_department : FindsWhere (codes "SELECT rowid FROM departments WHERE name = ?1") departments_tree by_name
+pub finds_department : Selects vault_schema (codes "SELECT rowid FROM departments WHERE name = ?1") (rowids_where departments_tree by_name)
 unfolding understood everything
-finds_department = record { names = codes "rowid" ∷ []; command = refl; unlisted = refl; plain = (refl, refl) }
+finds_department = record { names = codes "rowid" ∷ []; is = refl; plain = (refl, refl); unlisted = refl }
 
 -- ---- callers
 
@@ -42,9 +42,9 @@ pub closed_is : Means closed_text (Update 2 (record { lets = []; body = table_sc
 unfolding understood everything
 closed_is = record { command = refl; plain = (refl, refl) }
 
-pub finds_caller : FindsWhere (codes "SELECT rowid FROM callers WHERE name = ?1") callers_tree by_name
+pub finds_caller : Selects vault_schema (codes "SELECT rowid FROM callers WHERE name = ?1") (rowids_where callers_tree by_name)
 unfolding understood everything
-finds_caller = record { names = codes "rowid" ∷ []; command = refl; unlisted = refl; plain = (refl, refl) }
+finds_caller = record { names = codes "rowid" ∷ []; is = refl; plain = (refl, refl); unlisted = refl }
 
 -- ---- buckets
 
@@ -68,9 +68,9 @@ pub owner_is : Means owner_text (Update 3 (record { lets = []; body = table_scan
 unfolding understood everything
 owner_is = record { command = refl; plain = (refl, refl) }
 
-pub finds_bucket : FindsWhere (codes "SELECT rowid FROM buckets WHERE name = ?1") buckets_tree by_name
+pub finds_bucket : Selects vault_schema (codes "SELECT rowid FROM buckets WHERE name = ?1") (rowids_where buckets_tree by_name)
 unfolding understood everything
-finds_bucket = record { names = codes "rowid" ∷ []; command = refl; unlisted = refl; plain = (refl, refl) }
+finds_bucket = record { names = codes "rowid" ∷ []; is = refl; plain = (refl, refl); unlisted = refl }
 
 -- ---- rules
 
@@ -81,9 +81,9 @@ pub no_rules_is : Means no_rules_text (Delete 4 (record { lets = []; body = tabl
 unfolding understood everything
 no_rules_is = record { command = refl; plain = (refl, refl) }
 
-pub finds_rules : FindsWhere (codes "SELECT rowid FROM rules WHERE bucket = ?1") rules_tree by_name
+pub finds_rules : Selects vault_schema (codes "SELECT rowid FROM rules WHERE bucket = ?1") (rowids_where rules_tree by_name)
 unfolding understood everything
-finds_rules = record { names = codes "rowid" ∷ []; command = refl; unlisted = refl; plain = (refl, refl) }
+finds_rules = record { names = codes "rowid" ∷ []; is = refl; plain = (refl, refl); unlisted = refl }
 
 -- ---- meta
 
@@ -117,6 +117,6 @@ pub moves_is : Means moves_text (Update 0 (record { lets = []; body = table_scan
 unfolding understood everything
 moves_is = record { command = refl; plain = (refl, refl) }
 
-pub finds_meta : FindsWhere (codes "SELECT rowid FROM meta") meta_tree []
+pub finds_meta : Selects vault_schema (codes "SELECT rowid FROM meta") (rowids_where meta_tree [])
 unfolding understood everything
-finds_meta = record { names = codes "one" ∷ []; command = refl; unlisted = refl; plain = (refl, refl) }
+finds_meta = record { names = codes "one" ∷ []; is = refl; plain = (refl, refl); unlisted = refl }

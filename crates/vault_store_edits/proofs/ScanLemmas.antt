@@ -15,12 +15,13 @@ use Rattle.sqlite_rules.proofs.ProbeLemmas.{mapped_has}
 use Rattle.sqlite.specs.Listing.{understood}
 use Rattle.sqlite.specs.State.{State, IsUnchanged, Shown, ShowsRows}
 use Rattle.sqlite.proofs.Callers.{IsPlain, reads_as}
+use Rattle.vault_audit_model.specs.Queries.{Selects}
 use Rattle.vault_audit_model.specs.Tables.{vault_schema}
-use Rattle.vault_audit_model.proofs.CommandLemmas.{commanded_is}
+use Rattle.vault_audit_model.proofs.CommandLemmas.{meant}
 use Rattle.vault_store_edits.specs.Apart.{IsApart}
-use Rattle.vault_store_model.specs.Scans.{table_scan, passes, shows}
+use Rattle.vault_store_model.specs.Scans.{passes, shows}
 use Rattle.vault_store_model.proofs.ScanLemmas.{scanned}
-use Rattle.vault_store_edits.specs.Queries.{by_rowid, FindsWhere, Stands}
+use Rattle.vault_store_edits.specs.Queries.{by_rowid, rowids_where, Stands}
 use Rattle.vault_store_edits.proofs.ListLemmas.{has_permuted, own_rowid}
 use Rattle.vault_store_edits.proofs.TestLemmas.{rowid_found}
 
@@ -34,17 +35,17 @@ shown_same sql params old new rows plain h =
     let it = subst (ShowsRows old new sql h.0 _ rows) bare.0 h.2 in
     it.3
 
-module _ (sql : List ℕ) (t : ℕ) (tests : List Term) (finds : FindsWhere sql t tests) (params : Row) (old new : State) (has : old.now.schema ≡ vault_schema) where
+module _ (sql : List ℕ) (t : ℕ) (tests : List Term) (finds : Selects vault_schema sql (rowids_where t tests)) (params : Row) (old new : State) (has : old.now.schema ≡ vault_schema) where
   pub found : (rows : List Row) → Shown sql params old new rows → IsPermutation (map (shows (col 1 0 ∷ []) params) (filter (passes tests params) (old.now.trees t))) rows
   found rows h =
-      let read = reads_as sql params old new vault_schema has (Select (record { lets = []; body = table_scan t tests (col 1 0 ∷ []) }) finds.names) (commanded_is (understood vault_schema sql) ∙ finds.command) finds.plain finds.unlisted rows h in
+      let read = reads_as sql params old new vault_schema has (Select (record { lets = []; body = rowids_where t tests }) finds.names) (meant vault_schema sql finds) finds.plain finds.unlisted rows h in
       scanned old.now t tests (col 1 0 ∷ []) params rows read
 
   pub unchanged : (rows : List Row) → Shown sql params old new rows → IsUnchanged old new
   unchanged rows h = shown_same sql params old new rows (subst (λ s. IsPlain (understood s sql)) (sym has) finds.plain) h
 
 -- as many rows are found as pass
-pub count_found : (sql : List ℕ) (t : ℕ) (tests : List Term) → FindsWhere sql t tests → (params : Row) (old new : State) → old.now.schema ≡ vault_schema → (rows : List Row) → Shown sql params old new rows
+pub count_found : (sql : List ℕ) (t : ℕ) (tests : List Term) → Selects vault_schema sql (rowids_where t tests) → (params : Row) (old new : State) → old.now.schema ≡ vault_schema → (rows : List Row) → Shown sql params old new rows
     → length rows ≡ 1 → length (filter (passes tests params) (old.now.trees t)) ≡ 1
 count_found sql t tests finds params old new has rows h one =
     let same = length_permutation _ rows (found sql t tests finds params old new has rows h) in

@@ -39,12 +39,13 @@ use Rattle.sqlite.proofs.Callers.{IsPlain, command_of, statement_of, runs_as, on
 use Rattle.vault_base.specs.declared.refusal.Table.{Table}
 use Rattle.vault_audit_model.specs.Tables.{vault_schema}
 use Rattle.vault_audit_model.proofs.OutcomeLemmas.{went, same_value}
+use Rattle.vault_audit_model.specs.Queries.{table_scan}
 use Rattle.vault_store_model.specs.Rows.{Rows, AreSameRows, rows_in}
 use Rattle.vault_store_model.specs.Edits.{with_row, with_changed, changed_if, without, IgnoresOrder, Edits}
 use Rattle.vault_store_edits.specs.Trees.{tree_of, columns_of}
 use Rattle.vault_store_edits.specs.Apart.{IsApart}
 pub use Rattle.vault_store_edits.specs.Inserts.{task_on}
-use Rattle.vault_store_model.specs.Scans.{table_scan, passes, shows}
+use Rattle.vault_store_model.specs.Scans.{passes, shows}
 use Rattle.vault_store_edits.proofs.TableLemmas.{edited_alone}
 use Rattle.vault_store_edits.proofs.ListLemmas.{put_permutes, put_all_permutes, filter_alike, left_is, changed_apart}
 use Rattle.vault_store_model.proofs.ScanLemmas.{scanned}

@@ -1,19 +1,16 @@
 -- Queries for the rowids of the rows of one table that pass a test.
-use Rattle.std.specs.Prelude.{◌≡◌, ℕ, ℤ, false, List, [], ◌∷◌, ◌++◌, length, filter, codes}
+use Rattle.std.specs.Prelude.{◌≡◌, ℕ, ℤ, List, [], ◌∷◌, ◌++◌, length, filter, codes}
 use Rattle.sqlite_value.specs.declared.value.Value.TheVariants.{Int}
 use Rattle.sqlite_value.specs.declared.keys.Collation.TheVariants.{Binary}
 use Rattle.sqlite_value.specs.Order.{Row, column}
 use Rattle.sqlite_sql.specs.declared.ops.BinaryOp.TheVariants.{Compare}
 use Rattle.sqlite_sql.specs.declared.ops.CompareOp.TheVariants.{Eq}
+use Rattle.sqlite_sql.specs.Query.{Query}
 use Rattle.sqlite_sql.specs.Term.{Term, col, op2}
-use Rattle.sqlite_schema.specs.declared.command.Command.TheVariants.{Select}
-use Rattle.sqlite.specs.Given.{IsPlain}
-use Rattle.sqlite.specs.Listing.{understood, reads_listing}
 use Rattle.vault_base.specs.declared.refusal.Table.{Table}
 use Rattle.vault_base.specs.Refusal.{table_name}
-use Rattle.vault_audit_model.specs.Commands.{commanded}
-use Rattle.vault_audit_model.specs.Tables.{vault_schema}
-use Rattle.vault_store_model.specs.Scans.{table_scan, passes}
+use Rattle.vault_audit_model.specs.Queries.{table_scan}
+use Rattle.vault_store_model.specs.Scans.{passes}
 
 -- the value at this place of a row is the parameter at that place
 abbrev pub equals : ℕ → ℕ → Term
@@ -23,12 +20,9 @@ equals place parameter = op2 (Compare Eq Binary) (col 1 place) (col 0 parameter)
 abbrev pub by_rowid : List Term
 by_rowid = equals 0 0 ∷ []
 
--- over the tables of a vault the text asks for the rowids of the rows that pass the tests
-pub record FindsWhere (sql : List ℕ) (t : ℕ) (tests : List Term) : Type 0 where
-  pub names : List (List ℕ)
-  pub command : commanded (understood vault_schema sql) ≡ Select (record { lets = []; body = table_scan t tests (col 1 0 ∷ []) }) names
-  pub unlisted : reads_listing vault_schema sql ≡ false
-  pub plain : IsPlain (understood vault_schema sql)
+-- the rowids of the rows that pass the tests
+abbrev pub rowids_where : ℕ → List Term → Query
+rowids_where t tests = table_scan t tests (col 1 0 ∷ [])
 
 -- the row shows a rowid that is whole, and one row has it
 abbrev pub Stands : List Row → Row → Type 0

@@ -8,12 +8,13 @@ ghost use Rattle.sqlite_sql.specs.Term.{Term};
 ghost use Rattle.sqlite.specs.State.{HasCleanDisk, IsUnchanged, KeepsCommit, Survives};
 ghost use Rattle.sqlite.specs.Held.{state};
 ghost use Rattle.sqlite.specs.Values.{bound};
+ghost use Rattle.vault_audit_model.specs.Queries.{Selects};
 ghost use Rattle.vault_audit_model.specs.Tables.{vault_schema};
 ghost use Rattle.vault_audit_model.specs.Values.{number};
 ghost use Rattle.vault_store_edits.specs.Trees.{tree_of};
 ghost use Rattle.vault_store_edits.specs.Apart.{IsApart};
 ghost use Rattle.vault_store_model.specs.Scans.{passes};
-ghost use Rattle.vault_store_edits.specs.Queries.{FindsWhere, Stands, rowid_text};
+ghost use Rattle.vault_store_edits.specs.Queries.{Stands, rowid_text, rowids_where};
 
 use sqlite::types::ValueRef;
 use sqlite::{Alter, Error, ErrorCode, Row, Transaction, params};
@@ -87,7 +88,7 @@ pub fn check_apart<S: Alter>(
 ) -> Result<(), Error>
     ensures same_reference { tx.new.conn.ghost_name ≡ tx.old.conn.ghost_name }
     ensures apart { HasCleanDisk (state S.Store tx.new.conn.now) → (state S.Store tx.old.conn.now).now.schema ≡ vault_schema
-        → (tests : List Term) → FindsWhere sql.now (tree_of table) tests
+        → (tests : List Term) → Selects vault_schema sql.now (rowids_where (tree_of table) tests)
         → OnOk result (IsUnchanged (state S.Store tx.old.conn.now) (state S.Store tx.new.conn.now)
         × IsApart (passes tests (bound params.now)) ((state S.Store tx.old.conn.now).now.trees (tree_of table))) }
     ensures kept { HasCleanDisk (state S.Store tx.new.conn.now) → IsTrue tx.old.conn.now.in_transaction → KeepsCommit (state S.Store tx.old.conn.now) (state S.Store tx.new.conn.now) }
@@ -107,7 +108,7 @@ pub fn check_id<S: Alter>(
 ) -> Result<(), Error>
     ensures same_reference { tx.new.conn.ghost_name ≡ tx.old.conn.ghost_name }
     ensures apart { HasCleanDisk (state S.Store tx.new.conn.now) → (state S.Store tx.old.conn.now).now.schema ≡ vault_schema
-        → (tests : List Term) → FindsWhere sql.now (tree_of table) tests
+        → (tests : List Term) → Selects vault_schema sql.now (rowids_where (tree_of table) tests)
         → OnOk result (IsUnchanged (state S.Store tx.old.conn.now) (state S.Store tx.new.conn.now)
         × IsApart (passes tests (number id ∷ [])) ((state S.Store tx.old.conn.now).now.trees (tree_of table))) }
     ensures kept { HasCleanDisk (state S.Store tx.new.conn.now) → IsTrue tx.old.conn.now.in_transaction → KeepsCommit (state S.Store tx.old.conn.now) (state S.Store tx.new.conn.now) }

@@ -11,7 +11,8 @@ use Rattle.sqlite.specs.Term.{Term}
 use Rattle.sqlite.specs.Query.{inner, end, IsAnswer, Output, output, matches}
 use Rattle.sqlite.specs.Program.{overlay}
 use Rattle.sqlite.specs.Effect.{Database, Answers}
-use Rattle.vault_store_model.specs.Scans.{table_scan, scan_as, passes, shows}
+use Rattle.vault_audit_model.specs.Queries.{table_scan}
+use Rattle.vault_store_model.specs.Scans.{scan_as, passes, shows}
 
 matched_in : (tests : List Term) (params : Row) (rows : List Row) → flat_map (λ r. cond (passes tests params r) ((params ∷ r ∷ []) ∷ []) []) rows ≡ map (λ r. params ∷ r ∷ []) (filter (passes tests params) rows)
 matched_in tests params [] = refl

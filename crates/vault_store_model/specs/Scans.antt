@@ -1,28 +1,15 @@
 -- Queries over one table that keep no order.
-use Rattle.std.specs.Prelude.{pos, negsuc, Bool, false, List, [], ◌∷◌, None, ℕ}
+use Rattle.std.specs.Prelude.{Bool, List, [], ◌∷◌, ℕ}
 use Rattle.std.specs.List.{list_all}
-use Rattle.sqlite_value.specs.declared.value.Value.TheVariants.{Int}
 use Rattle.sqlite_value.specs.declared.keys.Collation.{Collation}
 use Rattle.sqlite_value.specs.Order.{Row}
-use Rattle.sqlite.specs.Term.{Term, lit, eval_all, holds}
-use Rattle.sqlite.specs.Query.{Query, inner, end}
+use Rattle.sqlite.specs.Term.{Term, eval_all, holds}
+use Rattle.sqlite.specs.Query.{Query}
+use Rattle.vault_audit_model.specs.Queries.{table_scan}
 
--- SELECT project FROM t WHERE tests; rows that are to be put into a table have a collation for each column
+-- SELECT project FROM t WHERE tests, of rows that are to be put into a table, which have a collation for each column
 abbrev pub scan_as : List Collation → ℕ → List Term → List Term → Query
-scan_as collations t tests project = record {
-  from = inner t end;
-  filter = tests;
-  group = None;
-  project = project;
-  distinct = false;
-  collations = collations;
-  order = [];
-  limit = lit (Int (negsuc 0));
-  offset = lit (Int (pos 0));
-}
-
-abbrev pub table_scan : ℕ → List Term → List Term → Query
-table_scan = scan_as []
+scan_as collations t tests project = record (table_scan t tests project) { collations = collations }
 
 -- the row passes WHERE, with these parameters
 abbrev pub passes : List Term → Row → Row → Bool

@@ -9,7 +9,7 @@ use Rattle.sqlite_sql.specs.Term.{Term}
 use Rattle.sqlite.specs.Effect.{Database, Answers}
 use Rattle.sqlite.proofs.Callers.{one_permutation}
 use Rattle.vault_core_model.specs.Order.{IsAscending}
-use Rattle.vault_store_reads.specs.Queries.{select_from}
+use Rattle.vault_audit_model.specs.Queries.{select_from}
 use Rattle.vault_store_model.specs.Scans.{passes, shows}
 use Rattle.vault_store_model.proofs.ScanLemmas.{scanned}
 use Rattle.sqlite_keyed.proofs.ListLemmas.{filter_same, map_same}

@@ -13,8 +13,9 @@ use Rattle.vault_core_model.specs.Vault.{Vault}
 use Rattle.vault_audit_model.specs.Spells.{AreSound}
 use Rattle.vault_audit_model.specs.Tables.{vault_schema}
 use Rattle.vault_audit_model.proofs.CommandLemmas.{commanded_is}
+use Rattle.vault_audit_model.specs.Queries.{Selects}
 use Rattle.vault_store_model.specs.Keeping.{Keeps}
-use Rattle.vault_store_reads.specs.Queries.{Selects, FindsRows}
+use Rattle.vault_store_reads.specs.Queries.{FindsRows}
 
 pub shows_open : (old new : State) (sql : List ℕ) (c : Compiled) (params : Row) (rows : List Row) (o : Option Returning) → ShowsRows old new sql c params rows o → IsTrue old.is_open
 shows_open old new sql c params rows None it = it.3.0.was_open
@@ -60,14 +61,14 @@ module _ (sql : List ℕ) (params : Row) (old new : State) (v : Vault) (was : Ke
       let sound = (was (was_open sql params old new rows h)).0 in
       (old.now, sound, λ q it. reads_as sql params old new vault_schema sound.spells.schema _ (commanded_is (understood vault_schema sql) ∙ it.is) it.plain it.unlisted rows h)
 
-  pub keeps_after : {X : Type 0} (items : X → List Row) (q : Query) → Selects sql q → (r : Result X Error) → IfOk r (λ x. Shown sql params old new (items x)) → IfErr r (FailsToQuery sql params old new) → Keeps new v
+  pub keeps_after : {X : Type 0} (items : X → List Row) (q : Query) → Selects vault_schema sql q → (r : Result X Error) → IfOk r (λ x. Shown sql params old new (items x)) → IfErr r (FailsToQuery sql params old new) → Keeps new v
   keeps_after items q it (Ok x) ok err =
       let schema = (was (was_open sql params old new (items x) ok)).0.spells.schema in
       unchanged_keeps old new v (inl (shown_same sql params old new schema it.plain (items x) ok)) was
   keeps_after items q it (Err e) ok err = unchanged_keeps old new v (failed sql params old new e err) was
 
   -- a crash leaves what it left before, since only a write commits
-  pub survives_query : (q : Query) → Selects sql q → Survives old new (CommitsShowing sql params old) → Survives old new (λ _. ¬ IsTrue old.is_open)
+  pub survives_query : (q : Query) → Selects vault_schema sql q → Survives old new (CommitsShowing sql params old) → Survives old new (λ _. ¬ IsTrue old.is_open)
   survives_query q it =
       survives_weaker old new _ _ (λ _ db commits is_open. never_commits sql params old db (subst (λ s. IsPlain (understood s sql)) (sym (was is_open).0.spells.schema) it.plain) commits)
 

@@ -1,35 +1,26 @@
 -- A query over one table that leaves some of its rows, orders them and takes the first.
-use Rattle.std.proofs.Common.{◌≡◌, inl, inr, ℕ, pos, List, [], ◌∷◌, map, filter, Bool, false, None, Less, IsPermutation, refl, sym, ap, subst, ◌∙◌}
+use Rattle.std.proofs.Common.{◌≡◌, inl, inr, ℕ, List, [], ◌∷◌, map, filter, Bool, Less, IsPermutation, refl, sym, ap, subst, ◌∙◌}
 use Rattle.std.specs.List.{AllByRecursion}
 use Rattle.std.proofs.lemmas.Bool.{cases_Bool}
 use Rattle.std.proofs.lemmas.List.Sorted.{IsPermutation-map, IsPermutation-trans}
 use Rattle.sqlite_trees.specs.Tree.{Trees, IsAscending}
 use Rattle.sqlite_keyed.proofs.ListLemmas.{map-map, filter-map, map_same, filter_same, IsPermutation-filter}
 use Rattle.sqlite_keyed.proofs.SortLemmas.{sorted_unique}
-use Rattle.sqlite_value.specs.declared.value.Value.TheVariants.{Null, Int}
+use Rattle.sqlite_value.specs.declared.value.Value.TheVariants.{Null}
 use Rattle.sqlite_value.specs.declared.keys.Key.{Key}
 use Rattle.sqlite_value.specs.Order.{Row}
-use Rattle.sqlite_sql.specs.Term.{Term, lit}
-use Rattle.sqlite_sql.specs.Query.{Query, inner, end, IsAnswer, Output, output, output_cmp, page}
+use Rattle.sqlite_sql.specs.Term.{Term}
+use Rattle.sqlite_sql.specs.Query.{Query, IsAnswer, Output, output, output_cmp, page}
 use Rattle.sqlite_sql.specs.Program.{overlay}
 use Rattle.sqlite_sql.proofs.QueryLemmas.{output_cmp_total}
 use Rattle.sqlite.specs.Effect.{Database, Answers}
+use Rattle.vault_audit_model.specs.Queries.{select_from}
 use Rattle.vault_store_model.specs.Scans.{passes}
 use Rattle.vault_store_model.proofs.ScanLemmas.{matched, uncovered}
 
 -- SELECT project FROM t WHERE tests ORDER BY order LIMIT limit
 abbrev pub select_of : ℕ → List Term → List Term → List (Term × Key) → Term → Query
-select_of t tests project order limit = record {
-  from = inner t end;
-  filter = tests;
-  group = None;
-  project = project;
-  distinct = false;
-  collations = [];
-  order = order;
-  limit = limit;
-  offset = lit (Int (pos 0));
-}
+select_of t tests project order limit = record (select_from t tests project order) { limit = limit }
 
 -- Outputs with no ties that are those of the rows that pass are the answer, as far as it goes.
 pub selected : (t : ℕ) (tests project : List Term) (order : List (Term × Key)) (limit : Term) (db : Trees) (params : Row) (rows : List Row) → IsAnswer (select_of t tests project order limit) db params rows

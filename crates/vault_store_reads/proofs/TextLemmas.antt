@@ -6,9 +6,9 @@ use Rattle.sqlite_sql.specs.Term.{Term, col, op2}
 use Rattle.sqlite_sql.specs.declared.ops.BinaryOp.TheVariants.{Compare}
 use Rattle.sqlite_sql.specs.declared.ops.CompareOp.TheVariants.{Eq}
 use Rattle.sqlite.specs.Listing.{understood}
-use Rattle.vault_audit_model.specs.Tables.{meta, departments, callers, buckets, entries, contents, intake, heads, meta_tree, departments_tree, callers_tree, buckets_tree, entries_tree, contents_tree, intake_tree, heads_tree}
+use Rattle.vault_audit_model.specs.Queries.{select_from, Selects}
+use Rattle.vault_audit_model.specs.Tables.{meta, departments, callers, buckets, entries, contents, intake, heads, meta_tree, departments_tree, callers_tree, buckets_tree, entries_tree, contents_tree, intake_tree, heads_tree, vault_schema}
 use Rattle.vault_audit_schema.specs.Texts.{names_of, select_text, terms_of}
-use Rattle.vault_store_reads.specs.Queries.{Selects, select_from}
 
 -- the column at this place is the parameter at that one, each counted from 0
 abbrev pub where_is : ℕ → ℕ → Term
@@ -22,7 +22,7 @@ meta_text = select_text meta []
 abbrev pub meta_shown : List Term
 meta_shown = terms_of meta
 
-pub meta_selects : Selects meta_text (select_from meta_tree [] meta_shown [])
+pub meta_selects : Selects vault_schema meta_text (select_from meta_tree [] meta_shown [])
 unfolding understood everything
 meta_selects = record { names = names_of meta; is = refl; plain = (refl, refl); unlisted = refl }
 
@@ -34,7 +34,7 @@ department_text = select_text departments (codes " WHERE name = ?1")
 abbrev pub department_shown : List Term
 department_shown = terms_of departments
 
-pub department_selects : Selects department_text (select_from departments_tree (where_is 1 0 ∷ []) department_shown [])
+pub department_selects : Selects vault_schema department_text (select_from departments_tree (where_is 1 0 ∷ []) department_shown [])
 unfolding understood everything
 department_selects = record {
   names = names_of departments;
@@ -51,7 +51,7 @@ caller_text = select_text callers (codes " WHERE name = ?1")
 abbrev pub caller_shown : List Term
 caller_shown = terms_of callers
 
-pub caller_selects : Selects caller_text (select_from callers_tree (where_is 1 0 ∷ []) caller_shown [])
+pub caller_selects : Selects vault_schema caller_text (select_from callers_tree (where_is 1 0 ∷ []) caller_shown [])
 unfolding understood everything
 caller_selects = record { names = names_of callers; is = refl; plain = (refl, refl); unlisted = refl }
 
@@ -63,7 +63,7 @@ bucket_text = select_text buckets (codes " WHERE name = ?1")
 abbrev pub bucket_shown : List Term
 bucket_shown = terms_of buckets
 
-pub bucket_selects : Selects bucket_text (select_from buckets_tree (where_is 1 0 ∷ []) bucket_shown [])
+pub bucket_selects : Selects vault_schema bucket_text (select_from buckets_tree (where_is 1 0 ∷ []) bucket_shown [])
 unfolding understood everything
 bucket_selects = record { names = names_of buckets; is = refl; plain = (refl, refl); unlisted = refl }
 
@@ -75,7 +75,7 @@ entry_text = select_text entries (codes " WHERE id = ?1")
 abbrev pub entry_shown : List Term
 entry_shown = terms_of entries
 
-pub entry_selects : Selects entry_text (select_from entries_tree (where_is 0 0 ∷ []) entry_shown [])
+pub entry_selects : Selects vault_schema entry_text (select_from entries_tree (where_is 0 0 ∷ []) entry_shown [])
 unfolding understood everything
 entry_selects = record {
   names = names_of entries;
@@ -92,7 +92,7 @@ content_text = select_text contents (codes " WHERE id = ?1")
 abbrev pub content_shown : List Term
 content_shown = terms_of contents
 
-pub content_selects : Selects content_text (select_from contents_tree (where_is 0 0 ∷ []) content_shown [])
+pub content_selects : Selects vault_schema content_text (select_from contents_tree (where_is 0 0 ∷ []) content_shown [])
 unfolding understood everything
 content_selects = record { names = names_of contents; is = refl; plain = (refl, refl); unlisted = refl }
 
@@ -104,7 +104,7 @@ note_text = select_text intake (codes " WHERE bucket = ?1 AND batch = ?2 AND lin
 abbrev pub note_shown : List Term
 note_shown = terms_of intake
 
-pub note_selects : Selects note_text (select_from intake_tree (where_is 1 0 ∷ where_is 2 1 ∷ where_is 3 2 ∷ []) note_shown [])
+pub note_selects : Selects vault_schema note_text (select_from intake_tree (where_is 1 0 ∷ where_is 2 1 ∷ where_is 3 2 ∷ []) note_shown [])
 unfolding understood everything
 note_selects = record {
   names = names_of intake;
@@ -121,6 +121,6 @@ head_text = select_text heads (codes " WHERE bucket = ?1 AND key = ?2")
 abbrev pub head_shown : List Term
 head_shown = terms_of heads
 
-pub head_selects : Selects head_text (select_from heads_tree (where_is 1 0 ∷ where_is 2 1 ∷ []) head_shown [])
+pub head_selects : Selects vault_schema head_text (select_from heads_tree (where_is 1 0 ∷ where_is 2 1 ∷ []) head_shown [])
 unfolding understood everything
 head_selects = record { names = names_of heads; is = refl; plain = (refl, refl); unlisted = refl }

@@ -14,12 +14,13 @@ use Rattle.sqlite.proofs.Callers.{EndsIn, IsPlain, begins_shown, begun_plain, co
 use Rattle.vault_core_model.specs.Vault.{Vault}
 use Rattle.vault_audit_model.specs.Tables.{vault_schema}
 use Rattle.vault_audit_model.proofs.CommandLemmas.{commanded_is}
+use Rattle.vault_audit_model.specs.Queries.{Selects}
 use Rattle.vault_audit_walk.proofs.ScanLemmas.{still}
 use Rattle.vault_store_model.specs.Keeping.{Keeps}
-use Rattle.vault_store_reads.specs.Queries.{Selects, FindsRows}
+use Rattle.vault_store_reads.specs.Queries.{FindsRows}
 use Rattle.vault_store_reads.proofs.QueryLemmas.{finds, keeps_after, unchanged_keeps, was_open}
 
-module _ (sql : List ℕ) (params : Row) (q : Query) (is : Selects sql q) where
+module _ (sql : List ℕ) (params : Row) (q : Query) (is : Selects vault_schema sql q) where
   meant : command_of (understood vault_schema sql) ≡ Select (record { lets = []; body = q }) is.names
   meant = commanded_is (understood vault_schema sql) ∙ is.is
 

@@ -11,9 +11,9 @@ use Rattle.sqlite_sql.specs.Query.{Query, inner, counted, end}
 use Rattle.sqlite_schema.specs.declared.command.Command.TheVariants.{Select}
 use Rattle.sqlite.specs.Listing.{understood}
 use Rattle.sqlite.proofs.Callers.{IsPlain, command_of}
+use Rattle.vault_audit_model.specs.Queries.{Selects}
 use Rattle.vault_audit_model.specs.Tables.{vault_schema, entries, entries_tree, tenures_tree}
 use Rattle.vault_audit_schema.specs.Texts.{names_of, select_text, terms_of}
-use Rattle.vault_store_reads.specs.Queries.{Selects}
 use Rattle.vault_store_reads.specs.Wants.{IsAskedWith}
 use Rattle.vault_store_reads.proofs.OrderedTextLemmas.{entries_order, no_limit}
 use Rattle.vault_store_reads.proofs.SelectLemmas.{select_of}
@@ -45,7 +45,7 @@ sized_query = record {
   offset = lit (Int (pos 0));
 }
 
-pub sized_is : Selects sized_text sized_query
+pub sized_is : Selects vault_schema sized_text sized_query
 unfolding understood everything
 sized_is = record { names = codes "size" ∷ codes "moment" ∷ []; is = refl; plain = (refl, refl); unlisted = refl }
 
@@ -67,7 +67,7 @@ removed_shown = terms_of entries
 abbrev pub removed_names : List (List ℕ)
 removed_names = names_of entries
 
-pub removed_is : Selects removed_text (select_of entries_tree removed_tests removed_shown entries_order no_limit)
+pub removed_is : Selects vault_schema removed_text (select_of entries_tree removed_tests removed_shown entries_order no_limit)
 unfolding understood everything
 removed_is = record { names = removed_names; is = refl; plain = (refl, refl); unlisted = refl }
 
