@@ -55,10 +55,10 @@ in_order : (next low last : ℕ) (hs : List History) → low ≤ last → AreNum
 in_order next low last [] below are past = below
 in_order next low last (h ∷ hs) below are past = (are.0.1.1, in_order (next + 1) h.entry.admitted last hs past.0.0 are.1 past.1)
 
-few_ids : (id : ℕ) → IsTrue (is_version_id id) → id ≤ 1000000000
+few_ids : (id : ℕ) → IsTrue (is_version_id id) → id ≤ most_ids
 few_ids id is = grind (arith, is)
 
-pub few_entries : (next low : ℕ) (es : List Entry) → next ≤ 1000000001 → AreNumbered next low es → next + length es ≤ 1000000001
+pub few_entries : (next low : ℕ) (es : List Entry) → next ≤ most_ids + 1 → AreNumbered next low es → next + length es ≤ most_ids + 1
 few_entries next low [] most are = omega (arith, most)
 few_entries next low (e ∷ es) most are =
     let same = are.0.1.0 in let here = few_ids e.id are.0.0.id in

@@ -2,7 +2,7 @@
 use Rattle.std.specs.Prelude.{◌≡◌, ℕ, ◌≤◌, Bool, true, false, List, length, Option, Some, None, IsTrue, IsUtf8, IfSome}
 use Rattle.std.specs.List.{AllByRecursion}
 use Rattle.vault_base.specs.Days.{last_moment}
-use Rattle.vault_base.specs.Limits.{most_content, most_moves, most_settings}
+use Rattle.vault_base.specs.Limits.{most_content, most_moves, most_rules, most_settings}
 use Rattle.vault_base.specs.Name.{is_bucket_name, is_object_key, is_key_prefix, is_plain_name, is_rule_id, is_version_id}
 use Rattle.vault_lock.specs.Retention.{is_period}
 use Rattle.vault_lock.specs.declared.retention.Retention.{Retention}
@@ -153,7 +153,7 @@ pub record IsBucketRow (b : BucketRow) : Type 0 where
 
 pub record IsRuleRow (r : RuleRow) : Type 0 where
   pub bucket : IsBucketName r.bucket
-  pub place : (1 ≤ r.place) × (r.place ≤ 1000)
+  pub place : (1 ≤ r.place) × (r.place ≤ most_rules)
   pub rule : IsRule r.rule
 
 pub record IsContentRow (c : ContentRow) : Type 0 where

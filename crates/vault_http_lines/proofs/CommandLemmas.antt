@@ -20,7 +20,7 @@ use Rattle.vault_http_values.proofs.ValueLemmas.{reads-caller, reads-dept, reads
 use Rattle.vault_http_lines.specs.ConfigLines.{set_default_of, get_default_of, set_rules_of, get_rules_of, drop_rules_of, run_of}
 use Rattle.vault_http_lines.specs.EntryLines.{put_in, put_of, get_of, head_of, delete_of, delete_version_of, intake_of}
 use Rattle.vault_http_lines.specs.Grammar.{IsDo, IsPut, IsAfterId, IsMost, SpellsCommand}
-use Rattle.vault_http_lines.specs.ListLine.{with_key, after_id_of, or_thousand, most_of, list_versions_of}
+use Rattle.vault_http_lines.specs.ListLine.{with_key, after_id_of, or_most_listed, most_of, list_versions_of}
 use Rattle.vault_http_lines.specs.LockLines.{set_retention_of, get_retention_of, set_hold_of, get_hold_of}
 use Rattle.vault_http_lines.specs.ReadLine.{values_of}
 use Rattle.vault_http_lines.specs.RecordLines.{add_dept_of, add_caller_of, close_caller_of, add_bucket_of, move_bucket_of, report_of, certificate_of}
@@ -56,14 +56,14 @@ reads-after-id d fit =
     reads-then _ _ (optional_id_of (codes "after_id") d) _ (reads-optional-id (codes "after_id") d fit.1.1.1.1.1.0) (λ id id_is.
     after-id d (is_some (get (codes "after_key") d)) id refl id_is)
 
-or-thousand : (d : Data) (most : Option ℕ) → MatchOption most (IsAbsent d (codes "most")) (λ n. IsSmall d (codes "most") n) → IsMost d (or_thousand most)
-or-thousand d None e = inr (e, refl)
-or-thousand d (Some n) e = inl e
+or-most_listed : (d : Data) (most : Option ℕ) → MatchOption most (IsAbsent d (codes "most")) (λ n. IsSmall d (codes "most") n) → IsMost d (or_most_listed most)
+or-most_listed d None e = inr (e, refl)
+or-most_listed d (Some n) e = inl e
 
 reads-most : (d : Data) → Fit (timeless_of verb.ListVersions) d → Reads (IsMost d) (most_of d)
 unfolding most_of
 reads-most d fit =
-    reads-then _ _ (optional_number_of (codes "most") d) _ (reads-optional-number (codes "most") d fit.1.1.1.1.1.1.0) (λ most most_is. or-thousand d most most_is)
+    reads-then _ _ (optional_number_of (codes "most") d) _ (reads-optional-number (codes "most") d fit.1.1.1.1.1.1.0) (λ most most_is. or-most_listed d most most_is)
 
 -- ---- contents
 

@@ -8,6 +8,7 @@ use Rattle.std.specs.Str.{is_utf8}
 use Rattle.serde_json.proofs.OnLiterals.{serde_json_on_literals}
 use Rattle.vault_base.specs.declared.refusal.Refusal.{Refusal}
 use Rattle.vault_base.specs.declared.refusal.Refusal.TheVariants.{MalformedBody}
+use Rattle.vault_base.specs.Limits.{longest_line}
 use Rattle.vault_core_model.specs.declared.command.Timed.{Timed}
 use Rattle.vault_http_lines.specs.declared.read_line.Line.{Line}
 use Rattle.vault_http_lines.specs.declared.read_line.Line.TheVariants as line
@@ -22,7 +23,7 @@ use Rattle.vault_http_lines.proofs.SpelledLemmas.{reads-timed}
 abbrev pub read_as : Bool → Bool → Option Data → Line
 read_as long empty found = if long then line.Refused MalformedBody else if empty then line.Skip else stated (or_malformed found >>= timed_of)
 
-is-read-as : (bytes : List ℕ) → line_of bytes ≡ read_as (nat_lt 4194304 (length bytes)) (length (without_cr bytes) == 0) (json_of (without_cr bytes))
+is-read-as : (bytes : List ℕ) → line_of bytes ≡ read_as (nat_lt longest_line (length bytes)) (length (without_cr bytes) == 0) (json_of (without_cr bytes))
 unfolding line_of command_of
 is-read-as bytes = refl
 
@@ -44,10 +45,10 @@ asks false true found t e = cc
 asks false false None t e = cc
 asks false false (Some d) t e = record { short = refl; filled = refl; value = d; is_value = refl; reading = stated-ok (timed_of d) t e }
 
-pub not-long : (n : ℕ) → nat_lt 4194304 n ≡ false → n ≤ 4194304
+pub not-long : (n : ℕ) → nat_lt longest_line n ≡ false → n ≤ longest_line
 not-long n e = grind (arith, common_steps)
 
-pub is-short : (n : ℕ) → n ≤ 4194304 → nat_lt 4194304 n ≡ false
+pub is-short : (n : ℕ) → n ≤ longest_line → nat_lt longest_line n ≡ false
 is-short n e = grind (arith, common_steps)
 
 pub spelled : (b : Bool) (P : Timed → Type 0) (r : Result Timed Refusal) (t : Timed) → Decided b P r → r ≡ Ok t → IsTrue b × P t
@@ -81,7 +82,7 @@ keeps-all-but-one : (b : Bool) (bytes : List ℕ) → length bytes ≤ length (l
 keeps-all-but-one true bytes = grind (arith, common_steps)
 keeps-all-but-one false bytes = omega arith
 
-pub short-if-empty : (bytes : List ℕ) → without_cr bytes ≡ [] → nat_lt 4194304 (length bytes) ≡ false
+pub short-if-empty : (bytes : List ℕ) → without_cr bytes ≡ [] → nat_lt longest_line (length bytes) ≡ false
 short-if-empty bytes e =
     let kept = keeps-all-but-one (slice_index bytes (length bytes - 1) == 13) bytes in
     let none : length (without_cr bytes) ≡ 0 = rw e refl in
@@ -100,7 +101,7 @@ pub is-filled : (found : Option Data) (bytes : List ℕ) (d : Data) → json_of 
 is-filled found [] d e = let none = no-value in cc
 is-filled found (b ∷ bytes) d e = grind (arith, common_steps)
 
-reads : (bytes : List ℕ) (d : Data) → length bytes ≤ 4194304 → json_of (without_cr bytes) ≡ Some d → line_of bytes ≡ stated (timed_of d)
+reads : (bytes : List ℕ) (d : Data) → length bytes ≤ longest_line → json_of (without_cr bytes) ≡ Some d → line_of bytes ≡ stated (timed_of d)
 reads bytes d short found = is-read-as bytes ∙ rw (is-short (length bytes) short, is-filled None (without_cr bytes) d found, found) refl
 
 pub shape-is-kept : (bytes : List ℕ) → line_of bytes ≡ line.Refused MalformedBody → HasShape bytes → ⊥

@@ -6,6 +6,7 @@ use Rattle.serde_json.specs.Data.{Data, null, boolean, string, number, array, ob
 use Rattle.serde_json.specs.Find.{get, as_str}
 use Rattle.vault_base.specs.declared.refusal.Refusal.{Refusal}
 use Rattle.vault_base.specs.declared.refusal.Refusal.TheVariants.{MalformedBody}
+use Rattle.vault_base.specs.Limits.{longest_line}
 use Rattle.vault_core_model.specs.declared.command.Command.{Command}
 use Rattle.vault_core_model.specs.declared.command.Timed.{Timed}
 use Rattle.vault_values.specs.Fault.{◌>>=◌}
@@ -101,7 +102,7 @@ reads-stamped moment d t shape s =
 abbrev pub read_as : Option ℕ → Bool → Bool → Option Data → Line
 read_as moment long empty found = if long then line.Refused MalformedBody else if empty then line.Skip else stated (or_malformed found >>= stamped_of moment)
 
-is-read-as : (moment : Option ℕ) (bytes : List ℕ) → stamped_line_of moment bytes ≡ read_as moment (nat_lt 4194304 (length bytes)) (length (without_cr bytes) == 0) (json_of (without_cr bytes))
+is-read-as : (moment : Option ℕ) (bytes : List ℕ) → stamped_line_of moment bytes ≡ read_as moment (nat_lt longest_line (length bytes)) (length (without_cr bytes) == 0) (json_of (without_cr bytes))
 unfolding stamped_line_of stamped_command_of
 is-read-as moment bytes = refl
 
@@ -125,7 +126,7 @@ command-is-spelled moment bytes t e =
     let found = spelled (has_timeless_shape asked.value) (SpellsAt moment asked.value) (stamped_of moment asked.value) t (stated-stamped moment asked.value) asked.reading in
     (not-long (length bytes) asked.short, (asked.value, asked.is_value, found.0, found.1.0, found.1.1, found.1.2))
 
-reads : (moment : Option ℕ) (bytes : List ℕ) (d : Data) → length bytes ≤ 4194304 → json_of (without_cr bytes) ≡ Some d → stamped_line_of moment bytes ≡ stated (stamped_of moment d)
+reads : (moment : Option ℕ) (bytes : List ℕ) (d : Data) → length bytes ≤ longest_line → json_of (without_cr bytes) ≡ Some d → stamped_line_of moment bytes ≡ stated (stamped_of moment d)
 reads moment bytes d short found = is-read-as moment bytes ∙ rw (is-short (length bytes) short, is-filled None (without_cr bytes) d found, found) refl
 
 pub spelled-is-command : (moment : Option ℕ) (bytes : List ℕ) (t : Timed) → IsStampedLineOf moment bytes t → stamped_line_of moment bytes ≡ line.Command t

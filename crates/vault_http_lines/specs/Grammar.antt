@@ -3,6 +3,7 @@ use Rattle.std.specs.Prelude.{◌≡◌, ◌≤◌, ◌⊎◌, ℕ, List, length
 use Rattle.std.specs.Option.{option_map_or}
 use Rattle.serde_json.specs.Data.{Data}
 use Rattle.serde_json.specs.Find.{get, as_str}
+use Rattle.vault_base.specs.Limits.{longest_line, most_listed}
 use Rattle.vault_core_model.specs.declared.command.Command.{Command}
 use Rattle.vault_core_model.specs.declared.command.Command.TheVariants as command
 use Rattle.vault_core_model.specs.declared.command.ListVersions.{ListVersions}
@@ -10,7 +11,7 @@ use Rattle.vault_core_model.specs.declared.command.Put.{Put}
 use Rattle.vault_core_model.specs.declared.command.Timed.{Timed}
 use Rattle.vault_http_values.specs.Document.{json_of}
 use Rattle.vault_http_values.specs.Spelling.{IsAbsent, IsText, IsName, IsBucket, IsKey, IsPrefix, IsMoment, IsSmall, IsId, IsOptionalId, IsFlag, IsRights, IsContent, IsRetention, IsOptionalRetention, IsHold, IsOptionalHold, IsDefault, IsRules}
-use Rattle.vault_http_lines.specs.ReadLine.{longest_line, without_cr}
+use Rattle.vault_http_lines.specs.ReadLine.{without_cr}
 use Rattle.vault_http_lines.specs.Verb.{verb_name, verb_named, is_shaped}
 use Rattle.vault_http_lines.specs.declared.verb.Verb.{Verb}
 use Rattle.vault_http_lines.specs.declared.verb.Verb.TheVariants as verb
@@ -43,7 +44,7 @@ IsAfterId d id = MatchOption id (IsAbsent d (codes "after_id")) (λ id. IsId d (
 
 -- 1,000 where it is left out
 abbrev pub IsMost : Data → ℕ → Type 0
-IsMost d most = IsSmall d (codes "most") most ⊎ (IsAbsent d (codes "most") × (most ≡ 1000))
+IsMost d most = IsSmall d (codes "most") most ⊎ (IsAbsent d (codes "most") × (most ≡ most_listed))
 
 abbrev pub IsListing : Data → ListVersions → Type 0
 IsListing d c =

@@ -4,6 +4,7 @@ use Rattle.serde_json.specs.Data.{Data}
 use Rattle.serde_json.specs.Find.{get}
 use Rattle.vault_base.specs.declared.refusal.Refusal.{Refusal}
 use Rattle.vault_base.specs.declared.refusal.Refusal.TheVariants.{InvalidArgument}
+use Rattle.vault_base.specs.Limits.{most_listed}
 use Rattle.vault_core_model.specs.declared.command.Command.{Command}
 use Rattle.vault_core_model.specs.declared.command.Command.TheVariants.{ListVersions}
 use Rattle.vault_values.specs.Fault.{◌>>=◌}
@@ -20,14 +21,14 @@ after_id_of d = do
   with_key (is_some (get (codes "after_key") d)) id
 
 -- 1,000 where it isn't said
-abbrev pub or_thousand : Option ℕ → ℕ
-or_thousand None = 1000
-or_thousand (Some most) = most
+abbrev pub or_most_listed : Option ℕ → ℕ
+or_most_listed None = most_listed
+or_most_listed (Some most) = most
 
 unfoldable pub most_of : Data → Result ℕ Refusal
 most_of d = do
   most ← optional_number_of (codes "most") d
-  Ok (or_thousand most)
+  Ok (or_most_listed most)
 
 unfoldable pub list_versions_of : Data → Result Command Refusal
 list_versions_of d = do

@@ -3,6 +3,7 @@ use Rattle.std.specs.Prelude.{ℕ, ◌-◌, ◌==◌, nat_lt, List, length, take
 use Rattle.serde_json.specs.Data.{Data}
 use Rattle.vault_base.specs.declared.refusal.Refusal.{Refusal}
 use Rattle.vault_base.specs.declared.refusal.Refusal.TheVariants.{MalformedBody}
+use Rattle.vault_base.specs.Limits.{longest_line}
 use Rattle.vault_core_model.specs.declared.command.Command.{Command}
 use Rattle.vault_core_model.specs.declared.command.Timed.{Timed}
 use Rattle.vault_http_values.specs.Document.{document_of}
@@ -70,10 +71,6 @@ unfoldable pub command_of : List ℕ → Result Timed Refusal
 command_of bytes = do
   d ← document_of bytes
   timed_of d
-
--- a longer line is malformed, whatever it says
-abbrev pub longest_line : ℕ
-longest_line = 4194304
 
 -- a CR in front of the LF isn't the line's
 abbrev pub without_cr : List ℕ → List ℕ

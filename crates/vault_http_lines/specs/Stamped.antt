@@ -5,6 +5,7 @@ use Rattle.std.specs.Str.{bytes_eq}
 use Rattle.serde_json.specs.Data.{Data}
 use Rattle.vault_base.specs.declared.refusal.Refusal.{Refusal}
 use Rattle.vault_base.specs.declared.refusal.Refusal.TheVariants.{ClockOutOfRange, MalformedBody}
+use Rattle.vault_base.specs.Limits.{longest_line}
 use Rattle.vault_core_model.specs.declared.command.Timed.{Timed}
 use Rattle.vault_http_values.specs.Document.{document_of, json_of}
 use Rattle.vault_http_values.specs.Members.{text_of}
@@ -15,7 +16,7 @@ use Rattle.vault_http_values.specs.declared.shape.Kind.{Kind}
 use Rattle.vault_http_values.specs.declared.shape.Kind.TheVariants.{Text}
 use Rattle.vault_values.specs.Fault.{◌>>=◌}
 use Rattle.vault_http_lines.specs.Grammar.{SpellsCommand, verb_in}
-use Rattle.vault_http_lines.specs.ReadLine.{longest_line, stated, values_of, without_cr}
+use Rattle.vault_http_lines.specs.ReadLine.{stated, values_of, without_cr}
 use Rattle.vault_http_lines.specs.Verb.{members_of, verb_named}
 use Rattle.vault_http_lines.specs.declared.read_line.Line.{Line}
 use Rattle.vault_http_lines.specs.declared.read_line.Line.TheVariants as line

@@ -8,15 +8,13 @@ use crate::verb::Verb;
 use crate::{config_lines, entry_lines, list_line, lock_lines, record_lines};
 use serde_json::Value;
 use std::alloc::{AllocError, Global};
+use vault_base::limits::LONGEST_LINE;
 use vault_base::refusal::Refusal;
 use vault_core_model::command::{Command, Timed};
 use vault_http_values::document::document;
 use vault_http_values::members::text_of;
 use vault_http_values::values::{asker, reading};
 use vault_values::fault::LineFault;
-
-/// The greatest size of a line in bytes, its LF not counted.
-pub const LONGEST_LINE: usize = 4_194_304;
 
 /// What a line asks for.
 #[derive(Drop)]

@@ -6,10 +6,11 @@ ghost use Rattle.vault_values.specs.Fault.{Gives};
 ghost use Rattle.vault_http_lines.specs.ReadLine.{without_cr};
 ghost use Rattle.vault_http_lines.specs.Stamped as spec;
 
-use crate::read_line::{LONGEST_LINE, Line, trimmed, values};
+use crate::read_line::{Line, trimmed, values};
 use crate::verb::Verb;
 use serde_json::Value;
 use std::alloc::{AllocError, Global};
+use vault_base::limits::LONGEST_LINE;
 use vault_base::moment::Moment;
 use vault_base::name::CallerName;
 use vault_base::refusal::Refusal;
