@@ -26,6 +26,7 @@ use Rattle.sqlite.specs.Effect.{Database}
 use Rattle.sqlite.specs.Listing.{understood, reads_listing}
 use Rattle.sqlite.specs.State.{State, Shown, IsUnchanged}
 use Rattle.sqlite.proofs.Callers.{IsPlain, command_of, reads_as}
+use Rattle.vault_base.specs.Limits.{most_ids}
 use Rattle.vault_core_model.specs.declared.records.Entry.{Entry}
 use Rattle.vault_audit_model.specs.declared.rows.HeadRow.{HeadRow}
 use Rattle.vault_audit_model.specs.Relations.{AreEntries, AreNumbered}
@@ -197,7 +198,7 @@ no_more p (x ∷ xs) =
       | false ↦ omega (arith, more)
     ]
 
-below_most : (n : ℕ) → n ≤ 1000000001 → min most n ≡ n
+below_most : (n : ℕ) → n ≤ most_ids + 1 → min most n ≡ n
 below_most n low = grind (arith, low)
 
 module _ (entries : List Row) (es : List Entry) (are : IsPermutation (map entry_row es) (map entry_columns entries)) (numbered : AreNumbered 1 0 es) where

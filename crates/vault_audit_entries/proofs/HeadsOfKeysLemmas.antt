@@ -7,6 +7,7 @@ use Rattle.std.proofs.lemmas.List.Sorted.{IsPermutation-map, IsPermutation-sym, 
 use Rattle.std.proofs.lemmas.Bool.{and_parts, and_from}
 use Rattle.sqlite_trees.proofs.ListLemmas.{all-permutation}
 use Rattle.sqlite.specs.Effect.{Database}
+use Rattle.vault_base.specs.Limits.{most_ids}
 use Rattle.vault_core_model.specs.declared.records.Entry.{Entry}
 use Rattle.vault_core_model.specs.declared.records.History.{History}
 use Rattle.vault_core_model.specs.Order.{IsAscending}
@@ -83,10 +84,10 @@ no_less a b low never =
     not_below a b low is = grind (arith, nat_tests, is, low)
 
 -- a sum that is small isn't cut off
-all_of_it : (n sum : ℕ) → n ≡ min sum 18446744073709551615 → n ≤ 1000000001 → sum ≡ n
+all_of_it : (n sum : ℕ) → n ≡ min sum 18446744073709551615 → n ≤ most_ids + 1 → sum ≡ n
 all_of_it n sum is low = grind (arith, is, low)
 
-uncut : (sum : ℕ) → sum ≤ 1000000001 → min sum 18446744073709551615 ≡ sum
+uncut : (sum : ℕ) → sum ≤ most_ids + 1 → min sum 18446744073709551615 ≡ sum
 uncut sum low = grind (arith, low)
 
 not_one : (a b : ℕ) → (a == b) ≡ false → a ≡ b → ⊥
@@ -297,7 +298,7 @@ module _ (db : Database) (v : Vault) (are : AreEntries db (entries_of v)) where
   pub no_counts : ((hs : List HeadRow) → IsPermutation (map head_row hs) (map head_columns (db.trees heads_tree)) → DecidesCounts (entries_of v) hs false) → ¬ AreHeads db v
   no_counts stated heads = stated (heads_in v) heads (each_counted v are.1)
 
-  few : held_entry_count (entries_of v) ≤ 1000000001
+  few : held_entry_count (entries_of v) ≤ most_ids + 1
   few =
       let all = few_entries 1 0 (entries_of v) (omega arith) are.1 in
       let some = no_more is_held_entry (entries_of v) in omega (arith, all, some)

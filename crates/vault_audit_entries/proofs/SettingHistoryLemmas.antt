@@ -20,7 +20,7 @@ entries_of = map (λ h. h.entry)
 
 -- ---- from histories
 
-count : (marker : Bool) (h : History) → HasSettingsAs marker h → length h.settings ≤ 1000000000
+count : (marker : Bool) (h : History) → HasSettingsAs marker h → length h.settings ≤ most_settings
 count true h is = rw is (omega arith)
 count false h is = is.1
 

@@ -3,6 +3,7 @@ use Rattle.std.proofs.Common.{◌≡◌, ◌≤◌, ◌<◌, ◌+◌, ◌⊎◌,
 use Rattle.std.specs.List.{AllByRecursion, list_any}
 use Rattle.std.proofs.lemmas.Bool.Decides.{nat_tests}
 use Rattle.std.proofs.lemmas.List.Folds.{list_any-append}
+use Rattle.vault_base.specs.Limits.{most_settings}
 use Rattle.vault_base.specs.Name.{is_version_id}
 use Rattle.vault_core_model.specs.declared.records.Setting.{Setting}
 use Rattle.vault_audit_model.specs.declared.rows.SettingRow.{SettingRow}
@@ -45,10 +46,10 @@ pub record Cut (id next : ℕ) (xs : List SettingRow) : Type 0 where
   pub rest : List SettingRow
   pub whole : xs ≡ settings_from id next settings ++ rest
   pub are : AllByRecursion IsSetting settings
-  pub count : next + length settings ≤ 1000000001
+  pub count : next + length settings ≤ most_settings + 1
   pub fit : Fit (at_place id 0) rest
 
-pub cut : (id next : ℕ) (xs : List SettingRow) → next ≤ 1000000001 → Fit (at_place id next) xs → Cut id next xs
+pub cut : (id next : ℕ) (xs : List SettingRow) → next ≤ most_settings + 1 → Fit (at_place id next) xs → Cut id next xs
 cut id next [] low fit = record { settings = []; rest = []; whole = refl; are = tt; count = omega (arith, low); fit = tt }
 cut id next (x ∷ xs) low ((is, inl (same, place)), more) =
     let on : Fit (at_place id (next + 1)) xs = subst (λ p. Fit p xs) (ap₂ (λ i n. at_place i (n + 1)) same place) more in
@@ -124,14 +125,14 @@ has_append i xs ys = list_any-append (λ x. x.id == i) xs ys
 -- ---- from the settings of one id
 
 -- they fit, where what follows fits after any of them
-pub run_fits : (id place : ℕ) (ss : List Setting) (rest : List SettingRow) → IsTrue (is_version_id id) → 1 ≤ place → place + length ss ≤ 1000000001 → AllByRecursion IsSetting ss → ((k : ℕ) → Fit (at_place id k) rest)
+pub run_fits : (id place : ℕ) (ss : List Setting) (rest : List SettingRow) → IsTrue (is_version_id id) → 1 ≤ place → place + length ss ≤ most_settings + 1 → AllByRecursion IsSetting ss → ((k : ℕ) → Fit (at_place id k) rest)
     → Fit (at_place id place) (settings_from id place ss ++ rest)
 run_fits id place [] rest is low high all behind = behind place
 run_fits id place (s ∷ ss) rest is low high all behind =
     ((record { id = is; place = (low, omega (arith, high)); setting = all.0 }, inl (refl, refl)), run_fits id (place + 1) ss rest is (omega (arith, low)) (omega (arith, high)) all.1 behind)
 
 -- so they do after an earlier id
-pub first_fits : (p : SettingPass) (id : ℕ) (ss : List Setting) (rest : List SettingRow) → p.id < id → IsTrue (is_version_id id) → length ss ≤ 1000000000 → AllByRecursion IsSetting ss → ((k : ℕ) → Fit (at_place id k) rest) → Fit p rest
+pub first_fits : (p : SettingPass) (id : ℕ) (ss : List Setting) (rest : List SettingRow) → p.id < id → IsTrue (is_version_id id) → length ss ≤ most_settings → AllByRecursion IsSetting ss → ((k : ℕ) → Fit (at_place id k) rest) → Fit p rest
     → Fit p (settings_from id 1 ss ++ rest)
 first_fits p id [] rest low is high all behind here = here
 first_fits p id (s ∷ ss) rest low is high all behind here =

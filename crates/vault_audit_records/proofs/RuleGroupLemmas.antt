@@ -7,6 +7,7 @@ use Rattle.std.specs.Cmp.Lexicographic.{bytes_decides}
 use Rattle.std.proofs.lemmas.Bool.Decides.{nat_tests}
 use Rattle.std.proofs.lemmas.Cmp.{nat_list_cmp_total, tied_itself}
 use Rattle.std.proofs.lemmas.List.{length-append}
+use Rattle.vault_base.specs.Limits.{most_rules}
 use Rattle.vault_core_model.specs.Order.{name_cmp, IsAscending, bucket_cmp}
 use Rattle.vault_core_model.specs.declared.records.Bucket.{Bucket}
 use Rattle.vault_rules.specs.Rules.{is_rule_set}
@@ -214,7 +215,7 @@ after_none (c ∷ cs) = (tt, after_none cs)
 abbrev Ends : RulesSoFar → List RuleRow → Type 0
 Ends p xs = FitRules p xs × IsWhole (end_of p xs)
 
-run_fits : (name : List ℕ) (gone rs : List Rule) (rest : List RuleRow) → IsBucketName name → 1 ≤ length gone → length gone + length rs ≤ 1000 → AllByRecursion IsRule rs → Ends (at_rules name (gone ++ rs)) rest
+run_fits : (name : List ℕ) (gone rs : List Rule) (rest : List RuleRow) → IsBucketName name → 1 ≤ length gone → length gone + length rs ≤ most_rules → AllByRecursion IsRule rs → Ends (at_rules name (gone ++ rs)) rest
     → Ends (at_rules name gone) (rules_from name (length gone + 1) rs ++ rest)
 run_fits name gone [] rest is some few all ends = subst (λ l. Ends (at_rules name l) rest) (append-nil gone) ends
 run_fits name gone (r ∷ rs) rest is some few all ends =

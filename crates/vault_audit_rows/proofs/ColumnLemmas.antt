@@ -2,7 +2,7 @@
 use Rattle.std.proofs.Common.{◌≡◌, ◌≢◌, ◌<◌, ◌≤◌, ◌+◌, ◌*◌, ◌/◌, ◌%◌, ◌==◌, ◌^◌, ℕ, zero, suc, Bool, true, false, List, length, Option, Some, None, IfSome, arith, [], ◌∷◌, is_none, nat_lt, IsTrue, refl}
 use Rattle.std.proofs.lemmas.Bool.Decides.{nat_tests}
 use Rattle.sqlite_value.specs.declared.value.Value.{Value}
-use Rattle.vault_base.specs.Limits.{most_content}
+use Rattle.vault_base.specs.Limits.{most_content, most_rules}
 use Rattle.vault_core_model.specs.declared.rights.Rights.{Rights}
 use Rattle.vault_core_model.specs.declared.records.Author.{Author}
 use Rattle.vault_core_model.specs.declared.records.Author.TheVariants as author
@@ -68,11 +68,11 @@ no_fault : (b : Bool) (fault : RuleFault) (later : Option RuleFault) → IsTrue 
 no_fault true fault later h = absurd cc
 no_fault false fault later h = refl
 
-not_above : (n : ℕ) → nat_lt 1000 n ≡ false → n ≤ 1000
+not_above : (n : ℕ) → nat_lt most_rules n ≡ false → n ≤ most_rules
 not_above n h = grind arith
 
 -- a bucket has no more than a thousand
-pub few : (rules : List Rule) → IsTrue (is_rule_set rules) → length rules ≤ 1000
+pub few : (rules : List Rule) → IsTrue (is_rule_set rules) → length rules ≤ most_rules
 few [] h = omega arith
 few (r ∷ rs) h = not_above (length (r ∷ rs)) (no_fault _ _ _ h)
 

@@ -81,7 +81,7 @@ most false e content settings h = h.3
 pub most_of : (h : History) → IsWhole h → length h.settings ≤ most_settings
 most_of h whole = most h.entry.marker h.entry h.content h.settings whole
 
-placed_settings : (id place : ℕ) (settings : List Setting) → IsTrue (is_version_id id) → 1 ≤ place → place + length settings ≤ 1000000001 → AllByRecursion IsSetting settings → AllByRecursion IsSettingRow (settings_from id place settings)
+placed_settings : (id place : ℕ) (settings : List Setting) → IsTrue (is_version_id id) → 1 ≤ place → place + length settings ≤ most_settings + 1 → AllByRecursion IsSetting settings → AllByRecursion IsSettingRow (settings_from id place settings)
 placed_settings id place [] is low high all = tt
 placed_settings id place (s ∷ ss) is low high all =
     (record { id = is; place = (low, omega (arith, high)); setting = all.0 }, placed_settings id (place + 1) ss is (omega (arith, low)) (omega (arith, high)) all.1)

@@ -31,7 +31,7 @@ use sqlite::Row;
 use vault_audit_model::rows::{
     BucketRow, ContentRow, DepartmentRow, HeadRow, MetaRow, RuleRow, SettingRow, TenureRow,
 };
-use vault_base::limits::{MOST_CONTENT, MOST_MOVES};
+use vault_base::limits::{MOST_CONTENT, MOST_MOVES, MOST_RULES, MOST_SETTINGS};
 use vault_core_model::records::{BucketConfig, Caller, Entry, Head, Note, Setting, Tenure};
 use vault_lock::lock::Lock;
 use vault_rules::rule::Rule;
@@ -145,7 +145,7 @@ pub fn read_rule(row: &Row) -> Result<RuleRow, Misread>
     if row.column_count() != 11 {
         return Err(Misread::Wrong);
     }
-    let place = number_within(row, 1, 1, 1_000).ok_or(Misread::Wrong)?;
+    let place = number_within(row, 1, 1, MOST_RULES as u32).ok_or(Misread::Wrong)?;
     let enabled = flag(row, 4).ok_or(Misread::Wrong)?;
     let days = days_or_null(row, 5).ok_or(Misread::Wrong)?;
     let lone_markers = flag(row, 6).ok_or(Misread::Wrong)?;
@@ -230,7 +230,7 @@ pub fn read_setting(row: &Row) -> Result<SettingRow, Misread>
         return Err(Misread::Wrong);
     }
     let id = version_id(row, 0).ok_or(Misread::Wrong)?;
-    let place = number_within(row, 1, 1, 1_000_000_000).ok_or(Misread::Wrong)?;
+    let place = number_within(row, 1, 1, MOST_SETTINGS as u32).ok_or(Misread::Wrong)?;
     let at = moment(row, 2).ok_or(Misread::Wrong)?;
     let retention = retention(row, 4, 5).ok_or(Misread::Wrong)?;
     let hold = flag(row, 6).ok_or(Misread::Wrong)?;

@@ -8,8 +8,9 @@ use crate::shape::shape_cause;
 use crate::values::value_cause;
 use serde_json::{Error, Value};
 use std::alloc::{AllocError, Global};
+use vault_base::limits::LONGEST_LINE;
 use vault_base::refusal::Refusal;
-use vault_http_lines::read_line::{LONGEST_LINE, Line, read_line};
+use vault_http_lines::read_line::{Line, read_line};
 
 /// Why a text isn't JSON.
 fn text_cause<'v>(text: &'v str, error: &Error) -> Cause<'v> {

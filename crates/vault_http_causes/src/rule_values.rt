@@ -3,6 +3,7 @@ use crate::cause::{Cause, Explained};
 use crate::values::{is_refused, not_allowed};
 use serde_json::Value;
 use std::alloc::{AllocError, Global};
+use vault_base::limits::{MOST_CONTENT, MOST_RULES};
 use vault_base::name::RuleId;
 use vault_http_values::values;
 use vault_values::words::status_named;
@@ -63,11 +64,11 @@ fn action_range_cause(rule: &Value) -> Option<Cause<'static>> {
 
 /// What is wrong with the bounds of a rule on sizes.
 fn bounds_cause(rule: &Value) -> Option<Cause<'static>> {
-    let lower = range_cause("ObjectSizeGreaterThan", rule, 0, 1_048_576);
+    let lower = range_cause("ObjectSizeGreaterThan", rule, 0, MOST_CONTENT as u64);
     if lower.is_some() {
         return lower;
     }
-    let upper = range_cause("ObjectSizeLessThan", rule, 1, 1_048_577);
+    let upper = range_cause("ObjectSizeLessThan", rule, 1, MOST_CONTENT as u64 + 1);
     if upper.is_some() {
         return upper;
     }
@@ -151,7 +152,7 @@ pub(crate) fn rules_value_cause<'v>(
             cause: Cause::NoRules,
         }));
     }
-    if rules.len() > 1_000 {
+    if rules.len() > MOST_RULES {
         return Ok(Some(Explained {
             rule: None,
             cause: Cause::TooManyRules,

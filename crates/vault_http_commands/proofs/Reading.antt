@@ -7,6 +7,7 @@ use Rattle.std.proofs.lemmas.Str.{is_utf8-from_IsUtf8}
 use Rattle.serde_json.specs.Data.{Data, Members, object, depth}
 use Rattle.serde_json.specs.Read.{max_depth, read}
 use Rattle.serde_json.specs.Written.{compact_text, has_float}
+use Rattle.vault_base.specs.Limits.{longest_line}
 use Rattle.vault_core_model.specs.declared.command.Timed.{Timed}
 use Rattle.vault_http_values.specs.Document.{json_of}
 use Rattle.vault_http_lines.specs.ReadLine.{line_of, without_cr}
@@ -56,5 +57,5 @@ module _ (text : List ℕ) (d : Data) (t : Timed) (is : d ≡ line_value t) (spe
   pub text-spells : IsUtf8 text → (depth d ≤ max_depth → read text ≡ Some d) → SpellsTimed text t
   text-spells utf8 reads = let a = asks t spelled in (line_value t, is-value utf8 reads, a.shape, a.spelled)
 
-  pub text-asks : IsUtf8 text → (depth d ≤ max_depth → read text ≡ Some d) → length text ≤ 4194304 → line_of text ≡ line.Command t
+  pub text-asks : IsUtf8 text → (depth d ≤ max_depth → read text ≡ Some d) → length text ≤ longest_line → line_of text ≡ line.Command t
   text-asks utf8 reads short = spelled-is-command text t (short, text-spells utf8 reads)

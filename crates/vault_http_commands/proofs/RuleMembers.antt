@@ -1,5 +1,5 @@
 -- The value that is printed of a lifecycle rule spells that rule.
-use Rattle.std.proofs.Common.{◌≡◌, ◌<◌, ◌≤◌, ℕ, Bool, true, false, List, [], ◌∷◌, ◌++◌, refl, ◌∙◌, ap, inl, inr, codes, arith, Ordering, Less, Equal, Greater, is_eq, nat_cmp}
+use Rattle.std.proofs.Common.{◌≡◌, ◌<◌, ◌≤◌, ℕ, ◌+◌, Bool, true, false, List, [], ◌∷◌, ◌++◌, refl, ◌∙◌, ap, inl, inr, codes, arith, Ordering, Less, Equal, Greater, is_eq, nat_cmp}
 use Rattle.std.specs.Prelude.{◌&&◌, not, nat_le, All, Option, Some, None, is_some, option_map, map}
 use Rattle.std.proofs.lemmas.Bool.{leb-true}
 use Rattle.std.proofs.lemmas.List.Elements.{All-head, All-tail}
@@ -11,6 +11,7 @@ use Rattle.serde_json.specs.Data.{Data, boolean, string, object, Members, no_mem
 use Rattle.serde_json.specs.Find.{get, get_member}
 use Rattle.serde_json.specs.View.{items_of}
 use Rattle.serde_json.specs.Written.{has_float, items_have_float, members_have_float}
+use Rattle.vault_base.specs.Limits.{most_content}
 use Rattle.vault_rules.specs.Rules.{passes_if_given, is_day_count, is_newer_count, is_noncurrent_action, is_lower_bound, is_upper_bound, are_in_order, are_bounds, has_action, has_days_and_markers, is_in_range, has_id, fault_where, fault_of, first_of_both, first_fault, rules_fault}
 use Rattle.vault_rules.specs.declared.rule.Noncurrent.{Noncurrent}
 use Rattle.vault_rules.specs.declared.rule.Rule.{Rule}
@@ -67,10 +68,10 @@ newer-bits : (n : ℕ) → is_newer_count n ≡ true → n < 4294967296
 newer-bits n e = omega (arith, leb-true n 100 (right (nat_le 1 n) (nat_le n 100) e))
 
 lower-bits : (n : ℕ) → is_lower_bound n ≡ true → n < 4294967296
-lower-bits n e = omega (arith, leb-true n 1048576 e)
+lower-bits n e = omega (arith, leb-true n most_content e)
 
 upper-bits : (n : ℕ) → is_upper_bound n ≡ true → n < 4294967296
-upper-bits n e = omega (arith, leb-true n 1048577 (right (nat_le 1 n) (nat_le n 1048577) e))
+upper-bits n e = omega (arith, leb-true n (most_content + 1) (right (nat_le 1 n) (nat_le n (most_content + 1)) e))
 
 small-if : (d : Data) (name : List ℕ) (test : ℕ → Bool) (n : Option ℕ) → ((m : ℕ) → test m ≡ true → m < 4294967296) → get name d ≡ option_map whole n → passes_if_given test n ≡ true → IsOptionalSmall d name n
 small-if d name test None bits e passes = e

@@ -1,7 +1,8 @@
 //! The line that asks for a command.
 ghost use Rattle.std.specs.Prelude.{◌≡◌, ◌≤◌, IfOk, OnOk, length, string_bytes};
 ghost use Rattle.serde_json.specs.View.{view, members_view};
-ghost use Rattle.vault_http_lines.specs.ReadLine.{line_of, longest_line};
+ghost use Rattle.vault_base.specs.Limits.{longest_line};
+ghost use Rattle.vault_http_lines.specs.ReadLine.{line_of};
 ghost use Rattle.vault_http_lines.specs.declared.read_line.Line.TheVariants as line;
 ghost use Rattle.vault_http_commands.specs.Lines.{HasNoLf, SpellsTimed};
 ghost use Rattle.vault_http_commands.specs.Members as spec;

@@ -4,6 +4,7 @@ use Rattle.std.specs.Str.{bytes_eq}
 use Rattle.serde_json.specs.Data.{Data}
 use Rattle.vault_base.specs.declared.refusal.Refusal.{Refusal}
 use Rattle.vault_base.specs.declared.refusal.Refusal.TheVariants.{InvalidArgument, MalformedBody}
+use Rattle.vault_base.specs.Limits.{longest_line}
 use Rattle.vault_base.specs.Moment.{moment_of}
 use Rattle.vault_http_values.specs.Document.{document_of}
 use Rattle.vault_http_values.specs.Members.{optional_text_of, text_of}
@@ -12,7 +13,7 @@ use Rattle.vault_http_values.specs.Values.{asker_of, optional_number_of}
 use Rattle.vault_http_values.specs.declared.shape.Kind.{Kind}
 use Rattle.vault_http_values.specs.declared.shape.Kind.TheVariants.{OptionalNumber, OptionalText, Text}
 use Rattle.vault_values.specs.Fault.{◌>>=◌, or_refused}
-use Rattle.vault_http_lines.specs.ReadLine.{longest_line, without_cr}
+use Rattle.vault_http_lines.specs.ReadLine.{without_cr}
 use Rattle.vault_http_lines.specs.Stamped.{asking_members, clock_of}
 use Rattle.vault_http_door.specs.declared.inquiry.About.{About}
 use Rattle.vault_http_door.specs.declared.inquiry.About.TheVariants as about

@@ -3,6 +3,7 @@ use Rattle.std.specs.Prelude.{ℕ, ◌≤◌, ◌==◌, ◌&&◌, ◌||◌, not,
 use Rattle.vault_base.specs.declared.refusal.Reason.TheVariants.{UnknownCaller}
 use Rattle.vault_base.specs.declared.refusal.Refusal.{Refusal}
 use Rattle.vault_base.specs.declared.refusal.Refusal.TheVariants.{AccessDenied, EntityTooLarge, InvalidArgument, MissingContentLength}
+use Rattle.vault_base.specs.Limits.{longest_body, most_content}
 use Rattle.vault_lock.specs.declared.retention.Mode.{Mode}
 use Rattle.vault_lock.specs.declared.retention.Retention.{Retention}
 use Rattle.vault_values.specs.Fault.{◌>>=◌, or_invalid, if_given}
@@ -25,20 +26,20 @@ abbrev pub no_headers : AcceptedHeaders
 no_headers = record { limit = None; locks = false; bypass = false }
 
 abbrev pub json_body : AcceptedHeaders
-json_body = record { limit = Some 4194304; locks = false; bypass = false }
+json_body = record { limit = Some longest_body; locks = false; bypass = false }
 
 abbrev pub accepted_headers_of : Operation → AcceptedHeaders
 accepted_headers_of (operation.Ready c) = no_headers
-accepted_headers_of (operation.Put bucket key) = record { limit = Some 1048576; locks = true; bypass = false }
+accepted_headers_of (operation.Put bucket key) = record { limit = Some most_content; locks = true; bypass = false }
 accepted_headers_of (operation.DeleteVersion bucket key id) = record { limit = None; locks = false; bypass = true }
-accepted_headers_of (operation.SetRetention o) = record { limit = Some 4194304; locks = false; bypass = true }
+accepted_headers_of (operation.SetRetention o) = record { limit = Some longest_body; locks = false; bypass = true }
 accepted_headers_of (operation.SetHold o) = json_body
 accepted_headers_of (operation.SetDefault bucket) = json_body
 accepted_headers_of (operation.SetRules bucket) = json_body
 
 abbrev pub IsLimit : Option ℕ → Type 0
 IsLimit None = Unit {0}
-IsLimit (Some n) = n ≤ 4194304
+IsLimit (Some n) = n ≤ longest_body
 
 -- ---- the length of the body
 

@@ -2,12 +2,14 @@
 ghost use Rattle.std.specs.Prelude.{◌≡◌, ◌≤◌, All, length, map};
 ghost use Rattle.std.specs.Option.{option_copied};
 ghost use Rattle.httparse.specs.Spans.{header_bytes, IsHeaderWithin};
+ghost use Rattle.vault_base.specs.Limits.{longest_body};
 ghost use Rattle.vault_values.specs.Fault.{Gives};
 ghost use Rattle.vault_http_request.specs.RequestHeaders as spec;
 
 use crate::operation::Operation;
 use httparse::spans::HeaderSpan;
 use std::alloc::Global;
+use vault_base::limits::{LONGEST_BODY, MOST_CONTENT};
 use vault_base::moment::Moment;
 use vault_base::name::CallerName;
 use vault_base::refusal::{Reason, Refusal};
@@ -65,18 +67,18 @@ pub fn accepted_headers_of(operation: &Operation) -> AcceptedHeaders
             bypass: true,
         },
         Operation::Put(_, _) => AcceptedHeaders {
-            limit: Some(1_048_576),
+            limit: Some(MOST_CONTENT as u64),
             locks: true,
             bypass: false,
         },
         Operation::SetRetention(_) => AcceptedHeaders {
-            limit: Some(4_194_304),
+            limit: Some(LONGEST_BODY as u64),
             locks: false,
             bypass: true,
         },
         Operation::SetHold(_) | Operation::SetDefault(_) | Operation::SetRules(_) =>
             AcceptedHeaders {
-                limit: Some(4_194_304),
+                limit: Some(LONGEST_BODY as u64),
                 locks: false,
                 bypass: false,
             },
@@ -84,7 +86,7 @@ pub fn accepted_headers_of(operation: &Operation) -> AcceptedHeaders
 }
 
 fn length_upto(text: Option<&[u8]>, limit: u64) -> Result<u64, LineFault>
-    requires { limit ≤ 4_194_304 }
+    requires { limit ≤ longest_body }
     ensures { Gives (λ x. x) result (spec.length_upto limit (option_copied text.entry)) }
 {
     let Some(text) = text else {

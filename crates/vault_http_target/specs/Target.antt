@@ -1,6 +1,7 @@
 -- What a target asks about: first its path, then the names and the values of its query.
 use Rattle.std.specs.Prelude.{ℕ, ◌==◌, ◌&&◌, not, nat_le, List, [], ◌∷◌, codes, Bool, Option, Some, None, is_some, Result, Ok, Err, if◌then◌else◌, ⊤}
 use Rattle.std.specs.Str.{bytes_eq}
+use Rattle.vault_base.specs.Limits.{most_listed}
 use Rattle.vault_base.specs.Name.{version_id_of}
 use Rattle.vault_base.specs.declared.refusal.Refusal.{Refusal}
 use Rattle.vault_base.specs.declared.refusal.Refusal.TheVariants.{InvalidArgument, NotImplemented}
@@ -103,7 +104,7 @@ after_id_of pairs = do
 
 -- 1,000 where it isn't given; zeros may stand in front
 abbrev pub most : Option (List ℕ) → Result ℕ Refusal
-most None = Ok 1000
+most None = Ok most_listed
 most (Some text) = or_refused InvalidArgument (number_upto 4294967295 text)
 
 -- a value that is given is read also where it is empty

@@ -11,6 +11,7 @@ ghost use Rattle.vault_store_walks.specs.declared.held.SizedRow.{SizedRow as Siz
 
 use sqlite::{Alter, Connection, Error, ErrorCode, Row, params};
 use vault_audit_rows::cell::{moment, number_within};
+use vault_base::limits::MOST_CONTENT;
 use vault_base::moment::Moment;
 use vault_base::name::BucketName;
 use vault_store_reads::query::UNREADABLE;
@@ -31,7 +32,7 @@ pub fn read_sized(row: &Row) -> Option<SizedRow>
     if row.column_count() != 2 {
         return None;
     }
-    let size = number_within(row, 0, 0, 1_048_576)?;
+    let size = number_within(row, 0, 0, MOST_CONTENT as u32)?;
     let from = moment(row, 1)?;
     Some(SizedRow {
         size: u64::from(size),

@@ -9,11 +9,11 @@ use crate::changes::is_cut;
 use crate::state::JournalState;
 use std::alloc::{AllocError, Global};
 use std::io::Write;
+use vault_base::limits::LONGEST_LINE;
 use vault_base::moment::Moment;
 use vault_base::name::CallerName;
 use vault_core_model::command::Command;
 use vault_core_model::reply::Reply;
-use vault_http::read_line::LONGEST_LINE;
 use vault_http_commands::command_line::command_line;
 use vault_io::writing::write_bytes;
 

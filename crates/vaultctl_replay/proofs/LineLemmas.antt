@@ -1,5 +1,5 @@
 -- Lemmas on the lines of an input.
-use Rattle.std.proofs.Common.{◌≡◌, ◌≢◌, ℕ, zero, suc, List, [], ◌∷◌, ◌++◌, take, drop, map, refl, ap, ap₂, sym, ◌∙◌, append_assoc, append-nil, Bool, true, false, cond, ◌==◌, ◌<◌, ◌≤◌, ◌+◌, nat_lt, All, get_or, length, add-one, arith}
+use Rattle.std.proofs.Common.{◌≡◌, ◌≢◌, ℕ, zero, suc, List, [], ◌∷◌, ◌++◌, take, drop, map, refl, ap, ap₂, sym, ◌∙◌, append_assoc, append-nil, Bool, true, false, cond, ◌==◌, ◌<◌, ◌≤◌, ◌+◌, ◌-◌, nat_lt, All, get_or, length, add-one, arith}
 use Rattle.std.proofs.Math.Seq.{take-suc}
 use Rattle.std.proofs.lemmas.Bool.Decides.{nat_tests}
 use Rattle.std.proofs.lemmas.List.Elements.{All-nil, All-cons, All-head, All-tail, All-push}
@@ -7,6 +7,7 @@ use Rattle.std.proofs.lemmas.List.{length-take, take-append-drop, take_all, map-
 use Rattle.std.proofs.lemmas.Bool.{lt-ltb, ltb-true, ltb-false}
 use Rattle.std.specs.List.{flat_map}
 use Rattle.vaultctl_replay.specs.Lines.{HasNoLf, ended, Splits, AskFor, EndedAskFor, last_of, unended_of, advance, asked_in}
+use Rattle.vault_base.specs.Limits.{longest_line}
 use Rattle.vault_http.specs.Line.{Line}
 use Rattle.vault_http.specs.ReadLine.{line_of}
 
@@ -81,42 +82,46 @@ cut_whole most bytes = rw (take-nil most) at (cut most [] bytes (All-nil (λ b. 
 
 -- ---- what is kept of a line asks for the same
 
+-- the bytes of a line that are kept: one more than a line may have, so that a longer one is seen to be too long
+abbrev pub most_kept : ℕ
+most_kept = longest_line + 1
+
 -- a line that is cut is too long as it is and as it is cut
-line_of-cut : (line cut : List ℕ) → (length line ≤ 4_194_304 → cut ≡ line) → (4_194_304 < length line → 4_194_304 < length cut) → (too_long : Bool) → nat_lt 4_194_304 (length line) ≡ too_long → line_of cut ≡ line_of line
+line_of-cut : (line cut : List ℕ) → (length line ≤ longest_line → cut ≡ line) → (longest_line < length line → longest_line < length cut) → (too_long : Bool) → nat_lt longest_line (length line) ≡ too_long → line_of cut ≡ line_of line
 unfolding line_of
 line_of-cut line cut same long true e =
-    let cut_long : nat_lt 4_194_304 (length cut) ≡ true = lt-ltb 4_194_304 (length cut) (long (ltb-true 4_194_304 (length line) e)) in
+    let cut_long : nat_lt longest_line (length cut) ≡ true = lt-ltb longest_line (length cut) (long (ltb-true longest_line (length line) e)) in
     rw (cut_long, e) refl
-line_of-cut line cut same long false e = ap line_of (same (ltb-false 4_194_304 (length line) e))
+line_of-cut line cut same long false e = ap line_of (same (ltb-false longest_line (length line) e))
 
-pub line_of-take : (line : List ℕ) → line_of (take 4_194_305 line) ≡ line_of line
+pub line_of-take : (line : List ℕ) → line_of (take most_kept line) ≡ line_of line
 line_of-take line =
-    line_of-cut line (take 4_194_305 line) (λ short. take_all 4_194_305 line (omega arith)) (λ long. simp length-take (omega arith)) (nat_lt 4_194_304 (length line)) refl
+    line_of-cut line (take most_kept line) (λ short. take_all most_kept line (omega arith)) (λ long. simp length-take (omega arith)) (nat_lt longest_line (length line)) refl
 
 unended_of-long : (b c : ℕ) (bytes : List ℕ) → unended_of (b ∷ c ∷ bytes) ≡ line_of (b ∷ c ∷ bytes)
 unended_of-long b c bytes =
     let other : (length (b ∷ c ∷ bytes) == 1) ≡ false = grind (arith, nat_tests) in
     rw other refl
 
-last_of-take : (rest : List ℕ) → last_of (take 4_194_305 rest) ≡ last_of rest
+last_of-take : (rest : List ℕ) → last_of (take most_kept rest) ≡ last_of rest
 last_of-take [] = refl
 last_of-take (b ∷ []) = refl
 last_of-take (b ∷ c ∷ bytes) =
-    ap (λ (l : Line). l ∷ []) (unended_of-long b c (take 4_194_303 bytes) ∙ line_of-take (b ∷ c ∷ bytes) ∙ sym (unended_of-long b c bytes))
+    ap (λ (l : Line). l ∷ []) (unended_of-long b c (take (longest_line - 1) bytes) ∙ line_of-take (b ∷ c ∷ bytes) ∙ sym (unended_of-long b c bytes))
 
-lines_of-take : (lines : List (List ℕ)) → map line_of (map (take 4_194_305) lines) ≡ map line_of lines
+lines_of-take : (lines : List (List ℕ)) → map line_of (map (take most_kept) lines) ≡ map line_of lines
 lines_of-take [] = refl
 lines_of-take (line ∷ lines) = cc (line_of-take line, lines_of-take lines)
 
 -- what is asked in bytes is what their lines ask for
-pub asked_ended : (bytes : List ℕ) → EndedAskFor bytes (asked_in 4_194_305 [] bytes)
+pub asked_ended : (bytes : List ℕ) → EndedAskFor bytes (asked_in most_kept [] bytes)
 asked_ended bytes =
-    let found = cut_whole 4_194_305 bytes in
+    let found = cut_whole most_kept bytes in
     (found.0, found.1, found.2, ap (λ (f : List (List ℕ) × List ℕ). map line_of f.0) found.3 ∙ lines_of-take found.0)
 
-pub asked_all : (bytes : List ℕ) → AskFor bytes (asked_in 4_194_305 [] bytes ++ last_of (advance 4_194_305 [] bytes).1)
+pub asked_all : (bytes : List ℕ) → AskFor bytes (asked_in most_kept [] bytes ++ last_of (advance most_kept [] bytes).1)
 asked_all bytes =
-    let found = cut_whole 4_194_305 bytes in
+    let found = cut_whole most_kept bytes in
     let lines = ap (λ (f : List (List ℕ) × List ℕ). map line_of f.0) found.3 ∙ lines_of-take found.0 in
     let last = ap (λ (f : List (List ℕ) × List ℕ). last_of f.1) found.3 ∙ last_of-take found.1 in
     (found.0, found.1, found.2, ap₂ (λ (a b : List Line). a ++ b) lines last)

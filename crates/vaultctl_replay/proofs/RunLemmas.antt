@@ -22,7 +22,7 @@ use Rattle.vault_http.specs.Line.{Line}
 use Rattle.vault_io.specs.Begins.{Begins}
 use Rattle.vaultctl_replay.specs.Lines.{advance, asked_in, last_of, AskSoFar}
 use Rattle.vaultctl_replay.specs.Runs.{lines_of, Answers, Replied, Runs, Finished, Began, Unwritten, AnswersAll, AnswersEnded, AnswersSome, Steady}
-use Rattle.vaultctl_replay.proofs.LineLemmas.{asked_in-append, advance-append, asked_all, asked_ended}
+use Rattle.vaultctl_replay.proofs.LineLemmas.{advance-append, asked_all, asked_ended, asked_in-append, most_kept}
 
 -- ---- what is known where the device was honest later is known where it was honest before
 
@@ -180,20 +180,20 @@ Began-keeps H a b i j u v w ls r k = begun H a b i j u w ls (Finished-keeps H a 
 
 -- ---- the whole input
 
-pub answers_ended : (H : Type 0) (a b : Vault) (i j : ℕ) (u v : Option (List ℕ)) (bytes : List ℕ) → Finished H a i u (asked_in 4_194_305 [] bytes) b j v → AnswersEnded H a i u bytes b j v
-answers_ended H a b i j u v bytes r = (asked_in 4_194_305 [] bytes, asked_ended bytes, r)
+pub answers_ended : (H : Type 0) (a b : Vault) (i j : ℕ) (u v : Option (List ℕ)) (bytes : List ℕ) → Finished H a i u (asked_in most_kept [] bytes) b j v → AnswersEnded H a i u bytes b j v
+answers_ended H a b i j u v bytes r = (asked_in most_kept [] bytes, asked_ended bytes, r)
 
-pub answers_some : (H E : Type 0) (a b : Vault) (i j : ℕ) (u v : Option (List ℕ)) (bytes : List ℕ) → Began H a i u (asked_in 4_194_305 [] bytes) b j v → AnswersSome H E a i u bytes b j v
-answers_some H E a b i j u v bytes r = (asked_in 4_194_305 [] bytes, inl (asked_ended bytes), r)
+pub answers_some : (H E : Type 0) (a b : Vault) (i j : ℕ) (u v : Option (List ℕ)) (bytes : List ℕ) → Began H a i u (asked_in most_kept [] bytes) b j v → AnswersSome H E a i u bytes b j v
+answers_some H E a b i j u v bytes r = (asked_in most_kept [] bytes, inl (asked_ended bytes), r)
 
-module _ (H G : Type 0) (back : G → H) (a b c : Vault) (i j k : ℕ) (u v w : Option (List ℕ)) (bytes part : List ℕ) (r : Finished H a i u (asked_in 4_194_305 [] bytes) b j v) (e : part ≡ (advance 4_194_305 [] bytes).1) where
+module _ (H G : Type 0) (back : G → H) (a b c : Vault) (i j k : ℕ) (u v w : Option (List ℕ)) (bytes part : List ℕ) (r : Finished H a i u (asked_in most_kept [] bytes) b j v) (e : part ≡ (advance most_kept [] bytes).1) where
   pub answers_all : Finished G b j v (last_of part) c k w → AnswersAll G a i u bytes c k w
   answers_all s =
-      (asked_in 4_194_305 [] bytes ++ last_of (advance 4_194_305 [] bytes).1, asked_all bytes, rw (← e) (later_finished H G back a b c i j k u v w (asked_in 4_194_305 [] bytes) (last_of part) r s))
+      (asked_in most_kept [] bytes ++ last_of (advance most_kept [] bytes).1, asked_all bytes, rw (← e) (later_finished H G back a b c i j k u v w (asked_in most_kept [] bytes) (last_of part) r s))
 
   pub answers_some_last : (E : Type 0) → E → Began G b j v (last_of part) c k w → AnswersSome G E a i u bytes c k w
   answers_some_last E at_end s =
-      (asked_in 4_194_305 [] bytes ++ last_of (advance 4_194_305 [] bytes).1, inr (at_end, asked_all bytes), rw (← e) (later_began H G back a b c i j k u v w (asked_in 4_194_305 [] bytes) (last_of part) r s))
+      (asked_in most_kept [] bytes ++ last_of (advance most_kept [] bytes).1, inr (at_end, asked_all bytes), rw (← e) (later_began H G back a b c i j k u v w (asked_in most_kept [] bytes) (last_of part) r s))
 
 -- ---- what the replies say of the count of failures
 
@@ -235,7 +235,7 @@ module _ (H E : Type 0) (a b : Vault) (i j : ℕ) (u v : Option (List ℕ)) (byt
 
 -- lines that were finished, and the last ones, of which the rest was begun at least
 pub either_steady : {T F : Type 0} (H G : Type 0) (back : G → H) (a b c : Vault) (i j k : ℕ) (u v w : Option (List ℕ)) (bytes part : List ℕ) (E : Type 0) (at_end : E) (r : Result T F)
-    → Finished H a i u (asked_in 4_194_305 [] bytes) b j v → part ≡ (advance 4_194_305 [] bytes).1 → OnOk r (Finished G b j v (last_of part) c k w) → OnErr r (Began G b j v (last_of part) c k w) → Steady G E a i u bytes c k w
+    → Finished H a i u (asked_in most_kept [] bytes) b j v → part ≡ (advance most_kept [] bytes).1 → OnOk r (Finished G b j v (last_of part) c k w) → OnErr r (Began G b j v (last_of part) c k w) → Steady G E a i u bytes c k w
 either_steady H G back a b c i j k u v w bytes part E at_end (Ok x) first e ok err =
     some_steady G E a c i k u w bytes (answers_some_last H G back a b c i j k u v w bytes part first e E at_end (begun G b c j k v w (last_of part) ok))
 either_steady H G back a b c i j k u v w bytes part E at_end (Err x) first e ok err =

@@ -3,11 +3,12 @@ ghost use Rattle.std.specs.Prelude.{◌≡◌, ◌==◌, ◌+◌, ◌++◌, ℕ,
 ghost use Rattle.std.specs.Duration.{as_nanos};
 ghost use Rattle.std.specs.List.{position};
 ghost use Rattle.vaultctl_serve_lines.specs.Hearing.{Cuts, Gave, line_allowed, news_of};
+ghost use Rattle.vault_base.specs.Limits.{longest_line};
 
 use std::alloc::{AllocError, Global};
 use std::time::Duration;
 use std::{io, mem};
-use vault_http::read_line::LONGEST_LINE;
+use vault_base::limits::LONGEST_LINE;
 use vaultctl_serve::deadline::{HEAD, REQUEST, time_left};
 use vaultctl_serve::inbound::Inbound;
 use vaultctl_serve_lines_answers::heard::Heard;
@@ -78,7 +79,7 @@ pub fn hear<I: Inbound>(inbound: &mut I, part: &mut Vec<u8>, begun: Duration) ->
 
 /// Cuts a line that is longer than it may be: it is still too long.
 pub fn cut(part: &mut Vec<u8>)
-    ensures { part.new.items ≡ take 4_194_305 part.old.items }
+    ensures { part.new.items ≡ take (longest_line + 1) part.old.items }
 {
     part.truncate(KEPT);
 }

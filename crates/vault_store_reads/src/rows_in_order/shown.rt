@@ -12,6 +12,7 @@ use vault_audit_rows::cell::{flag, moment, number_within, version_id};
 use vault_audit_rows::misread::Misread;
 use vault_audit_rows::name::{bucket_name, object_key};
 use vault_audit_rows::several_columns::retention;
+use vault_base::limits::{MOST_CONTENT, MOST_SETTINGS};
 use vault_base::moment::Moment;
 use vault_base::name::{BucketName, ObjectKey, VersionId};
 use vault_core_model::records::LastSetting;
@@ -24,7 +25,7 @@ pub fn read_last(row: &Row) -> Option<LastSetting>
     if row.column_count() != 4 {
         return None;
     }
-    let count = number_within(row, 0, 1, 1_000_000_000)?;
+    let count = number_within(row, 0, 1, MOST_SETTINGS as u32)?;
     let retention = retention(row, 1, 2)?;
     let hold = flag(row, 3)?;
     Some(LastSetting {
@@ -52,7 +53,7 @@ pub fn read_held(row: &Row) -> Option<HeldRow>
     }
     let id = version_id(row, 0)?;
     let marker = flag(row, 1)?;
-    let size = number_within(row, 2, 0, 1_048_576)?;
+    let size = number_within(row, 2, 0, MOST_CONTENT as u32)?;
     let admitted = moment(row, 3)?;
     Some(HeldRow {
         id,

@@ -3,6 +3,7 @@ use Rattle.std.proofs.lemmas.Result.{on_ok_weaker, on_err_weaker}
 use Rattle.std.specs.Io.KnownBytes.{Consumes, IsAtEnd}
 use Rattle.std.proofs.KnownBytes.{Consumes-trans, Consumes-kept}
 use Rattle.vaultctl_replay.specs.Runs.{AnswersSome}
+use Rattle.vaultctl_replay.proofs.LineLemmas.{most_kept}
 use Rattle.vaultctl_replay.proofs.RunLemmas.{on_err, begun, next_ok, next_part, next_err, answers_all, answers_ended, answers_some, answers_some_last, none_read, Finished-keeps, finished_reached, began_reached, either_reached, some_steady, either_steady}
 use Rattle.vaultctl_replay.proofs.replay_observed.Goals as goal
 
@@ -112,7 +113,7 @@ returns-in_err-feed-in-Ok-clause-err g c =
     let v = g.W.Write.contents c.flush.new.writer in
     let w = g.W.Write.contents c.feed.new.writer in
     let piece = take c.in-Ok.n c.read_retrying.new.buf in
-    let done = next_err H G c.feed.ensures.leaves.honest first mid last n o p u v w 4_194_305 [] c.loop-turn.part.items inv.taken piece so_far inv.rest c.in_err-feed-in-Ok.ensures.err in
+    let done = next_err H G c.feed.ensures.leaves.honest first mid last n o p u v w most_kept [] c.loop-turn.part.items inv.taken piece so_far inv.rest c.in_err-feed-in-Ok.ensures.err in
     let before = g.R.Read.remaining c.args.reader.now in
     let after = g.R.Read.remaining c.read_retrying.new.reader in
     on_err {P = (taken : List ℕ) × Consumes before after taken × AnswersSome G (IsAtEnd after) first n u taken last p w} c.from_residual-in_err-feed-in-Ok.result (
@@ -137,7 +138,7 @@ returns-in_err-feed-in-Ok-clause-leaves g c =
     let v = g.W.Write.contents c.flush.new.writer in
     let w = g.W.Write.contents c.feed.new.writer in
     let piece = take c.in-Ok.n c.read_retrying.new.buf in
-    let done = next_err H G c.feed.ensures.leaves.honest first mid last n o p u v w 4_194_305 [] c.loop-turn.part.items inv.taken piece so_far inv.rest c.in_err-feed-in-Ok.ensures.err in
+    let done = next_err H G c.feed.ensures.leaves.honest first mid last n o p u v w most_kept [] c.loop-turn.part.items inv.taken piece so_far inv.rest c.in_err-feed-in-Ok.ensures.err in
     record {
       honest = λ h. inv.honest (c.feed.ensures.leaves.honest h);
       counted = omega (arith, inv.counted, c.feed.ensures.leaves.counted);
@@ -339,7 +340,7 @@ loop-turn-preserved g c =
       read = Consumes-trans _ _ _ inv.taken piece inv.read c.in-Ok.ensures.ok;
       honest = λ h. inv.honest (c.feed.ensures.leaves.honest h);
       counted = omega (arith, inv.counted, c.feed.ensures.leaves.counted);
-      finished = next_ok H G c.feed.ensures.leaves.honest first mid last n o p u v w 4_194_305 [] now inv.taken piece so_far inv.rest c.in_ok-feed-in-Ok.ensures.ok;
-      rest = next_part 4_194_305 [] inv.taken piece now c.feed.new.part.items inv.rest c.in_ok-feed-in-Ok.ensures.part;
+      finished = next_ok H G c.feed.ensures.leaves.honest first mid last n o p u v w most_kept [] now inv.taken piece so_far inv.rest c.in_ok-feed-in-Ok.ensures.ok;
+      rest = next_part most_kept [] inv.taken piece now c.feed.new.part.items inv.rest c.in_ok-feed-in-Ok.ensures.part;
       bound = c.feed.ensures.bound;
     }
