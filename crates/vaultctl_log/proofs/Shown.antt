@@ -1,10 +1,14 @@
 -- What is shown of a request is of its head.
-use Rattle.std.proofs.Common.{ℕ, ◌≡◌, ◌≤◌, ◌++◌, List, [], length, drop, map, take, Bool, Result, Ok, Err, OnErr, OnOk, inl, inr, refl, ap, sym, ◌∙◌}
+use Rattle.std.proofs.Common.{ℕ, ◌≡◌, ◌≤◌, List, [], length, drop, map, take, Bool, Option, Result, Ok, Err, OnErr, OnOk, inl, inr, refl, ap, ◌∙◌}
 use Rattle.httparse.proofs.GrammarLemmas.{request_unique}
-use Rattle.httparse.specs.Grammar.{HasNoRequest, ReadsRequest, RequestHead}
+use Rattle.httparse.specs.Grammar.{ReadsRequest, RequestHead}
 use Rattle.httparse.specs.Spans.{IsRequestAt, header_bytes, span_bytes}
 use Rattle.httparse.specs.declared.spans.HeaderSpan.{HeaderSpan}
 use Rattle.httparse.specs.declared.spans.RequestSpans.{RequestSpans}
+use Rattle.std.specs.Io.KnownBytes.{Appends}
+use Rattle.std.specs.Prelude.{is_ok}
+use Rattle.vault_io.specs.Begins.{Begins}
+use Rattle.vaultctl_log.specs.Logging.{Puts}
 use Rattle.vaultctl_log.specs.Asked.{IsShown, head_members, request_members}
 
 -- what follows from what a call gives where it doesn't fail
@@ -32,3 +36,10 @@ head-shown understood buf headers spans (h, at) =
 -- of bytes that begin with no head that has its room, nothing is shown
 pub nothing-shown : (understood : Bool) (buf : List ℕ) → ((h : RequestHead) (rest : List ℕ) → ReadsRequest buf h rest → length h.fields ≤ 64 → ⊥) → IsShown understood buf []
 nothing-shown understood buf none = (inl refl, λ h rest reads few. absurd (none h rest reads few))
+
+-- what was written where the call doesn't fail is whole, and where it does a beginning
+pub puts : {E : Type 0} (P : List ℕ → Type 0) (before after : Option (List ℕ)) (r : Result (Unit {0}) E)
+    → OnOk r ((text : List ℕ) × P text × Appends before after text) → OnErr r ((text : List ℕ) × P text × Begins before after text)
+    → (text : List ℕ) × P text × Puts (is_ok r) before after text
+puts P before after (Ok done) whole begun = whole
+puts P before after (Err e) whole begun = begun

@@ -1,5 +1,5 @@
 -- What was answered: of a request the front of its answer says so, of a line that of its reply.
-use Rattle.std.specs.Prelude.{ℕ, ◌==◌, nat_eq, nat_lt, List, [], ◌∷◌, ◌++◌, length, take, drop, slice_index, slice_range, codes, Bool, true, false, Option, Some, None, option_and_then, Result, Ok, Err, if◌then◌else◌}
+use Rattle.std.specs.Prelude.{ℕ, ◌==◌, nat_eq, nat_lt, List, [], ◌++◌, length, take, drop, slice_index, slice_range, codes, Bool, Option, Some, None, option_and_then, Result, Ok, Err, if◌then◌else◌}
 use Rattle.std.specs.Char.{is_ascii_digit}
 use Rattle.std.specs.List.{list_all, position, starts_with}
 use Rattle.std.specs.Str.{bytes_eq}

@@ -1,5 +1,5 @@
 -- The line of an entry of the log.
-use Rattle.std.specs.Prelude.{ℕ, ◌≡◌, ◌⊎◌, List, [], ◌∷◌, ◌++◌, codes, Bool, true, false, not, if◌then◌else◌, Option, Some, None}
+use Rattle.std.specs.Prelude.{ℕ, ◌≡◌, ◌⊎◌, List, [], ◌++◌, codes, Bool, false, not, if◌then◌else◌, Option, Some, None}
 use Rattle.std.specs.Str.{bytes_eq}
 use Rattle.vault_base.specs.Moment.{moment_text}
 use Rattle.vaultctl_log.specs.Answered.{answer_members, reply_members, status_of}

@@ -1,5 +1,5 @@
 //! Entries of the log.
-ghost use Rattle.std.specs.Prelude.{◌≡◌, ◌++◌, ◌⊎◌, IfOk, List, OnErr, OnOk, ℕ, string_bytes};
+ghost use Rattle.std.specs.Prelude.{◌≡◌, ◌++◌, ◌⊎◌, IfOk, List, OnErr, OnOk, ℕ, is_ok, string_bytes};
 ghost use Rattle.std.specs.Io.KnownBytes.{Appends};
 ghost use Rattle.std.specs.Option.{option_copied};
 ghost use Rattle.vault_io.specs.Begins.{Begins};
@@ -204,11 +204,12 @@ pub fn write_entry<W: Write>(alloc: Global, writer: &mut W, entry: &Entry<'_>) -
     }
 }
 
-/// Writes the line of an entry to whoever gets it, if there is somebody; a line that can't be written is lost.
-pub fn log_entry<W: Write>(alloc: Global, log: &mut Option<W>, entry: &Entry<'_>)
-    ensures { IsLogged W.contents log.old entry.now.facts entry.now.asked.now entry.now.answered.now log.new }
+/// Writes the line of an entry to whoever gets it, if there is somebody. The faults are those of `write_bytes`.
+pub fn log_entry<W: Write>(alloc: Global, log: &mut Option<W>, entry: &Entry<'_>) -> io::Result<()>
+    ensures { IsLogged W.contents log.old entry.now.facts entry.now.asked.now entry.now.answered.now (is_ok result) log.new }
 {
-    if let Some(writer) = log {
-        let _ = write_entry(alloc, writer, entry);
+    match log {
+        Some(writer) => write_entry(alloc, writer, entry),
+        None => Ok(()),
     }
 }

@@ -1,5 +1,6 @@
 pub mod AccountLemmas
 pub mod InTimeLemmas
+pub mod LogLemmas
 pub mod ReportLemmas
 pub mod ServingLemmas
 pub mod StrangerLemmas

@@ -1,5 +1,5 @@
 //! Connections as they come, and the clock that is read as one is taken.
-ghost use Rattle.std.specs.Prelude.{◌≡◌, ℕ, List, Option, None};
+ghost use Rattle.std.specs.Prelude.{◌≡◌, ℕ, Bool, List, Option, None, is_ok};
 ghost use Rattle.vault_base.specs.Days.{moment_at};
 ghost use Rattle.vaultctl_log.specs.Logging.{IsLogged};
 ghost use Rattle.vaultctl_log.specs.declared.entry.Facts.{Facts};
@@ -28,9 +28,13 @@ pub trait Arrivals {
     /// What the clock shows now: a moment, or none.
     ghost shown: { Self → Option ℕ };
 
+    /// That nothing was heard of an entry: who hears before and after.
+    ghost silent: { Self → Self → Type 0 };
+
     /// Takes the next connection.
     fn take(&mut self) -> io::Result<Self::Peer>
-        ensures { IsTried (tries self.old) (tries self.new) (shown self.new) result };
+        ensures tried { IsTried (tries self.old) (tries self.new) (shown self.new) result }
+        ensures silent { silent self.old self.new };
 
     /// The clock's reading now.
     fn reading(&self) -> i64
@@ -39,18 +43,19 @@ pub trait Arrivals {
     /// The hosts that requests may be for.
     fn hosts(&self) -> &Hosts;
 
-    /// What hears of an entry: who hears it, the entry's facts, the fronts of what was asked and answered, who heard it.
-    ghost logs: { Self → Facts → List ℕ → List ℕ → Self → Type 0 };
+    /// What hears of an entry: who hears it, the entry's facts, the fronts of what was asked and answered, whether all of
+    /// it was written, who heard it.
+    ghost logs: { Self → Facts → List ℕ → List ℕ → Bool → Self → Type 0 };
 
-    /// Hears what became of a connection. Whatever it does with that, what comes is the same.
-    fn log(&mut self, entry: &Entry<'_>)
+    /// Hears what became of a connection. Whatever it does with that, what comes is the same. The error is that the entry
+    /// can't be written.
+    fn log(&mut self, entry: &Entry<'_>) -> io::Result<()>
         ensures tries { tries self.new ≡ tries self.old }
-        ensures logs { logs self.old entry.now.facts entry.now.asked.now entry.now.answered.now self.new };
+        ensures logs { logs self.old entry.now.facts entry.now.asked.now entry.now.answered.now (is_ok result) self.new };
 
     /// Waits a little after a connection that couldn't be taken, so that a fault that lasts doesn't use up the count of
     /// connections.
-    fn pause(&mut self)
-        ensures { tries self.new ≡ tries self.old };
+    fn pause(&self);
 }
 
 /// The connections of a listener.
@@ -76,7 +81,9 @@ impl<C: Clock, P: Peer + Drop, L: OpenListener<Stream = P>, W: Write + Drop> Arr
 
     ghost shown = { λ _. None };
 
-    ghost logs = { λ before facts asked answered after. IsLogged W.contents before.log facts asked answered after.log };
+    ghost silent = { λ before after. after.log ≡ before.log };
+
+    ghost logs = { λ before facts asked answered whole after. IsLogged W.contents before.log facts asked answered whole after.log };
 
     fn take(&mut self) -> io::Result<P> {
         let (peer, _) = self.listener.accept()?;
@@ -91,11 +98,11 @@ impl<C: Clock, P: Peer + Drop, L: OpenListener<Stream = P>, W: Write + Drop> Arr
         self.hosts
     }
 
-    fn log(&mut self, entry: &Entry<'_>) {
-        log_entry(self.alloc, &mut self.log, entry);
+    fn log(&mut self, entry: &Entry<'_>) -> io::Result<()> {
+        log_entry(self.alloc, &mut self.log, entry)
     }
 
-    fn pause(&mut self) {
+    fn pause(&self) {
         thread::sleep(self.clock, Duration::from_millis(BETWEEN_TRIES));
     }
 }

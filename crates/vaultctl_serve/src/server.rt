@@ -1,13 +1,14 @@
 //! Connections to a port of this machine, one after another.
-ghost use Rattle.std.specs.Prelude.{◌≡◌, ◌≢◌, OnOk, OnErr};
+ghost use Rattle.std.specs.Prelude.{◌≡◌, ◌≢◌, ℕ, Bool, List, OnOk, OnErr, Option};
 ghost use Rattle.std.specs.Io.KnownBytes.{Keeps};
 ghost use Rattle.vault_base.specs.Days.{moment_at};
 ghost use Rattle.vault_core_model.specs.Step.{Reached};
 ghost use Rattle.vault_http.specs.Hearing.{HearsAll, HearsOnce, HearsSome};
 ghost use Rattle.vault_core_model.specs.LeavesMany.{LeavesNoLess};
 ghost use Rattle.vault_http.specs.Left.{AtMostOne};
-ghost use Rattle.vaultctl_serve.specs.Account.{IsAccounted, trouble_of as trouble_in};
-ghost use Rattle.vaultctl_serve.specs.Serving.{ReportsOnce, Stepped, SteppedOnTime, SteppedWhile};
+ghost use Rattle.vaultctl_log.specs.declared.entry.Facts.{Facts};
+ghost use Rattle.vaultctl_serve.specs.Account.{IsAccounted, IsMissLogged, LogsOne, LogsWhile, trouble_of as trouble_in};
+ghost use Rattle.vaultctl_serve.specs.Serving.{ReadsAs, ReportsOnce, Stepped, SteppedOnTime, SteppedWhile};
 
 use crate::arrivals::{Arrivals, Listened};
 use crate::connection::serve_connection;
@@ -57,6 +58,8 @@ fn serve_taken<C: Clock, A: Arrivals, K: Keeper, H: Hears>(
     ensures heard { K.is_honest keeper.new → HearsOnce H.hears hears.old hears.new (moment_at reading) (K.vault keeper.old) (K.vault keeper.new) }
     // What is logged is what happened: the moment, and that nothing was carried out of what came late.
     ensures logged { K.is_honest keeper.new → IsAccounted A.logs arrivals.old arrivals.new (moment_at reading) (K.vault keeper.old) (K.vault keeper.new) }
+    // It is logged whatever the device does, and once.
+    ensures log { (f : Facts) × (asked answered : List ℕ) × (whole : Bool) × A.logs arrivals.old f asked answered whole arrivals.new }
     ensures leaves { LeavesNoLess K.Kept keeper.old keeper.new }
 {
     let mut noted = Noted::new(means.alloc);
@@ -65,15 +68,18 @@ fn serve_taken<C: Clock, A: Arrivals, K: Keeper, H: Hears>(
     let occasion = Occasion { moment, hosts };
     // A fault of the connection is its own.
     let served = serve_connection(means.clock, &mut noted, peer, keeper, hears, &occasion);
-    arrivals.log(&noted.request(reading, trouble_of(served)));
+    // An entry that can't be written is lost.
+    let _ = arrivals.log(&noted.request(reading, trouble_of(served)));
 }
 
 /// Logs that a connection couldn't be taken, and waits a little.
 fn miss<A: Arrivals>(arrivals: &mut A)
-    ensures { A.tries arrivals.new ≡ A.tries arrivals.old }
+    ensures tries { A.tries arrivals.new ≡ A.tries arrivals.old }
+    ensures logged { (moment : Option ℕ) × ReadsAs (A.tries arrivals.old) (A.shown arrivals.old) moment
+        × IsMissLogged A.logs arrivals.old arrivals.new Door.Requests moment }
 {
     let shown = arrivals.reading();
-    arrivals.log(&nothing(Door::Requests, shown, Trouble::Connection));
+    let _ = arrivals.log(&nothing(Door::Requests, shown, Trouble::Connection));
     arrivals.pause();
 }
 
@@ -86,6 +92,8 @@ fn serve_next<C: Clock, A: Arrivals, K: Keeper, H: Hears>(
 )
     ensures timely { K.is_honest keeper.new → SteppedOnTime 1 (A.tries arrivals.old) (A.tries arrivals.new) (K.vault keeper.old) (K.vault keeper.new) }
     ensures heard { K.is_honest keeper.new → HearsSome H.hears hears.old hears.new (K.vault keeper.old) (K.vault keeper.new) }
+    // There is one entry of the connection, also where it couldn't be taken.
+    ensures logged { (f : Facts) × LogsOne A.silent A.logs f arrivals.old arrivals.new }
     ensures leaves { LeavesNoLess K.Kept keeper.old keeper.new }
 {
     match arrivals.take() {
@@ -112,6 +120,7 @@ fn serve_watched<C: Clock, A: Arrivals, K: Keeper, H: Hears, T: Reporter>(
     ensures reported { K.count keeper.old ≡ since → ReportsOnce T.fails since (K.count keeper.new) reporter.old reporter.new }
     // It isn't reported a second time.
     ensures once { K.count keeper.old ≢ since → reporter.new ≡ reporter.old }
+    ensures logged { (f : Facts) × LogsOne A.silent A.logs f arrivals.old arrivals.new }
     ensures leaves { LeavesNoLess K.Kept keeper.old keeper.new }
 {
     let had_failed = keeper.faults() != since;
@@ -147,6 +156,8 @@ pub fn serve_arrivals<C: Clock, A: Arrivals, K: Keeper, H: Hears, T: Reporter>(
     ensures reached { K.is_honest keeper.new → Reached (K.vault keeper.old) → Reached (K.vault keeper.new) }
     // A device that failed is reported, once; where none failed nothing is.
     ensures reported { ReportsOnce T.fails (K.count keeper.old) (K.count keeper.new) reporter.old reporter.new }
+    // There is one entry of each try.
+    ensures logged { LogsWhile A.silent A.logs (H.going hears.new) count arrivals.old arrivals.new }
     ensures leaves { LeavesNoLess K.Kept keeper.old keeper.new }
 {
     let since = keeper.faults();

@@ -1,4 +1,5 @@
 use Rattle.std.proofs.Common.{refl, inl, sym, ◌∙◌, arith}
+use Rattle.vaultctl_serve.proofs.LogLemmas.{Logs-all, Logs-more, Logs-none}
 use Rattle.vaultctl_serve.proofs.ReportLemmas.{reports-then}
 use Rattle.vaultctl_serve.proofs.ServingLemmas.{HearsAll-more, HearsAll-none, OnTime-append, OnTime-none, OnTime-stepped, Stepped-more, Stepped-reached, While-all}
 use Rattle.vaultctl_serve.proofs.server.serve_arrivals.Goals as goal
@@ -9,6 +10,7 @@ loop-init g c =
       honest = λ h. h;
       counted = omega arith;
       reported = inl (refl, refl);
+      logged = Logs-none g.A.Arrivals.silent g.A.Arrivals.logs c.args.arrivals.now;
       timely = λ h. OnTime-none (g.A.Arrivals.tries c.args.arrivals.now) (g.K.Kept.vault c.args.keeper.now);
       heard = λ h. HearsAll-none g.H.Hears.going g.H.Hears.hears c.args.hears.now (g.K.Kept.vault c.args.keeper.now);
     }
@@ -19,6 +21,7 @@ loop-preserved g c = record {
   honest = λ h. c.loop.invariant.honest (c.serve_watched.ensures.leaves.honest h);
   counted = omega (arith, c.loop.invariant.counted, c.serve_watched.ensures.leaves.counted);
   reported = reports-then g.T.Reporter.fails _ _ _ _ _ _ _ c.faults-since.ensures c.loop.invariant.counted c.serve_watched.ensures.leaves.counted c.loop.invariant.reported c.serve_watched.ensures.reported c.serve_watched.ensures.once;
+  logged = Logs-more g.A.Arrivals.silent g.A.Arrivals.logs c.loop.counter _ _ _ c.loop.invariant.logged c.serve_watched.ensures.logged;
   timely = λ h. OnTime-append c.loop.counter 1 _ _ _ _ _ _ (c.loop.invariant.timely (c.serve_watched.ensures.leaves.honest h)) (c.serve_watched.ensures.timely h);
   heard = λ h. HearsAll-more g.H.Hears.going g.H.Hears.hears _ _ _ _ _ _ (c.loop.invariant.heard (c.serve_watched.ensures.leaves.honest h)) (sym c.goes_on.ensures ∙ c.if-not-goes_on.false) (c.serve_watched.ensures.heard h);
 }
@@ -39,3 +42,6 @@ returns-clause-reached g c = λ h before. Stepped-reached _ _ _ (OnTime-stepped 
 
 pub returns-clause-timely : goal.returns-clause-timely
 returns-clause-timely g c = λ h. While-all _ c.loop.counter c.args.count _ _ _ _ (omega arith) (c.loop.invariant.timely h)
+
+pub returns-clause-logged : goal.returns-clause-logged
+returns-clause-logged g c = Logs-all _ _ _ c.loop.counter c.args.count _ _ (omega arith) c.loop.invariant.logged

@@ -19,7 +19,12 @@ returns-clause-logged g c =
       entry.facts,
       entry.asked.now,
       entry.answered.now,
+      _,
       c.log.ensures.logs,
       (rw same at c.request.ensures.moment, subst P shown (c.serve_connection-served.ensures.once h)),
       λ late. c.serve_connection-served.ensures.unread (late-unread c.serve_connection-served.result (sym c.trouble_of.ensures ∙ sym c.request.ensures.trouble ∙ late)),
     )
+
+-- and whatever the device does, it is the one entry that is heard of
+pub returns-clause-log : goal.returns-clause-log
+returns-clause-log g c = (c.request.result.facts, c.request.result.asked.now, c.request.result.answered.now, _, c.log.ensures.logs)
