@@ -65,6 +65,6 @@ module _ {K : Type 0} (g : Ghosts K) (old new : K) {W : Type 0} (w : Writing W) 
       IntakePrinted files at asked.who asked.bucket asked.batch list (g.vault old) (g.vault new) stated (w.contents before) (w.contents after)
 
   -- what the keeper is left as: it was taken in once, and that a device failed is reported where it did
-  abbrev pub LeavesBy : ℕ → ℕ → ℕ → AskedIntake → List ℕ → Result Outcome JobFault → Type 0
-  LeavesBy there there' at asked list result =
+  abbrev pub IntakeLeavesBy : ℕ → ℕ → ℕ → AskedIntake → List ℕ → Result Outcome JobFault → Type 0
+  IntakeLeavesBy there there' at asked list result =
       LeavesSteady g old new (SteadyIntake (g.is_honest new) files at asked.who asked.bucket asked.batch list (g.vault old) (g.vault new) (g.count old) (g.count new) there there' result (w.contents before) (w.contents after))

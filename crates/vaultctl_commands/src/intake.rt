@@ -5,7 +5,7 @@ ghost use Rattle.vault_base.specs.declared.refusal.Refusal.TheVariants.{Device a
 ghost use Rattle.vault_core_model.specs.Step.{Reached};
 ghost use Rattle.vault_files.specs.Lines.{lines, stopped_line as stop_line};
 ghost use Rattle.vaultctl_commands.specs.PrintedIntake as spec;
-ghost use Rattle.vaultctl_commands.specs.PrintedIntake.{IntakePrintedBy, IsTakenInBy, LeavesBy};
+ghost use Rattle.vaultctl_commands.specs.PrintedIntake.{IntakeLeavesBy, IntakePrintedBy, IsTakenInBy};
 
 use crate::asked::AskedIntake;
 use crate::fault::JobFault;
@@ -78,7 +78,7 @@ pub fn take_in_and_print<K: Keeper, F: Folder, W: Write>(
     ensures reached { K.is_honest keeper.new → Reached (K.vault keeper.old) → Reached (K.vault keeper.new) }
     ensures counted_there { F.count folder.old ≤ F.count folder.new }
     // That a device failed is reported where it did.
-    ensures leaves { LeavesBy K.Kept keeper.old keeper.new W.Write out.old out.new (F.files folder.old) (F.count folder.old) (F.count folder.new)
+    ensures leaves { IntakeLeavesBy K.Kept keeper.old keeper.new W.Write out.old out.new (F.files folder.old) (F.count folder.old) (F.count folder.new)
         intake.entry.at intake.entry.asked.now intake.entry.list.now result.0 }
     ensures reader { result.0 ≢ Err JobFault.Read }
     ensures device { result.0 ≢ Err JobFault.Device }
