@@ -1,6 +1,9 @@
 //! Journals: the lines of a script's changes, a run that a fault cuts, and a writer that fails.
+ghost use Rattle.std.specs.Prelude.{None};
+
 use std::alloc::Global;
-use std::io::Write;
+use std::cell::Cell;
+use std::io::{self, Write};
 use std::test::Fail;
 use vault_core::fuse_keeper::FuseKeeper;
 use vault_core_list::list_keeper::ListKeeper;
@@ -41,6 +44,29 @@ const LINES: [&str; 8] = [
 ];
 
 const END: &str = "# The journal ends here: no line makes the next change again.\n";
+
+/// A writer of a text to which others write too.
+#[derive(Drop)]
+struct Sharing<'a> {
+    alloc: Global,
+    text: &'a Cell<Vec<u8>>,
+}
+
+impl Write for Sharing<'_> {
+    ghost contents = { λ _. None };
+
+    fn write(&mut self, buf: &[u8]) -> io::Result<usize> {
+        let mut text = self.text.replace(Vec::new(self.alloc));
+        let grown = text.extend_from_slice(buf);
+        self.text.set(text);
+        grown?;
+        Ok(buf.len())
+    }
+
+    fn flush(&mut self) -> io::Result<()> {
+        Ok(())
+    }
+}
 
 /// The first lines, and then this text.
 fn wanted(alloc: Global, count: usize, last: &str) -> Result<String, Fail> {
@@ -136,5 +162,24 @@ fn a_failing_writer_loses_a_journal(rt: HostRuntime) -> Result<(), Fail> {
         "the journal",
         str::from_utf8(journal.writer.written.as_slice())?,
         text.as_str(),
+    )
+}
+
+/// The journal and the replies go to one text: the line of a change is there before anything of its reply.
+#[test]
+fn a_line_comes_before_its_reply(rt: HostRuntime) -> Result<(), Fail> {
+    let alloc = rt.alloc();
+    let mut keeper = ListKeeper::new(alloc)?;
+    let text = Cell::new(Vec::new(alloc));
+    let mut replies = Sharing { alloc, text: &text };
+    let mut journal = Journal::new(Sharing { alloc, text: &text });
+    let mut script = LINES[0].as_bytes();
+    replay_observed(alloc, &mut script, &mut replies, &mut keeper, &mut journal)?;
+    let written = text.replace(Vec::new(alloc));
+    let wanted = format!(in alloc; "{}{{\"ok\":{{}}}}\n", LINES[0])?;
+    compare(
+        "the text",
+        str::from_utf8(written.as_slice())?,
+        wanted.as_str(),
     )
 }

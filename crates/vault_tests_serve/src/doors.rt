@@ -1,15 +1,19 @@
 //! Two doors of which it is known what comes in by them: requests and lines in turns, and the line that ends a server.
-ghost use Rattle.std.specs.Prelude.{None};
+ghost use Rattle.std.specs.Prelude.{None, true};
 
 use crate::counting::Counting;
 use crate::slow::{MovingClock, Part, SlowPeer};
 use std::alloc::Global;
 use std::cell::Cell;
+use std::io;
 use std::test::Fail;
 use std::time::Duration;
 use vault_base::moment::Moment;
+use vault_base::name::CallerName;
 use vault_core::fuse_keeper::FuseKeeper;
+use vault_core_model::command::Command;
 use vault_core_model::keeper::Keeper;
+use vault_core_model::reply::Reply;
 use vault_http::{Hears, Hosts, Nobody};
 use vault_transcript::transcript::opened;
 use vaultctl_log::entry::{Entry, log_entry};
@@ -132,16 +136,74 @@ impl<'a> Doors for KnownDoors<'a> {
         self.hosts
     }
 
-    ghost logs = { λ _ _ _ _ _. Unit {0} };
+    ghost logs = { λ _ _ _ _ _ _. Unit {0} };
 
-    fn log(&mut self, entry: &Entry<'_>) {
+    fn log(&mut self, entry: &Entry<'_>) -> io::Result<()> {
         let mut log = self.log.replace(None);
-        log_entry(self.alloc, &mut log, entry);
+        let logged = log_entry(self.alloc, &mut log, entry);
         self.log.set(log);
+        logged
     }
 
     fn keep(&mut self, _talker: SlowPeer<'a, 'static>) {
         self.kept = self.kept.saturating_add(1);
+    }
+}
+
+/// The clock by which clients wait, and what they take.
+#[derive(Drop)]
+struct Clients {
+    alloc: Global,
+    clock: MovingClock,
+    /// What all of them took of their answers and replies, in order.
+    taken: Cell<Vec<u8>>,
+    /// In how many milliseconds one takes a byte.
+    pace: u64,
+}
+
+impl Clients {
+    /// Clients who took nothing yet.
+    fn new(alloc: Global, pace: u64) -> Clients {
+        Clients {
+            alloc,
+            clock: MovingClock {
+                passed: Cell::new(Duration::ZERO),
+            },
+            taken: Cell::new(Vec::new(alloc)),
+            pace,
+        }
+    }
+}
+
+/// Who hears of commands, and notes each among what clients take.
+#[derive(Drop)]
+struct Marking<'a> {
+    clients: &'a Clients,
+}
+
+/// What it notes of a command.
+const HEARD: &str = "heard\n";
+
+impl Hears for Marking<'_> {
+    ghost hears = { λ _ _ _ _. Unit {0} };
+
+    ghost going = { λ _. true };
+
+    fn hear(
+        &mut self,
+        alloc: Global,
+        _at: Moment,
+        _who: &CallerName,
+        _command: &Command,
+        _reply: &Reply,
+    ) {
+        let mut taken = self.clients.taken.replace(Vec::new(alloc));
+        let _ = taken.extend_from_slice(HEARD.as_bytes());
+        self.clients.taken.set(taken);
+    }
+
+    fn goes_on(&self) -> bool {
+        true
     }
 }
 
@@ -167,18 +229,26 @@ fn serve<K: Keeper, H: Hears>(
     pace: u64,
     n: u32,
 ) -> Result<Served, Fail> {
-    let clock = MovingClock {
-        passed: Cell::new(Duration::ZERO),
-    };
-    let taken = Cell::new(Vec::new(alloc));
+    serve_clients(&Clients::new(alloc, pace), keeper, hears, turns, n)
+}
+
+/// The same of these clients.
+fn serve_clients<K: Keeper, H: Hears>(
+    clients: &Clients,
+    keeper: &mut K,
+    hears: &mut H,
+    turns: &[Turn],
+    n: u32,
+) -> Result<Served, Fail> {
+    let alloc = clients.alloc;
     let log = Cell::new(Some(Vec::new(alloc)));
     let mut reports = Vec::new(alloc);
     let hosts = Hosts::any(alloc);
     let mut doors = KnownDoors {
-        clock: &clock,
+        clock: &clients.clock,
         turns,
-        taken: &taken,
-        pace,
+        taken: &clients.taken,
+        pace: clients.pace,
         kept: 0,
         hosts: &hosts,
         alloc,
@@ -190,7 +260,7 @@ fn serve<K: Keeper, H: Hears>(
         since: Moment::from_secs(READING - 60),
     };
     let server = Server {
-        clock: &clock,
+        clock: &clients.clock,
         service: &service,
     };
     let next = serve_doors(&server, &mut doors, keeper, hears, n, &mut reports);
@@ -199,7 +269,7 @@ fn serve<K: Keeper, H: Hears>(
     let log = log.replace(None).ok_or("a log")?;
     Ok(Served {
         next,
-        taken: String::from_utf8(taken.replace(Vec::new(alloc)))?,
+        taken: String::from_utf8(clients.taken.replace(Vec::new(alloc)))?,
         left,
         kept,
         reports,
@@ -364,5 +434,22 @@ fn who_hears_ends_it(rt: HostRuntime) -> Result<(), Fail> {
     assert_eq!(rt; served.left, 1);
     assert_eq!(rt; counting.heard, 2);
     assert!(rt; served.taken.ends_with(GOT));
+    Ok(())
+}
+
+/// A command is heard of before its client takes anything of the reply or the answer, at either door.
+#[test]
+fn heard_before_answered(rt: HostRuntime) -> Result<(), Fail> {
+    let alloc = rt.alloc();
+    let mut keeper = opened(alloc)?;
+    let clients = Clients::new(alloc, 0);
+    let mut marking = Marking { clients: &clients };
+    let turns = [
+        Turn(Coming::Line(PUT), STORED),
+        Turn(Coming::Request(GET), GOT),
+    ];
+    let served = serve_clients(&clients, &mut keeper, &mut marking, &turns, 2)?;
+    let wanted = format!(in alloc; "{HEARD}{STORED}{HEARD}{GOT}")?;
+    assert_eq!(rt; served.taken.as_str(), wanted.as_str());
     Ok(())
 }

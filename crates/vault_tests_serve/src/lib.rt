@@ -10,6 +10,8 @@ mod counting;
 #[cfg(test)]
 mod doors;
 #[cfg(test)]
+mod hearing;
+#[cfg(test)]
 mod in_time;
 pub mod known;
 #[cfg(test)]

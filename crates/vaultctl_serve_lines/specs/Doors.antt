@@ -1,5 +1,5 @@
 -- What comes in at two doors, turn by turn.
-use Rattle.std.specs.Prelude.{ℕ, ◌≤◌, ◌+◌, List, [], ◌∷◌, Option, Some, None, Result, Ok, Err}
+use Rattle.std.specs.Prelude.{ℕ, ◌≡◌, ◌≤◌, ◌+◌, ◌⊎◌, Bool, true, List, [], ◌∷◌, length, Option, Some, None, Result, Ok, Err}
 use Rattle.vault_core_model.specs.Vault.{Vault}
 use Rattle.vaultctl_log.specs.declared.entry.Trouble.{Trouble}
 use Rattle.vaultctl_log.specs.declared.entry.Trouble.TheVariants as trouble
@@ -30,16 +30,22 @@ taken_in [] = 0
 taken_in (Taken moment ∷ later) = 1 + taken_in later
 taken_in (Missed ∷ later) = taken_in later
 
--- turns took n requests and lines at most, and each made at most one step, at the clock's reading as it was taken
-abbrev pub SteppedWithin : ℕ → Option (List Try) → Option (List Try) → Vault → Vault → Type 0
-SteppedWithin n before after old new =
-    (tries : List Try) × (taken_in tries ≤ n) × Tries before after tries × SteppedAt tries old new
+-- this many turns took n requests and lines, and each made at most one step, at the clock's reading as it was taken
+abbrev pub SteppedInTurns : ℕ → ℕ → Option (List Try) → Option (List Try) → Vault → Vault → Type 0
+SteppedInTurns turns n before after old new =
+    (tries : List Try) × (length tries ≡ turns) × (taken_in tries ≡ n) × Tries before after tries × SteppedAt tries old new
 
--- how many requests and lines a turn took at most
-abbrev pub most_of : Turn → ℕ
-most_of turn.Idle = 0
-most_of turn.Taken = 1
-most_of turn.End = 1
+-- turns took as many requests and lines as were counted; or fewer, where a line ended the server, where there were to be no more, or after 2^64 - 1 turns
+abbrev pub ServedInTurns : Next → Bool → ℕ → Option (List Try) → Option (List Try) → Vault → Vault → Type 0
+ServedInTurns ended going most before after old new =
+    (turns : ℕ) × (n : ℕ) × (n ≤ most) × (ended ≡ next.On → going ≡ true → (n ≡ most) ⊎ (turns ≡ 18446744073709551615))
+    × SteppedInTurns turns n before after old new
+
+-- how many requests and lines a turn took
+abbrev pub taken_by : Turn → ℕ
+taken_by turn.Idle = 0
+taken_by turn.Taken = 1
+taken_by turn.End = 1
 
 -- what a turn came to whose line was answered so
 abbrev pub turn_after : Result Next ReplayFault → Turn

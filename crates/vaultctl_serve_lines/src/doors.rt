@@ -1,10 +1,11 @@
 //! Where requests and lines come in.
-ghost use Rattle.std.specs.Prelude.{◌≡◌, ℕ, List, Option};
+ghost use Rattle.std.specs.Prelude.{◌≡◌, ℕ, Bool, List, Option, is_ok};
 ghost use Rattle.vault_base.specs.Days.{moment_at};
 ghost use Rattle.vaultctl_log.specs.declared.entry.Facts.{Facts};
 ghost use Rattle.vaultctl_serve.specs.Serving.{ReadsAs, Try};
 ghost use Rattle.vaultctl_serve_lines.specs.Doors.{HasArrived};
 
+use std::io;
 use vault_http::Hosts;
 use vaultctl_log::entry::Entry;
 use vaultctl_serve::peer::Peer;
@@ -47,13 +48,15 @@ pub trait Doors {
     /// The hosts that requests may be for.
     fn hosts(&self) -> &Hosts;
 
-    /// What hears of an entry: who hears it, the entry's facts, the fronts of what was asked and answered, who heard it.
-    ghost logs: { Self → Facts → List ℕ → List ℕ → Self → Type 0 };
+    /// What hears of an entry: who hears it, the entry's facts, the fronts of what was asked and answered, whether all of
+    /// it was written, who heard it.
+    ghost logs: { Self → Facts → List ℕ → List ℕ → Bool → Self → Type 0 };
 
-    /// Hears what became of a request or a line. Whatever it does with that, what comes is the same.
-    fn log(&mut self, entry: &Entry<'_>)
+    /// Hears what became of a request or a line. Whatever it does with that, what comes is the same. The error is that the
+    /// entry can't be written.
+    fn log(&mut self, entry: &Entry<'_>) -> io::Result<()>
         ensures tries { tries self.new ≡ tries self.old }
-        ensures logs { logs self.old entry.now.facts entry.now.asked.now entry.now.answered.now self.new };
+        ensures logs { logs self.old entry.now.facts entry.now.asked.now entry.now.answered.now (is_ok result) self.new };
 
     /// Keeps the connection of a line that was answered: more lines may come on it.
     fn keep(&mut self, talker: Self::Talker)

@@ -63,11 +63,12 @@ fn news_in(bytes: &[u8]) -> News
 
 /// Reads what has come of a line, or waits for it in the time that is left from its first byte, which came at `begun`.
 ///
-/// The bytes are put to those that have come. What is late is an error, as is want of memory.
+/// The bytes are put to those that have come. What is late is an error, as is want of memory; then none is put there.
 pub fn hear<I: Inbound>(inbound: &mut I, part: &mut Vec<u8>, begun: Duration) -> io::Result<News>
     // What is new of a line came in time.
     ensures heard { IfOk result (λ news. (given : List ℕ) × (part.new.items ≡ part.old.items ++ given) × (news ≡ news_of given)
         × Gave (I.coming inbound.old) (I.coming inbound.new) given (as_nanos begun + line_allowed (length part.old.items))) }
+    ensures unheard { OnErr result (part.new.items ≡ part.old.items) }
 {
     let used = inbound.passed()?.saturating_sub(begun);
     let left = time_left(allowed(part.len()), used)?;

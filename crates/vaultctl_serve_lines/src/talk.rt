@@ -1,4 +1,6 @@
 //! One connection of lines, which stays open from line to line.
+ghost use Rattle.std.specs.Prelude.{◌≡◌, length, nat_eq, not};
+
 use crate::hearing::{News, allowed, cut, hear, take_line};
 use crate::line_door::LinePeer;
 use std::alloc::Global;
@@ -54,7 +56,9 @@ impl Talk {
     }
 
     /// A part of a line has come that isn't answered.
-    pub fn has_begun(&self) -> bool {
+    pub fn has_begun(&self) -> bool
+        ensures { result ≡ not (nat_eq (length self.now.unread.items) 0) }
+    {
         !self.unread.is_empty()
     }
 

@@ -8,7 +8,7 @@ ghost use Rattle.vault_http.specs.Left.{AtMostOne};
 ghost use Rattle.vaultctl_serve.specs.Account.{IsAccounted, IsLineAccounted};
 ghost use Rattle.vaultctl_serve.specs.Serving.{ReadsAs, ReportsOnce, Stepped};
 ghost use Rattle.vaultctl_serve_lines_answers.specs.Closing.{IsEnded, MayEnd};
-ghost use Rattle.vaultctl_serve_lines.specs.Doors.{line_trouble, most_of, SteppedWithin, StepsAt, turn_after};
+ghost use Rattle.vaultctl_serve_lines.specs.Doors.{line_trouble, ServedInTurns, SteppedInTurns, StepsAt, taken_by, turn_after};
 
 use crate::doors::{Arrived, Doors};
 use std::time::{Clock, Duration, Instant};
@@ -154,7 +154,8 @@ fn serve_request<C: Clock, D: Doors, K: Keeper, H: Hears>(
     let occasion = Occasion { moment, hosts };
     // A fault of the connection is its own.
     let served = serve_connection(server.clock, &mut noted, peer, keeper, hears, &occasion);
-    doors.log(&noted.request(reading, trouble_of(served)));
+    // An entry that can't be written is lost.
+    let _ = doors.log(&noted.request(reading, trouble_of(served)));
 }
 
 /// Answers a line, at the clock's reading as it is taken. What became of it is logged.
@@ -180,7 +181,7 @@ fn answer_heard<C: Clock, D: Doors, K: Keeper, H: Hears>(
     let reading = doors.reading();
     let answering = answer_talker(server, talker, heard, keeper, hears, reading);
     let trouble = trouble_in(answering.answered);
-    doors.log(
+    let _ = doors.log(
         &answering
             .noted
             .line(heard.bytes.as_slice(), reading, trouble),
@@ -195,7 +196,7 @@ fn serve_turn<C: Clock, D: Doors, K: Keeper, H: Hears>(
     keeper: &mut K,
     hears: &mut H,
 ) -> Turn
-    ensures timely { K.is_honest keeper.new → SteppedWithin (most_of result) (D.tries doors.old) (D.tries doors.new) (K.vault keeper.old) (K.vault keeper.new) }
+    ensures timely { K.is_honest keeper.new → SteppedInTurns 1 (taken_by result) (D.tries doors.old) (D.tries doors.new) (K.vault keeper.old) (K.vault keeper.new) }
     ensures heard { K.is_honest keeper.new → HearsSome H.hears hears.old hears.new (K.vault keeper.old) (K.vault keeper.new) }
     ensures end { result ≡ Turn.End → K.is_honest keeper.new → IsEnded (K.vault keeper.new) }
     ensures leaves { LeavesNoLess K.Kept keeper.old keeper.new }
@@ -224,7 +225,7 @@ fn watch_turn<C: Clock, D: Doors, K: Keeper, H: Hears, T: Reporter>(
     since: u64,
     reporter: &mut T,
 ) -> Turn
-    ensures timely { K.is_honest keeper.new → SteppedWithin (most_of result) (D.tries doors.old) (D.tries doors.new) (K.vault keeper.old) (K.vault keeper.new) }
+    ensures timely { K.is_honest keeper.new → SteppedInTurns 1 (taken_by result) (D.tries doors.old) (D.tries doors.new) (K.vault keeper.old) (K.vault keeper.new) }
     ensures heard { K.is_honest keeper.new → HearsSome H.hears hears.old hears.new (K.vault keeper.old) (K.vault keeper.new) }
     ensures end { result ≡ Turn.End → K.is_honest keeper.new → IsEnded (K.vault keeper.new) }
     ensures reported { K.count keeper.old ≡ since → ReportsOnce T.fails since (K.count keeper.new) reporter.old reporter.new }
@@ -256,8 +257,8 @@ pub fn serve_doors<C: Clock, D: Doors, K: Keeper, H: Hears, T: Reporter>(
     reporter: &mut T,
 ) -> Next
     // For each request and each line that was taken at most one command was carried out, at the clock's reading then;
-    // and no more than `count` were taken.
-    ensures timely { K.is_honest keeper.new → SteppedWithin count (D.tries doors.old) (D.tries doors.new) (K.vault keeper.old) (K.vault keeper.new) }
+    // `count` were taken, or fewer where a line ended it or who hears lets no more be carried out.
+    ensures timely { K.is_honest keeper.new → ServedInTurns result (H.going hears.new) count (D.tries doors.old) (D.tries doors.new) (K.vault keeper.old) (K.vault keeper.new) }
     ensures stepped { K.is_honest keeper.new → Stepped count (K.vault keeper.old) (K.vault keeper.new) }
     // Commands led to the vault, and each was heard of with its reply, while who hears let it be carried out.
     ensures heard { K.is_honest keeper.new → HearsAll H.going H.hears hears.old hears.new (K.vault keeper.old) (K.vault keeper.new) }

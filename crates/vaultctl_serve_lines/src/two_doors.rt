@@ -1,6 +1,7 @@
 //! Two doors of one server, for which one thread waits: requests at a port, lines at another or at a path.
-ghost use Rattle.std.specs.Prelude.{None};
+ghost use Rattle.std.specs.Prelude.{◌≡◌, ◌≢◌, IfSome, IsTrue, None, Some, false};
 ghost use Rattle.vaultctl_log.specs.Logging.{IsLogged};
+ghost use Rattle.vaultctl_serve_lines.specs.Troubles.{LogsAtMostOne, LogsIf, LogsTrouble, has_begun as line_begun};
 
 use crate::doors::{Arrived, Doors};
 use crate::line_door::LineListener;
@@ -8,11 +9,11 @@ use crate::talk::Talk;
 use libc::net::{POLLIN, poll};
 use libc::types::pollfd;
 use std::alloc::Global;
-use std::io::Stderr;
+use std::io::{self, ErrorKind, Write};
 use std::net::{TcpListener, TcpStream};
 use std::os::fd::AsRawFd;
+use std::thread;
 use std::time::{Clock, Duration, Instant};
-use std::{io, thread};
 use vault_http::Hosts;
 use vaultctl_log::entry::{Door, Entry, Trouble, log_entry};
 use vaultctl_serve::clock;
@@ -25,7 +26,7 @@ const SILENT: u64 = 60_000;
 
 /// Two doors of one server. Of the door of lines one connection is open at a time.
 #[derive(Drop)]
-pub struct TwoDoors<'a, C: Clock> {
+pub struct TwoDoors<'a, C: Clock, W: Write + Drop> {
     /// The clock that is read.
     pub clock: &'a C,
     /// Where what is read is kept.
@@ -37,7 +38,7 @@ pub struct TwoDoors<'a, C: Clock> {
     /// The hosts that requests may be for.
     pub hosts: &'a Hosts,
     /// Who gets a line of what becomes of each request and each line; none where nothing is logged.
-    pub log: Option<Stderr>,
+    pub log: Option<W>,
     /// The connection of lines that is open.
     pub talk: Option<Talk>,
     /// A line came last, so that a request that waits goes before the next one.
@@ -78,15 +79,29 @@ fn silence(another: bool) -> Duration {
 }
 
 /// What the trouble was with a connection of lines on which nothing more is read; none where it came to its end.
-fn trouble_in(kind: io::ErrorKind) -> Option<Trouble> {
+fn trouble_in(kind: ErrorKind) -> Option<Trouble>
+    ensures end { kind ≡ ErrorKind.UnexpectedEof → result ≡ None }
+    ensures memory { kind ≡ ErrorKind.OutOfMemory → result ≡ Some Trouble.Memory }
+    ensures late { kind ≢ ErrorKind.UnexpectedEof → kind ≢ ErrorKind.OutOfMemory → result ≡ Some Trouble.Late }
+{
     match kind {
-        io::ErrorKind::UnexpectedEof => None,
-        io::ErrorKind::OutOfMemory => Some(Trouble::Memory),
+        ErrorKind::UnexpectedEof => None,
+        ErrorKind::OutOfMemory => Some(Trouble::Memory),
         _ => Some(Trouble::Late),
     }
 }
 
-impl<C: Clock> TwoDoors<'_, C> {
+/// Whether a part of a line has come on an open connection that isn't answered.
+fn has_begun(talk: &Option<Talk>) -> bool
+    ensures { result ≡ line_begun talk.now }
+{
+    match talk {
+        Some(open) => open.has_begun(),
+        None => false,
+    }
+}
+
+impl<C: Clock, W: Write + Drop> TwoDoors<'_, C, W> {
     /// Whether a connection of lines waits that isn't open yet.
     fn another_waits(&self) -> bool {
         let mut found = [waited_for(self.lines.descriptor())];
@@ -136,21 +151,41 @@ impl<C: Clock> TwoDoors<'_, C> {
         Ok(ready)
     }
 
-    /// Logs what kept a connection or a line from being taken.
-    fn log_trouble(&mut self, door: Door, trouble: Trouble) {
+    /// Logs what kept a connection or a line from being taken. An entry that can't be written is lost.
+    fn log_trouble(&mut self, door: Door, trouble: Trouble)
+        ensures logged { LogsTrouble W.contents self.old.log self.new.log door trouble }
+        ensures talk { self.new.talk ≡ self.old.talk }
+    {
         let reading = clock::reading(self.clock);
-        log_entry(self.alloc, &mut self.log, &nothing(door, reading, trouble));
+        let _ = log_entry(self.alloc, &mut self.log, &nothing(door, reading, trouble));
+    }
+
+    /// Logs what kept a line from being taken, where something did.
+    fn log_any(&mut self, trouble: Option<Trouble>)
+        ensures logged { LogsIf W.contents self.old.log self.new.log Door.Lines trouble }
+        ensures talk { self.new.talk ≡ self.old.talk }
+    {
+        match trouble {
+            Some(trouble) => self.log_trouble(Door::Lines, trouble),
+            None => {}
+        }
     }
 
     /// Waits a little after a connection that can't be taken, so that a fault that lasts doesn't keep the machine busy.
-    fn miss(&mut self, door: Door) {
+    fn miss(&mut self, door: Door)
+        ensures logged { LogsTrouble W.contents self.old.log self.new.log door Trouble.Connection }
+        ensures talk { self.new.talk ≡ self.old.talk }
+    {
         self.log_trouble(door, Trouble::Connection);
         thread::sleep(self.clock, Duration::from_millis(BETWEEN_TRIES));
     }
 
     /// Opens the connection of lines that waits, where none is open. After one that can't be taken it waits a little,
     /// so that a fault that lasts doesn't keep the machine busy.
-    fn open(&mut self) {
+    fn open(&mut self)
+        ensures logged { LogsAtMostOne W.contents self.old.log self.new.log }
+        ensures opened { IfSome self.new.talk (λ talk. self.old.talk ≡ None → self.new.log ≡ self.old.log) }
+    {
         let Ok(since) = Instant::now(self.clock) else {
             return;
         };
@@ -161,7 +196,12 @@ impl<C: Clock> TwoDoors<'_, C> {
     }
 
     /// Closes the open connection where one has no patience with it any more.
-    fn close_late(&mut self, another: bool) {
+    fn close_late(&mut self, another: bool)
+        // The late line of a connection that is closed is logged, once. Of one that stays, or was silent, nothing is.
+        ensures late { self.new.talk ≡ None → IsTrue (line_begun self.old.talk) → LogsTrouble W.contents self.old.log self.new.log Door.Lines Trouble.Late }
+        ensures silent { line_begun self.old.talk ≡ false → self.new.log ≡ self.old.log }
+        ensures open { self.new.talk ≢ None → self.new.log ≡ self.old.log }
+    {
         let is_late = match &self.talk {
             Some(open) => millis(open.patience(silence(another))) == 0,
             None => false,
@@ -173,8 +213,12 @@ impl<C: Clock> TwoDoors<'_, C> {
     }
 
     /// Logs that the line at hand is late, where one was begun: a connection may be silent between two lines.
-    fn log_late(&mut self) {
-        if self.talk.as_ref().map_or(false, |open| open.has_begun()) {
+    fn log_late(&mut self)
+        ensures late { IsTrue (line_begun self.old.talk) → LogsTrouble W.contents self.old.log self.new.log Door.Lines Trouble.Late }
+        ensures silent { line_begun self.old.talk ≡ false → self.new.log ≡ self.old.log }
+        ensures talk { self.new.talk ≡ self.old.talk }
+    {
+        if has_begun(&self.talk) {
             self.log_trouble(Door::Lines, Trouble::Late);
         }
     }
@@ -188,7 +232,11 @@ impl<C: Clock> TwoDoors<'_, C> {
     }
 
     /// Takes a request. After one that can't be taken it waits a little, as `open` does.
-    fn take_request(&mut self) -> Option<TcpStream> {
+    fn take_request(&mut self) -> Option<TcpStream>
+        ensures missed { result ≡ None → LogsTrouble W.contents self.old.log self.new.log Door.Requests Trouble.Connection }
+        ensures taken { IfSome result (λ peer. self.new.log ≡ self.old.log) }
+        ensures talk { self.new.talk ≡ self.old.talk }
+    {
         self.line_was_last = false;
         match self.requests.accept() {
             Ok((peer, _)) => Some(peer),
@@ -201,7 +249,12 @@ impl<C: Clock> TwoDoors<'_, C> {
 
     /// Reads on the open connection, and takes its next line, if that is whole. A connection that is at its end, or
     /// whose line is late, is closed.
-    fn take_line(&mut self) -> Option<(Heard, Talk)> {
+    fn take_line(&mut self) -> Option<(Heard, Talk)>
+        // What kept a line from being taken is logged once, or it was no trouble.
+        ensures logged { LogsAtMostOne W.contents self.old.log self.new.log }
+        ensures taken { IfSome result (λ line. self.new.log ≡ self.old.log) }
+        ensures open { self.new.talk ≢ None → self.new.log ≡ self.old.log }
+    {
         self.line_was_last = true;
         let mut open = self.talk.take()?;
         match open.read_on(self.clock, self.alloc) {
@@ -211,16 +264,14 @@ impl<C: Clock> TwoDoors<'_, C> {
                 None
             }
             Err(fault) => {
-                if let Some(trouble) = trouble_in(fault.kind()) {
-                    self.log_trouble(Door::Lines, trouble);
-                }
+                self.log_any(trouble_in(fault.kind()));
                 None
             }
         }
     }
 }
 
-impl<C: Clock> Doors for TwoDoors<'_, C> {
+impl<C: Clock, W: Write + Drop> Doors for TwoDoors<'_, C, W> {
     type Request = TcpStream;
 
     type Talker = Talk;
@@ -229,7 +280,7 @@ impl<C: Clock> Doors for TwoDoors<'_, C> {
 
     ghost shown = { λ _. None };
 
-    ghost logs = { λ before facts asked answered after. IsLogged (λ _. None) before.log facts asked answered after.log };
+    ghost logs = { λ before facts asked answered whole after. IsLogged W.contents before.log facts asked answered whole after.log };
 
     fn next(&mut self) -> Arrived<TcpStream, Talk> {
         let Ok(ready) = self.wait_counting() else {
@@ -264,8 +315,8 @@ impl<C: Clock> Doors for TwoDoors<'_, C> {
         self.hosts
     }
 
-    fn log(&mut self, entry: &Entry<'_>) {
-        log_entry(self.alloc, &mut self.log, entry);
+    fn log(&mut self, entry: &Entry<'_>) -> io::Result<()> {
+        log_entry(self.alloc, &mut self.log, entry)
     }
 
     fn keep(&mut self, talker: Talk) {

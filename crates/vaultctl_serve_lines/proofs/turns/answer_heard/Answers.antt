@@ -1,4 +1,5 @@
 use Rattle.std.proofs.Common.{◌≡◌, ◌∙◌, ℕ, ℤ, List, FitsSigned, rules, subst, to_z, to_z-of_z, of_z, w64}
+use Rattle.std.specs.Prelude.{is_ok}
 use Rattle.vault_base.specs.Days.{moment_at}
 use Rattle.vault_http.specs.Left.{AtMostOne}
 use Rattle.vaultctl_serve_lines.proofs.turns.answer_heard.Goals as goal
@@ -24,13 +25,14 @@ returns-clause-logged g c =
     let same : to_z w64 (of_z w64 reading) ≡ reading = to_z-of_z fits in
     let P : ℤ → Type 0 = λ z. AtMostOne (moment_at z) old new in
     let entry = c.line.result in
-    let Logs : List ℕ → Type 0 = λ asked. g.D.Doors.logs c.args.doors.now entry.facts asked entry.answered.now c.log.new.self in
+    let Logs : List ℕ → Type 0 = λ asked. g.D.Doors.logs c.args.doors.now entry.facts asked entry.answered.now (is_ok c.log.result) c.log.new.self in
     λ h. (
       moment_at reading,
       c.reading-reading.ensures,
       (
         entry.facts,
         entry.answered.now,
+        is_ok c.log.result,
         subst Logs (c.line.ensures.bytes.0 ∙ c.as_slice.ensures.value) c.log.ensures.logs,
         (rw same at c.line.ensures.moment, subst P same (c.answer_talker-answering.ensures.once h)),
       ),

@@ -1,9 +1,9 @@
-use Rattle.std.proofs.Common.{◌≡◌, ◌∙◌, ◌+◌, ◌≤◌, ℕ, arith, inl, refl, subst, sym}
+use Rattle.std.proofs.Common.{◌≡◌, ◌∙◌, ◌+◌, ◌≤◌, ℕ, arith, inl, inr, refl, subst, sym}
 use Rattle.vaultctl_serve.proofs.ReportLemmas.{reports-then}
-use Rattle.vaultctl_serve.proofs.ServingLemmas.{HearsAll-more, HearsAll-none, Stepped-more, Stepped-reached}
-use Rattle.vaultctl_serve_lines.specs.Doors.{most_of, SteppedWithin}
+use Rattle.vaultctl_serve.proofs.ServingLemmas.{HearsAll-more, HearsAll-none, Stepped-reached}
+use Rattle.vaultctl_serve_lines.specs.Doors.{ServedInTurns, SteppedInTurns, taken_by}
 use Rattle.vaultctl_serve_lines.specs.declared.turns.Turn.{Turn}
-use Rattle.vaultctl_serve_lines.proofs.TurnLemmas.{Within-append, Within-more, Within-none, Within-stepped}
+use Rattle.vaultctl_serve_lines.proofs.TurnLemmas.{Turns-append, Turns-none, Turns-stepped}
 use Rattle.vaultctl_serve_lines.proofs.turns.serve_doors.Goals as goal
 use Rattle.vaultctl_serve_lines.proofs.turns.serve_doors.Goals.{in-Idle, in-Taken}
 
@@ -13,25 +13,37 @@ loop-turn-init g c = record {
   honest = λ h. h;
   counted = omega arith;
   reported = inl (refl, refl);
-  timely = λ h. Within-none (g.D.Doors.tries c.args.doors.now) (g.K.Kept.vault c.args.keeper.now);
+  timely = λ h. Turns-none (g.D.Doors.tries c.args.doors.now) (g.K.Kept.vault c.args.keeper.now);
   heard = λ h. HearsAll-none g.H.Hears.going g.H.Hears.hears c.args.hears.now (g.K.Kept.vault c.args.keeper.now);
 }
 
 -- as many were taken as were counted
+pub returns-then-taken-count-clause-timely : goal.returns-then-taken-count-clause-timely
+returns-then-taken-count-clause-timely g c = λ h. (c.loop-turn._turn, c.loop-turn.taken, c.loop-turn.invariant.within, λ ended going. inl c.if-taken-count.true, c.loop-turn.invariant.timely h)
+
 pub returns-then-taken-count-clause-stepped : goal.returns-then-taken-count-clause-stepped
-returns-then-taken-count-clause-stepped g c = λ h. Stepped-more c.loop-turn.taken c.args.count _ _ c.loop-turn.invariant.within (Within-stepped _ _ _ _ _ (c.loop-turn.invariant.timely h))
+returns-then-taken-count-clause-stepped g c = λ h. Turns-stepped _ c.loop-turn.taken c.args.count _ _ _ _ c.loop-turn.invariant.within (c.loop-turn.invariant.timely h)
 
 pub returns-then-taken-count-clause-reached : goal.returns-then-taken-count-clause-reached
-returns-then-taken-count-clause-reached g c = λ h before. Stepped-reached _ _ _ (Within-stepped _ _ _ _ _ (c.loop-turn.invariant.timely h)) before
+returns-then-taken-count-clause-reached g c = λ h before. Stepped-reached c.args.count _ _ (returns-then-taken-count-clause-stepped g c h) before
 
 -- who hears lets no more be carried out
+pub returns-then-not-goes_on-clause-timely : goal.returns-then-not-goes_on-clause-timely
+returns-then-not-goes_on-clause-timely g c = λ h. (
+  c.loop-turn._turn,
+  c.loop-turn.taken,
+  c.loop-turn.invariant.within,
+  λ ended going. absurd (cc (going, c.goes_on.ensures, c.if-not-goes_on.true)),
+  c.loop-turn.invariant.timely h,
+)
+
 pub returns-then-not-goes_on-clause-stepped : goal.returns-then-not-goes_on-clause-stepped
-returns-then-not-goes_on-clause-stepped g c = λ h. Stepped-more c.loop-turn.taken c.args.count _ _ c.loop-turn.invariant.within (Within-stepped _ _ _ _ _ (c.loop-turn.invariant.timely h))
+returns-then-not-goes_on-clause-stepped g c = λ h. Turns-stepped _ c.loop-turn.taken c.args.count _ _ _ _ c.loop-turn.invariant.within (c.loop-turn.invariant.timely h)
 
 pub returns-then-not-goes_on-clause-reached : goal.returns-then-not-goes_on-clause-reached
-returns-then-not-goes_on-clause-reached g c = λ h before. Stepped-reached _ _ _ (Within-stepped _ _ _ _ _ (c.loop-turn.invariant.timely h)) before
+returns-then-not-goes_on-clause-reached g c = λ h before. Stepped-reached c.args.count _ _ (returns-then-not-goes_on-clause-stepped g c h) before
 
--- a line ended the server, and one less than were counted was taken before it at most
+-- a line ended the server, and it was taken too
 pub returns-in-End-clause-timely : goal.returns-in-End-clause-timely
 returns-in-End-clause-timely g c =
     let taken = c.loop-turn.taken in
@@ -42,12 +54,17 @@ returns-in-End-clause-timely g c =
     let between = g.K.Kept.vault c.loop-turn.keeper in
     let new = g.K.Kept.vault c.watch_turn.new.keeper in
     let room : taken + 1 ≤ c.args.count = omega (arith, c.loop-turn.invariant.within, c.if-taken-count.false) in
-    let P : Turn → Type 0 = λ turn. SteppedWithin (most_of turn) mid after between new in
-    λ h. Within-more (taken + 1) c.args.count before after old new room
-    (Within-append taken 1 before mid after old between new (c.loop-turn.invariant.timely (c.watch_turn.ensures.leaves.honest h)) (subst P c.in-End.is (c.watch_turn.ensures.timely h)))
+    let P : Turn → Type 0 = λ turn. SteppedInTurns 1 (taken_by turn) mid after between new in
+    λ h. (
+      c.loop-turn._turn + 1,
+      taken + 1,
+      room,
+      λ ended going. absurd (cc ended),
+      Turns-append c.loop-turn._turn 1 taken 1 before mid after old between new (c.loop-turn.invariant.timely (c.watch_turn.ensures.leaves.honest h)) (subst P c.in-End.is (c.watch_turn.ensures.timely h)),
+    )
 
 pub returns-in-End-clause-stepped : goal.returns-in-End-clause-stepped
-returns-in-End-clause-stepped g c = λ h. Within-stepped c.args.count _ _ _ _ (returns-in-End-clause-timely g c h)
+returns-in-End-clause-stepped g c = λ h. let made = returns-in-End-clause-timely g c h in Turns-stepped made.0 made.1 c.args.count _ _ _ _ made.2 made.4
 
 pub returns-in-End-clause-reached : goal.returns-in-End-clause-reached
 returns-in-End-clause-reached g c = λ h before. Stepped-reached c.args.count _ _ (returns-in-End-clause-stepped g c h) before
@@ -65,7 +82,7 @@ loop-turn-preserved g c =
     let old = g.K.Kept.vault c.args.keeper.now in
     let between = g.K.Kept.vault c.loop-turn.keeper in
     let new = g.K.Kept.vault c.watch_turn.new.keeper in
-    let summed : c.match-watch_turn.taken ≡ taken + most_of c.watch_turn.result = elim c.match-watch_turn.branch [
+    let summed : c.match-watch_turn.taken ≡ taken + taken_by c.watch_turn.result = elim c.match-watch_turn.branch [
       | in-Idle w ↦ rw w.in-Idle.is (omega (arith, w.taken-is))
       | in-Taken w ↦ rw w.in-Taken.is (omega (arith, w.taken-is))
     ] in
@@ -73,19 +90,22 @@ loop-turn-preserved g c =
       | in-Idle w ↦ omega (arith, w.taken-is, c.loop-turn.invariant.within)
       | in-Taken w ↦ omega (arith, w.taken-is, c.loop-turn.invariant.within, c.if-taken-count.false)
     ] in
-    let P : ℕ → Type 0 = λ n. SteppedWithin n before after old new in
+    let P : ℕ → Type 0 = λ n. SteppedInTurns (c.loop-turn._turn + 1) n before after old new in
     record {
       within = room;
       honest = λ h. c.loop-turn.invariant.honest (c.watch_turn.ensures.leaves.honest h);
       counted = omega (arith, c.loop-turn.invariant.counted, c.watch_turn.ensures.leaves.counted);
       reported = reports-then g.T.Reporter.fails _ _ _ _ _ _ _ c.faults-since.ensures c.loop-turn.invariant.counted c.watch_turn.ensures.leaves.counted c.loop-turn.invariant.reported c.watch_turn.ensures.reported c.watch_turn.ensures.once;
-      timely = λ h. subst P (sym summed) (Within-append taken (most_of c.watch_turn.result) before mid after old between new (c.loop-turn.invariant.timely (c.watch_turn.ensures.leaves.honest h)) (c.watch_turn.ensures.timely h));
+      timely = λ h. subst P (sym summed) (Turns-append c.loop-turn._turn 1 taken (taken_by c.watch_turn.result) before mid after old between new (c.loop-turn.invariant.timely (c.watch_turn.ensures.leaves.honest h)) (c.watch_turn.ensures.timely h));
       heard = λ h. HearsAll-more g.H.Hears.going g.H.Hears.hears _ _ _ _ _ _ (c.loop-turn.invariant.heard (c.watch_turn.ensures.leaves.honest h)) (sym c.goes_on.ensures ∙ c.if-not-goes_on.false) (c.watch_turn.ensures.heard h);
     }
 
--- nothing came any more
+-- these were the most turns
+pub returns-clause-timely : goal.returns-clause-timely
+returns-clause-timely g c = λ h. (c.loop-turn._turn, c.loop-turn.taken, c.loop-turn.invariant.within, λ ended going. inr (omega arith), c.loop-turn.invariant.timely h)
+
 pub returns-clause-stepped : goal.returns-clause-stepped
-returns-clause-stepped g c = λ h. Stepped-more c.loop-turn.taken c.args.count _ _ c.loop-turn.invariant.within (Within-stepped _ _ _ _ _ (c.loop-turn.invariant.timely h))
+returns-clause-stepped g c = λ h. Turns-stepped _ c.loop-turn.taken c.args.count _ _ _ _ c.loop-turn.invariant.within (c.loop-turn.invariant.timely h)
 
 pub returns-clause-reached : goal.returns-clause-reached
-returns-clause-reached g c = λ h before. Stepped-reached _ _ _ (Within-stepped _ _ _ _ _ (c.loop-turn.invariant.timely h)) before
+returns-clause-reached g c = λ h before. Stepped-reached c.args.count _ _ (returns-clause-stepped g c h) before

@@ -1,7 +1,7 @@
 use Rattle.std.proofs.Common.{◌≤◌}
 use Rattle.vault_http.specs.Hearing.{HearsAll}
 use Rattle.vaultctl_serve.specs.Serving.{ReportsOnce}
-use Rattle.vaultctl_serve_lines.specs.Doors.{SteppedWithin}
+use Rattle.vaultctl_serve_lines.specs.Doors.{SteppedInTurns}
 use Rattle.vaultctl_serve_lines.proofs.turns.serve_doors.Given as goal
 
 -- as many as were counted were taken at most, each made at most one step at its reading, which was heard of, and a failure was reported once
@@ -11,6 +11,6 @@ invariant-loop-turn g l = record {
   honest : g.K.Kept.is_honest l.keeper → g.K.Kept.is_honest l.fn.keeper;
   counted : g.K.Kept.count l.fn.keeper ≤ g.K.Kept.count l.keeper;
   reported : ReportsOnce g.T.Reporter.fails (g.K.Kept.count l.fn.keeper) (g.K.Kept.count l.keeper) l.fn.reporter l.reporter;
-  timely : g.K.Kept.is_honest l.keeper → SteppedWithin l.taken (g.D.Doors.tries l.fn.doors) (g.D.Doors.tries l.doors) (g.K.Kept.vault l.fn.keeper) (g.K.Kept.vault l.keeper);
+  timely : g.K.Kept.is_honest l.keeper → SteppedInTurns l._turn l.taken (g.D.Doors.tries l.fn.doors) (g.D.Doors.tries l.doors) (g.K.Kept.vault l.fn.keeper) (g.K.Kept.vault l.keeper);
   heard : g.K.Kept.is_honest l.keeper → HearsAll g.H.Hears.going g.H.Hears.hears l.fn.hears l.hears (g.K.Kept.vault l.fn.keeper) (g.K.Kept.vault l.keeper);
 }
