@@ -8,10 +8,10 @@ use vaultctl_serve_lines::hearing::{News, hear};
 /// A second, in nanoseconds.
 const SECOND: u64 = 1_000_000_000;
 
-/// A byte that comes so many seconds after the connection was taken.
-const fn byte_at(seconds: u64, byte: u8) -> KnownByte {
+/// A byte that comes `seconds` after the connection was taken.
+fn byte_at(seconds: u32, byte: u8) -> KnownByte {
     KnownByte {
-        at: seconds * SECOND,
+        at: u64::from(seconds) * SECOND,
         byte,
     }
 }
