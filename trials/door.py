@@ -5,6 +5,7 @@ minutes.
 """
 
 import contextlib
+import errno
 import hashlib
 import json
 import pathlib
@@ -22,6 +23,8 @@ from trials.servers import HOST, free_port, read_all
 # The deadlines, in seconds: for a line from its first byte; for silence where another waits; and how long a client waits
 # at most, whatever the server does.
 LINE, SILENCE, LIMIT = 5, 5, 60
+# Another address of the machine, at which it meets itself too.
+OTHER = "127.0.0.2"
 # How much later than its deadline something may come on a busy machine.
 SLACK = 5
 LONGEST_LINE = 4_194_304
@@ -347,10 +350,19 @@ def rules_kept(server: Server) -> None:
     equal((said.returncode, said.stdout), (1, "unlawful 5 first-setting\n"), "what the program says of the file")
 
 
+def refuses_others(port: int) -> None:
+    """Nobody listens at a port of another address of the machine than 127.0.0.1."""
+    with socket.socket() as it:
+        it.settimeout(LIMIT)
+        equal(it.connect_ex((OTHER, port)), errno.ECONNREFUSED, f"a connection to {OTHER}:{port}")
+
+
 def at_a_port(server: Server) -> None:
-    """Lines at a port."""
+    """Lines at a port. Both doors are at one address alone."""
     equal(server.said, f"serving {server.file} at {HOST}:{server.port}, lines at {HOST}:{server.where}\n", "what it says")
     equal(ok_puts(server.lines(put("a"))), [1], "a put")
+    for port in (server.port, int(server.where)):
+        refuses_others(port)
     equal(server.lines(line("registrar", "close")), [b'{"ok":{}}'], "the end")
     equal(server.serving.wait(LIMIT), 0, "the status")
 
