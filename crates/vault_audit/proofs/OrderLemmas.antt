@@ -30,21 +30,21 @@ use Rattle.vault_audit.specs.Looks.{Differs}
 -- ---- places
 
 -- the tables after meta
-abbrev pub behind_meta : List Table
-behind_meta = Departments ∷ Callers ∷ Buckets ∷ Rules ∷ Entries ∷ Contents ∷ Settings ∷ Intake ∷ Heads ∷ Tenures ∷ []
+abbrev pub after_meta : List Table
+after_meta = Departments ∷ Callers ∷ Buckets ∷ Rules ∷ Entries ∷ Contents ∷ Settings ∷ Intake ∷ Heads ∷ Tenures ∷ []
 
-pub place_behind : (i : ℕ) → i < 10 → place_of (get_or behind_meta i Meta) ≡ i + 1
-place_behind zero h = refl
-place_behind (suc zero) h = refl
-place_behind (suc (suc zero)) h = refl
-place_behind (suc (suc (suc zero))) h = refl
-place_behind (suc (suc (suc (suc zero)))) h = refl
-place_behind (suc (suc (suc (suc (suc zero))))) h = refl
-place_behind (suc (suc (suc (suc (suc (suc zero)))))) h = refl
-place_behind (suc (suc (suc (suc (suc (suc (suc zero))))))) h = refl
-place_behind (suc (suc (suc (suc (suc (suc (suc (suc zero)))))))) h = refl
-place_behind (suc (suc (suc (suc (suc (suc (suc (suc (suc zero))))))))) h = refl
-place_behind (suc (suc (suc (suc (suc (suc (suc (suc (suc (suc n)))))))))) h = absurd (omega (arith, h))
+pub place_after : (i : ℕ) → i < 10 → place_of (get_or after_meta i Meta) ≡ i + 1
+place_after zero h = refl
+place_after (suc zero) h = refl
+place_after (suc (suc zero)) h = refl
+place_after (suc (suc (suc zero))) h = refl
+place_after (suc (suc (suc (suc zero)))) h = refl
+place_after (suc (suc (suc (suc (suc zero))))) h = refl
+place_after (suc (suc (suc (suc (suc (suc zero)))))) h = refl
+place_after (suc (suc (suc (suc (suc (suc (suc zero))))))) h = refl
+place_after (suc (suc (suc (suc (suc (suc (suc (suc zero)))))))) h = refl
+place_after (suc (suc (suc (suc (suc (suc (suc (suc (suc zero))))))))) h = refl
+place_after (suc (suc (suc (suc (suc (suc (suc (suc (suc (suc n)))))))))) h = absurd (omega (arith, h))
 
 -- what a test says
 pub is_not : {P : Type 0} (b : Bool) → b ≡ false → (IsTrue b ↔ P) → ¬ P
@@ -56,19 +56,19 @@ is_not b e h p = true≢false (sym (h.1 p) ∙ e)
 abbrev pub IsFrom : ℕ → Option Table → Type 0
 IsFrom place difference = IfSome difference (λ (d : Table). place ≤ place_of d)
 
-pub from_behind : (difference : Option Table) → difference ≢ Some Meta → IsFrom 1 difference
-from_behind None other = tt
-from_behind (Some Meta) other = absurd (other refl)
-from_behind (Some Departments) other = omega arith
-from_behind (Some Callers) other = omega arith
-from_behind (Some Buckets) other = omega arith
-from_behind (Some Rules) other = omega arith
-from_behind (Some Entries) other = omega arith
-from_behind (Some Contents) other = omega arith
-from_behind (Some Settings) other = omega arith
-from_behind (Some Intake) other = omega arith
-from_behind (Some Heads) other = omega arith
-from_behind (Some Tenures) other = omega arith
+pub from_after : (difference : Option Table) → difference ≢ Some Meta → IsFrom 1 difference
+from_after None other = tt
+from_after (Some Meta) other = absurd (other refl)
+from_after (Some Departments) other = omega arith
+from_after (Some Callers) other = omega arith
+from_after (Some Buckets) other = omega arith
+from_after (Some Rules) other = omega arith
+from_after (Some Entries) other = omega arith
+from_after (Some Contents) other = omega arith
+from_after (Some Settings) other = omega arith
+from_after (Some Intake) other = omega arith
+from_after (Some Heads) other = omega arith
+from_after (Some Tenures) other = omega arith
 
 pub from_next : (difference : Option Table) (t : Table) (place : ℕ) → place_of t ≡ place → IsFrom place difference → difference ≢ Some t → IsFrom (place + 1) difference
 from_next None t place here from other = tt
@@ -93,7 +93,7 @@ module _ (n : Edition) (s : Schema) where
 
   -- it isn't at meta
   pub begin_meta : (difference : Option Table) → Differs n s difference → difference ≢ Some Meta → BeginTo n s.tables Meta
-  begin_meta difference it other = begin_at difference Meta 0 refl it (from_behind difference other)
+  begin_meta difference it other = begin_at difference Meta 0 refl it (from_after difference other)
 
   -- it is at this table
   pub at_table : (difference : Option Table) (t : Table) → difference ≡ Some t → Differs n s difference → IsReportedIn n s t

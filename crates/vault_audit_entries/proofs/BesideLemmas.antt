@@ -51,9 +51,9 @@ one_id v x y p q =
     let same = alike_right value_cmp_total (number y.id) v (number x.id) (equal_of v y q) ∙ equal_of v x p in
     ints_equal x.id y.id (sym (value_cmp-Int (pos x.id) (pos y.id)) ∙ same)
 
-none_behind : (v : Value) (x : Entry) → is_id v x ≡ true → (next low : ℕ) (es : List Entry) → x.id < next → AreNumbered next low es → filter (is_id v) es ≡ []
-none_behind v x is next low [] less are = refl
-none_behind v x is next low (e ∷ es) less are = of (is_id v e) refl (none_behind v x is (next + 1) e.admitted es (omega (arith, less)) are.1)
+none_after : (v : Value) (x : Entry) → is_id v x ≡ true → (next low : ℕ) (es : List Entry) → x.id < next → AreNumbered next low es → filter (is_id v) es ≡ []
+none_after v x is next low [] less are = refl
+none_after v x is next low (e ∷ es) less are = of (is_id v e) refl (none_after v x is (next + 1) e.admitted es (omega (arith, less)) are.1)
   where
     of : (b : Bool) → is_id v e ≡ b → filter (is_id v) es ≡ [] → filter (is_id v) (e ∷ es) ≡ []
     of true h none = absurd (let same = one_id v x e is h in let here = are.0.1.0 in omega (arith, same, less, here))
@@ -67,7 +67,7 @@ one_or_none v next low [] are = inl refl
 one_or_none v next low (e ∷ es) are = of (is_id v e) refl (one_or_none v (next + 1) e.admitted es are.1)
   where
     of : (b : Bool) → is_id v e ≡ b → HasOneOrNone (filter (is_id v) es) → HasOneOrNone (filter (is_id v) (e ∷ es))
-    of true h more = inr (e, rw h (ap (λ xs. e ∷ xs) (none_behind v e h (next + 1) e.admitted es (let here = are.0.1.0 in omega (arith, here)) are.1)))
+    of true h more = inr (e, rw h (ap (λ xs. e ∷ xs) (none_after v e h (next + 1) e.admitted es (let here = are.0.1.0 in omega (arith, here)) are.1)))
     of false h more = rw h more
 
 -- the row of an entry, or NULLs

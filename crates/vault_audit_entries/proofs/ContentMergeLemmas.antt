@@ -11,7 +11,7 @@ use Rattle.vault_audit_model.specs.declared.rows.ContentRow.{ContentRow}
 use Rattle.vault_audit_model.specs.Limits.{IsEntry, IsSizedAs, IsContentRow}
 use Rattle.vault_audit_model.specs.Relations.{AreNumbered, HasContent, HasContentAs}
 use Rattle.vault_audit_model.specs.Spells.{contents_in, content_if_given, entries_in}
-use Rattle.vault_audit_entries.specs.Contents.{is_held, held_count, IsContentOf, IsContentIn, AreRisingFrom}
+use Rattle.vault_audit_entries.specs.Contents.{is_held_version, held_count, IsContentOf, IsContentIn, AreRisingFrom}
 
 -- ---- entries of other ids
 
@@ -27,20 +27,20 @@ same_if a b h = grind arith
 above_if : (a b : ℕ) → a ≤ b → (a == b) ≡ false → a < b
 above_if a b low h = grind arith
 
-found_behind : (e : Entry) (es : List Entry) (c : ContentRow) → e.id < c.id → find (λ x. x.id == c.id) (e ∷ es) ≡ find (λ x. x.id == c.id) es
-found_behind e es c less = rw (apart e.id c.id less) refl
+found_after : (e : Entry) (es : List Entry) (c : ContentRow) → e.id < c.id → find (λ x. x.id == c.id) (e ∷ es) ≡ find (λ x. x.id == c.id) es
+found_after e es c less = rw (apart e.id c.id less) refl
 
-all_behind : (e : Entry) (es : List Entry) (next : ℕ) (cs : List ContentRow) → e.id < next → AreRisingFrom next cs → AllByRecursion (IsContentIn (e ∷ es)) cs → AllByRecursion (IsContentIn es) cs
-all_behind e es next [] less rise all = tt
-all_behind e es next (c ∷ cs) less rise all =
+all_after : (e : Entry) (es : List Entry) (next : ℕ) (cs : List ContentRow) → e.id < next → AreRisingFrom next cs → AllByRecursion (IsContentIn (e ∷ es)) cs → AllByRecursion (IsContentIn es) cs
+all_after e es next [] less rise all = tt
+all_after e es next (c ∷ cs) less rise all =
     let above : e.id < c.id = omega (arith, less, rise.0) in
-    (subst (λ o. IsContentOf o c) (found_behind e es c above) all.0, all_behind e es (c.id + 1) cs (omega (arith, above)) rise.1 all.1)
+    (subst (λ o. IsContentOf o c) (found_after e es c above) all.0, all_after e es (c.id + 1) cs (omega (arith, above)) rise.1 all.1)
 
 all_before : (e : Entry) (es : List Entry) (next : ℕ) (cs : List ContentRow) → e.id < next → AreRisingFrom next cs → AllByRecursion (IsContentIn es) cs → AllByRecursion (IsContentIn (e ∷ es)) cs
 all_before e es next [] less rise all = tt
 all_before e es next (c ∷ cs) less rise all =
     let above : e.id < c.id = omega (arith, less, rise.0) in
-    (subst (λ o. IsContentOf o c) (sym (found_behind e es c above)) all.0, all_before e es (c.id + 1) cs (omega (arith, above)) rise.1 all.1)
+    (subst (λ o. IsContentOf o c) (sym (found_after e es c above)) all.0, all_before e es (c.id + 1) cs (omega (arith, above)) rise.1 all.1)
 
 lower : (low next : ℕ) (cs : List ContentRow) → low ≤ next → AreRisingFrom next cs → AreRisingFrom low cs
 lower low next [] below rise = tt
@@ -69,7 +69,7 @@ with_bytes e bytes = record { entry = e; content = Some bytes; settings = []; te
 abbrev without_bytes : Entry → History
 without_bytes e = record { entry = e; content = None; settings = []; tenures = [] }
 
-held_if : (e : Entry) (c : ContentRow) → IsEntry e → IsContentOf (Some e) c → is_held e ≡ true
+held_if : (e : Entry) (c : ContentRow) → IsEntry e → IsContentOf (Some e) c → is_held_version e ≡ true
 held_if e c is h =
     let marker = no_marker e.marker e.size e.digest (sha256 c.content) is.sized h.2 in
     let removal = h.0 in rw (marker, removal) refl
@@ -89,19 +89,19 @@ pub record Gives (es : List Entry) (cs : List ContentRow) (hs : List History) : 
   pub most : length cs ≤ held_count es
   pub all : held_count es ≡ length cs → AllByRecursion HasContent hs
 
-counted : (e : Entry) (es : List Entry) (b : Bool) → is_held e ≡ b → held_count (e ∷ es) ≡ length (cond b (e ∷ filter is_held es) (filter is_held es))
+counted : (e : Entry) (es : List Entry) (b : Bool) → is_held_version e ≡ b → held_count (e ∷ es) ≡ length (cond b (e ∷ filter is_held_version es) (filter is_held_version es))
 counted e es b h = rw h refl
 
-counted_held : (e : Entry) (es : List Entry) → is_held e ≡ true → held_count (e ∷ es) ≡ held_count es + 1
+counted_held : (e : Entry) (es : List Entry) → is_held_version e ≡ true → held_count (e ∷ es) ≡ held_count es + 1
 counted_held e es h = let it = counted e es true h in omega (arith, it)
 
-counted_bare : (e : Entry) (es : List Entry) → is_held e ≡ false → held_count (e ∷ es) ≡ held_count es
+counted_bare : (e : Entry) (es : List Entry) → is_held_version e ≡ false → held_count (e ∷ es) ≡ held_count es
 counted_bare e es h = counted e es false h
 
 gives_none : (e : Entry) (es : List Entry) (cs : List ContentRow) (hs : List History) → IsEntry e → Gives es cs hs → Gives (e ∷ es) cs (without_bytes e ∷ hs)
-gives_none e es cs hs is it = of (is_held e) refl
+gives_none e es cs hs is it = of (is_held_version e) refl
   where
-    of : (b : Bool) → is_held e ≡ b → Gives (e ∷ es) cs (without_bytes e ∷ hs)
+    of : (b : Bool) → is_held_version e ≡ b → Gives (e ∷ es) cs (without_bytes e ∷ hs)
     of true h =
         let more = counted_held e es h in
         let most = it.most in
@@ -137,13 +137,13 @@ given next low (e ∷ es) are (c ∷ cs) rise all = of (e.id == c.id) refl (λ d
         let id = are.0.1.0 in
         let found : find (λ x. x.id == c.id) (e ∷ es) ≡ Some e = rw h refl in
         let up : AreRisingFrom (next + 1) cs = lower (next + 1) (c.id + 1) cs (omega (arith, same, id)) rise.1 in
-        let it = more cs up (all_behind e es (c.id + 1) cs (omega (arith, same)) rise.1 all.1) in
+        let it = more cs up (all_after e es (c.id + 1) cs (omega (arith, same)) rise.1 all.1) in
         (with_bytes e c.content ∷ it.0, gives_one e es c cs it.0 are.0.0 same (subst (λ o. IsContentOf o c) found all.0) it.1)
     of false h more =
         let id = are.0.1.0 in
         let above = above_if e.id c.id (omega (arith, id, rise.0)) h in
         let up : AreRisingFrom (next + 1) (c ∷ cs) = (omega (arith, id, above), rise.1) in
-        let it = more (c ∷ cs) up (all_behind e es (next + 1) (c ∷ cs) (omega (arith, id)) up all) in
+        let it = more (c ∷ cs) up (all_after e es (next + 1) (c ∷ cs) (omega (arith, id)) up all) in
         (without_bytes e ∷ it.0, gives_none e es (c ∷ cs) it.0 are.0.0 it.1)
 
 -- ---- the other way round
@@ -151,10 +151,10 @@ given next low (e ∷ es) are (c ∷ cs) rise all = of (e.id == c.id) refl (λ d
 -- A history has the bytes of a held version, or none, and then it isn't held.
 abbrev HasOrNot : History → Type 0
 HasOrNot h =
-    ((bytes : List ℕ) × (h.content ≡ Some bytes) × (is_held h.entry ≡ true) × (h.entry.marker ≡ false) × (h.entry.removal ≡ None) × (length bytes ≡ h.entry.size) × (h.entry.digest ≡ Some (sha256 bytes)))
-    ⊎ ((h.content ≡ None) × (is_held h.entry ≡ false))
+    ((bytes : List ℕ) × (h.content ≡ Some bytes) × (is_held_version h.entry ≡ true) × (h.entry.marker ≡ false) × (h.entry.removal ≡ None) × (length bytes ≡ h.entry.size) × (h.entry.digest ≡ Some (sha256 bytes)))
+    ⊎ ((h.content ≡ None) × (is_held_version h.entry ≡ false))
 
-unheld : (h : History) (m : Bool) (o : Option Removal) → h.entry.marker ≡ m → h.entry.removal ≡ o → is_held h.entry ≡ (not m && is_none o)
+unheld : (h : History) (m : Bool) (o : Option Removal) → h.entry.marker ≡ m → h.entry.removal ≡ o → is_held_version h.entry ≡ (not m && is_none o)
 unheld h m o p q = rw (p, q) refl
 
 has_or_not : (marker : Bool) (removal : Option Removal) (content : Option (List ℕ)) (h : History) → h.entry.marker ≡ marker → h.entry.removal ≡ removal → h.content ≡ content → HasContentAs marker h → HasOrNot h

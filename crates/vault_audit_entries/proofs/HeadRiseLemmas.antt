@@ -43,15 +43,15 @@ all_above : (g h : HeadRow) (hs : List HeadRow) → head_cmp g h ≡ Less → Al
 all_above g h [] less all = tt
 all_above g h (x ∷ hs) less all = (still_before g h x less all.0, all_above g h hs less all.1)
 
-behind : (p : HeadPass) (g : HeadRow) (hs : List HeadRow) → p.last ≡ Some g → Fit p hs → AllByRecursion (λ x. head_cmp g x ≡ Less) hs
-behind p g [] is fit = tt
-behind p g (h ∷ hs) is fit =
+after : (p : HeadPass) (g : HeadRow) (hs : List HeadRow) → p.last ≡ Some g → Fit p hs → AllByRecursion (λ x. head_cmp g x ≡ Less) hs
+after p g [] is fit = tt
+after p g (h ∷ hs) is fit =
     let less : head_cmp g h ≡ Less = subst (λ o. IsAfter o h) is fit.0.1 in
-    (less, all_above g h hs less (behind (with_head p h) h hs refl fit.1))
+    (less, all_above g h hs less (after (with_head p h) h hs refl fit.1))
 
 pub ascending_heads : (p : HeadPass) (hs : List HeadRow) → Fit p hs → IsAscending head_cmp hs
 ascending_heads p [] fit = tt
-ascending_heads p (h ∷ hs) fit = (behind (with_head p h) h hs refl fit.1, ascending_heads (with_head p h) hs fit.1)
+ascending_heads p (h ∷ hs) fit = (after (with_head p h) h hs refl fit.1, ascending_heads (with_head p h) hs fit.1)
 
 pub limits : (p : HeadPass) (hs : List HeadRow) → Fit p hs → AllByRecursion IsHeadRow hs
 limits p [] fit = tt

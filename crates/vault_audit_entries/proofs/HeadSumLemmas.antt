@@ -19,7 +19,7 @@ use Rattle.vault_core_laws.proofs.Tests.{none_is}
 use Rattle.vault_audit_model.specs.declared.rows.HeadRow.{HeadRow}
 use Rattle.vault_audit_model.specs.Rows.{bit, head_row}
 use Rattle.vault_audit_entries.specs.Heads.{head_cmp, sum_of_counts}
-use Rattle.vault_audit_entries.specs.HeadCounts.{is_under, IsCounted, is_held_entry, held_entry_count}
+use Rattle.vault_audit_entries.specs.HeadCounts.{is_under, IsCounted, is_held, held_entry_count}
 use Rattle.vault_audit_entries.proofs.CurrentLemmas.{head_cmp_total}
 use Rattle.vault_audit_entries.proofs.MemberLemmas.{at_in, all_of, any_in, tied, one_of}
 
@@ -182,21 +182,21 @@ module _ (es : List Entry) (hs : List HeadRow) (up : IsAscending head_cmp hs) (c
   pub counted_once : sum_of_counts hs ≡ length (filter (is_covered hs) es)
   counted_once = summed es hs counts ∙ each_once es hs up
 
-  held_only : AllByRecursion (λ e. is_covered hs e ≡ true → is_held_entry e ≡ true) es
-  held_only = all_of (λ e. is_covered hs e ≡ true → is_held_entry e ≡ true) es (λ e i is.
+  held_only : AllByRecursion (λ e. is_covered hs e ≡ true → is_held e ≡ true) es
+  held_only = all_of (λ e. is_covered hs e ≡ true → is_held e ≡ true) es (λ e i is.
       let it = any_in (λ h. is_under h e) hs is in none_removed e.removal (under_parts it.0 e it.2).2)
 
   -- where they count all held entries, each of these has one over it
-  pub all_covered : sum_of_counts hs ≡ held_entry_count es → AllByRecursion (λ e. is_held_entry e ≡ true → is_covered hs e ≡ true) es
-  all_covered same = same_pass (is_covered hs) is_held_entry es held_only (sym counted_once ∙ same)
+  pub all_covered : sum_of_counts hs ≡ held_entry_count es → AllByRecursion (λ e. is_held e ≡ true → is_covered hs e ≡ true) es
+  all_covered same = same_pass (is_covered hs) is_held es held_only (sym counted_once ∙ same)
 
   -- and each counts all of its key
-  pub whole_counts : AllByRecursion (λ e. is_held_entry e ≡ true → is_covered hs e ≡ true) es → AllByRecursion (λ h. h.head.count ≡ length (filter (is_held_at h.bucket h.key) es)) hs
+  pub whole_counts : AllByRecursion (λ e. is_held e ≡ true → is_covered hs e ≡ true) es → AllByRecursion (λ h. h.head.count ≡ length (filter (is_held_at h.bucket h.key) es)) hs
   whole_counts covered = all_of (λ h. h.head.count ≡ length (filter (is_held_at h.bucket h.key) es)) hs (λ h i.
       at_in (IsCounted es) hs counts h i ∙ alike_among (is_under h) (is_held_at h.bucket h.key) es (all_of (λ e. is_under h e ≡ is_held_at h.bucket h.key e) es (λ e j.
       under_all h e (λ held.
       let its = held_parts h.bucket h.key e held in
-      let over = any_in (λ x. is_under x e) hs (at_in (λ x. is_held_entry x ≡ true → is_covered hs x ≡ true) es covered e j (none_removed e.removal its.2)) in
+      let over = any_in (λ x. is_under x e) hs (at_in (λ x. is_held x ≡ true → is_covered hs x ≡ true) es covered e j (none_removed e.removal its.2)) in
       let there = under_parts over.0 e over.2 in
       let same : h ≡ over.0 = one_of head_cmp head_cmp_total hs up h over.0 i over.1 (tie_of h over.0 (sym its.0 ∙ there.0) (sym its.1 ∙ there.1)) in
       let newest = ap (λ (x : HeadRow). x.head.newest) same in

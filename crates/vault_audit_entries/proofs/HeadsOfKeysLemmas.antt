@@ -25,7 +25,7 @@ use Rattle.vault_audit_entries.specs.Heads.{head_cmp, IsHeldFor, NamesHeld, AreH
 use Rattle.vault_audit_entries.proofs.SortLemmas.{in_order, same_in_order, all_in_order, ascending_in_order}
 use Rattle.vault_audit_entries.proofs.CurrentLemmas.{head_cmp_total, heads_apart, heads_name}
 use Rattle.vault_audit_entries.proofs.HeadRowLemmas.{alike}
-use Rattle.vault_audit_entries.specs.HeadCounts.{is_under, IsCounted, DecidesCounts, is_held_entry, held_entry_count}
+use Rattle.vault_audit_entries.specs.HeadCounts.{is_under, IsCounted, DecidesCounts, is_held, held_entry_count}
 use Rattle.vault_audit_entries.proofs.HeadCountLemmas.{mapped_many, no_more}
 use Rattle.vault_audit_entries.proofs.HeadSumLemmas.{alike_among, none_removed, held_parts, parts_held, under_parts, parts_under, under_all, tie_of, is_covered, counted_once, all_covered, whole_counts, same_sum}
 use Rattle.vault_core_laws.proofs.Tests.{none_is}
@@ -172,8 +172,8 @@ module _ (v : Vault) (numbered : AreNumbered 1 0 (entries_of v)) where
             let low = it.5 in (it.0, it.1, it.2, it.3 ∙ its.1, it.4 ∙ its.2, omega (arith, less, low))
       ] refl
 
-  each_covered : AllByRecursion (λ e. is_held_entry e ≡ true → is_covered (heads_in v) e ≡ true) es
-  each_covered = all_of (λ e. is_held_entry e ≡ true → is_covered (heads_in v) e ≡ true) es (λ e i held.
+  each_covered : AllByRecursion (λ e. is_held e ≡ true → is_covered (heads_in v) e ≡ true) es
+  each_covered = all_of (λ e. is_held e ≡ true → is_covered (heads_in v) e ≡ true) es (λ e i held.
       let g = in_map (λ (h : History). h.entry) v.histories e i in
       let same : e ≡ g.0.entry = g.2 in
       let none = none_is e.removal held in
@@ -208,18 +208,18 @@ module _ (v : Vault) (numbered : AreNumbered 1 0 (entries_of v)) where
   held_sum =
       let counts = all_in_order head_cmp (IsCounted es) (heads_in v) each_counted in
       let same = same_in_order head_cmp (heads_in v) in
-      let covered = all_of (λ e. is_covered ordered e ≡ is_held_entry e) es (λ e i.
-      same_test (is_covered ordered e) (is_held_entry e)
+      let covered = all_of (λ e. is_covered ordered e ≡ is_held e) es (λ e i.
+      same_test (is_covered ordered e) (is_held e)
       (λ is. let it = any_in (λ h. is_under h e) ordered is in none_removed e.removal (under_parts it.0 e it.2).2)
-      (λ is. list_any-IsPermutation (λ h. is_under h e) ordered (heads_in v) same ∙ at_in (λ x. is_held_entry x ≡ true → is_covered (heads_in v) x ≡ true) es each_covered e i is)) in
-      same_sum (heads_in v) ordered (IsPermutation-map head_row _ _ (IsPermutation-sym _ _ same)) ∙ counted_once es ordered ordered_up counts ∙ alike_among (is_covered ordered) is_held_entry es covered
+      (λ is. list_any-IsPermutation (λ h. is_under h e) ordered (heads_in v) same ∙ at_in (λ x. is_held x ≡ true → is_covered (heads_in v) x ≡ true) es each_covered e i is)) in
+      same_sum (heads_in v) ordered (IsPermutation-map head_row _ _ (IsPermutation-sym _ _ same)) ∙ counted_once es ordered ordered_up counts ∙ alike_among (is_covered ordered) is_held es covered
 
   -- ---- heads that were found
 
-  module _ (hs : List HeadRow) (up : IsAscending head_cmp hs) (named : AllByRecursion (NamesHeld es) hs) (covered : AllByRecursion (λ e. is_held_entry e ≡ true → is_covered hs e ≡ true) es) (counts : AllByRecursion (λ h. h.head.count ≡ length (filter (is_held_at h.bucket h.key) es)) hs) where
+  module _ (hs : List HeadRow) (up : IsAscending head_cmp hs) (named : AllByRecursion (NamesHeld es) hs) (covered : AllByRecursion (λ e. is_held e ≡ true → is_covered hs e ≡ true) es) (counts : AllByRecursion (λ h. h.head.count ≡ length (filter (is_held_at h.bucket h.key) es)) hs) where
     over : (g : History) → In g v.histories → g.entry.removal ≡ None → (h : HeadRow) × In h hs × (h.bucket ≡ g.entry.bucket) × (h.key ≡ g.entry.key) × (g.entry.id ≤ h.head.newest)
     over g i held =
-        let it = any_in (λ h. is_under h g.entry) hs (at_in (λ e. is_held_entry e ≡ true → is_covered hs e ≡ true) es covered g.entry (entry_there g i) (none_removed g.entry.removal held)) in
+        let it = any_in (λ h. is_under h g.entry) hs (at_in (λ e. is_held e ≡ true → is_covered hs e ≡ true) es covered g.entry (entry_there g i) (none_removed g.entry.removal held)) in
         let its = under_parts it.0 g.entry it.2 in (it.0, it.1, sym its.0, sym its.1, its.3)
 
     named_of : (h : HeadRow) → In h hs → (g : History) × In g v.histories × (g.entry.id ≡ h.head.newest) × (g.entry.bucket ≡ h.bucket) × (g.entry.key ≡ h.key) × (g.entry.removal ≡ None)
@@ -301,7 +301,7 @@ module _ (db : Database) (v : Vault) (are : AreEntries db (entries_of v)) where
   few : held_entry_count (entries_of v) ≤ most_ids + 1
   few =
       let all = few_entries 1 0 (entries_of v) (omega arith) are.1 in
-      let some = no_more is_held_entry (entries_of v) in omega (arith, all, some)
+      let some = no_more is_held (entries_of v) in omega (arith, all, some)
 
   -- the sum of the counts is the number of held entries, or it isn't
   module _ (held total : ℕ) (all : held ≡ held_entry_count (entries_of v)) (hs : List HeadRow) (is : IsWhole hs) (sum : total ≡ up_to_most (sum_of_counts hs)) where

@@ -16,8 +16,8 @@ use Rattle.vault_audit_model.specs.Values.{flag}
 use Rattle.vault_audit_walk.specs.Walk.{Goes, Walked}
 use Rattle.vault_audit_walk.proofs.RecordLemmas.{scanned}
 use Rattle.vault_audit_entries.specs.declared.held.HeldCount.{HeldCount}
-use Rattle.vault_audit_entries.specs.Contents.{is_held, held_count}
-use Rattle.vault_audit_entries.specs.HeadCounts.{is_held_entry, held_entry_count}
+use Rattle.vault_audit_entries.specs.Contents.{is_held_version, held_count}
+use Rattle.vault_audit_entries.specs.HeadCounts.{is_held, held_entry_count}
 use Rattle.vault_audit_entries.specs.HeldPasses.{is_zero, is_held_row, is_version_row, Counts}
 use Rattle.vault_audit_entries.proofs.ContentTextLemmas.{held_text, held_scan}
 use Rattle.vault_audit_model.specs.declared.schema.Edition.{Edition}
@@ -78,6 +78,6 @@ module _ (n : Edition) (old new : State) (has : old.now.schema ≡ schema_of n) 
       let start : HeldCount = record { entries = 0; versions = 0 } in
       let all_entries = counted (λ c. c.entries) is_held_row (λ p row q one. one.0) start r rows goes in
       let all_versions = counted (λ c. c.versions) is_version_row (λ p row q one. one.1) start r rows goes in
-      let stated_entries = tested is_held_row is_held_entry (λ e. removal_held e.removal) es in
-      let stated_versions = tested is_version_row is_held (λ e. cells_held e.marker e.removal) es in
+      let stated_entries = tested is_held_row is_held (λ e. removal_held e.removal) es in
+      let stated_versions = tested is_version_row is_held_version (λ e. cells_held e.marker e.removal) es in
       (omega (arith, entries, all_entries, stated_entries), omega (arith, versions, all_versions, stated_versions))

@@ -120,9 +120,9 @@ module _ {A : Type 0} (cmp : A → A → Ordering) (total : IsTotalOrder cmp) wh
   same_first x y xs ys low high (inr i) (inr j) = absurd (both_ways x y (at_in (λ w. cmp x w ≡ Less) xs low y j) (at_in (λ w. cmp y w ≡ Less) ys high x i))
 
   -- what is after the first of the one is after the first of the other
-  behind_too : (x y : A) (xs ys : List A) → x ≡ y → AllByRecursion (λ w. cmp x w ≡ Less) xs → (z : A) → In z xs → In z (y ∷ ys) → In z ys
-  behind_too x y xs ys same low z i (inl e) = absurd (less_apart x z (at_in (λ w. cmp x w ≡ Less) xs low z i) (same ∙ sym e))
-  behind_too x y xs ys same low z i (inr j) = j
+  after_too : (x y : A) (xs ys : List A) → x ≡ y → AllByRecursion (λ w. cmp x w ≡ Less) xs → (z : A) → In z xs → In z (y ∷ ys) → In z ys
+  after_too x y xs ys same low z i (inl e) = absurd (less_apart x z (at_in (λ w. cmp x w ≡ Less) xs low z i) (same ∙ sym e))
+  after_too x y xs ys same low z i (inr j) = j
 
   -- lists that rise with the same in both are one
   pub same_rising : (xs ys : List A) → IsAscending cmp xs → IsAscending cmp ys → ((x : A) → In x xs → In x ys) → ((y : A) → In y ys → In y xs) → xs ≡ ys
@@ -131,5 +131,5 @@ module _ {A : Type 0} (cmp : A → A → Ordering) (total : IsTotalOrder cmp) wh
   same_rising (x ∷ xs) [] up high f g = absurd (f x (inl refl))
   same_rising (x ∷ xs) (y ∷ ys) up high f g =
       let same = same_first x y xs ys up.0 high.0 (f x (inl refl)) (g y (inl refl)) in
-      let rest = same_rising xs ys up.1 high.1 (λ z i. behind_too x y xs ys same up.0 z i (f z (inr i))) (λ z i. behind_too y x ys xs (sym same) high.0 z i (g z (inr i))) in
+      let rest = same_rising xs ys up.1 high.1 (λ z i. after_too x y xs ys same up.0 z i (f z (inr i))) (λ z i. after_too y x ys xs (sym same) high.0 z i (g z (inr i))) in
       cc (same, rest)

@@ -71,15 +71,15 @@ all_above : (m n : Note) (ns : List Note) → note_cmp m n ≡ Less → AllByRec
 all_above m n [] less all = tt
 all_above m n (x ∷ ns) less all = (notes_total.trans m n x less all.0, all_above m n ns less all.1)
 
-behind : (p : NotePass) (m : Note) (ns : List Note) → p.last ≡ Some m → Fit p ns → AllByRecursion (λ x. note_cmp m x ≡ Less) ns
-behind p m [] is fit = tt
-behind p m (n ∷ ns) is fit =
+after : (p : NotePass) (m : Note) (ns : List Note) → p.last ≡ Some m → Fit p ns → AllByRecursion (λ x. note_cmp m x ≡ Less) ns
+after p m [] is fit = tt
+after p m (n ∷ ns) is fit =
     let less : note_cmp m n ≡ Less = subst (λ o. IsAfter o n) is fit.0.1 in
-    (less, all_above m n ns less (behind (with_note p n) n ns refl fit.1))
+    (less, all_above m n ns less (after (with_note p n) n ns refl fit.1))
 
 ascending_notes : (p : NotePass) (ns : List Note) → Fit p ns → IsAscending note_cmp ns
 ascending_notes p [] fit = tt
-ascending_notes p (n ∷ ns) fit = (behind (with_note p n) n ns refl fit.1, ascending_notes (with_note p n) ns fit.1)
+ascending_notes p (n ∷ ns) fit = (after (with_note p n) n ns refl fit.1, ascending_notes (with_note p n) ns fit.1)
 
 limits : (p : NotePass) (ns : List Note) → Fit p ns → AllByRecursion IsNote ns
 limits p [] fit = tt

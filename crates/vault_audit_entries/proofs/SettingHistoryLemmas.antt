@@ -60,11 +60,11 @@ later i n low (e ∷ es) (h ∷ hs) below are same =
     let first : h.entry ≡ e = cc in
     let id : h.entry.id ≡ n = ap (λ (x : Entry). x.id) first ∙ are.0.1.0 in
     has_append i (settings_in h) (flat_map settings_in hs)
-    ∙ rw (behind h.entry.id h.settings (omega (arith, below, id)) 1) (later i (n + 1) e.admitted es hs (omega (arith, below)) are.1 (cc))
+    ∙ rw (after h.entry.id h.settings (omega (arith, below, id)) 1) (later i (n + 1) e.admitted es hs (omega (arith, below)) are.1 (cc))
   where
-    behind : (id : ℕ) (ss : List Setting) → i < id → (place : ℕ) → has_id i (settings_from id place ss) ≡ false
-    behind id [] less place = refl
-    behind id (s ∷ ss) less place = let no : (id == i) ≡ false = grind (arith, nat_tests) in rw no (behind id ss less (place + 1))
+    after : (id : ℕ) (ss : List Setting) → i < id → (place : ℕ) → has_id i (settings_from id place ss) ≡ false
+    after id [] less place = refl
+    after id (s ∷ ss) less place = let no : (id == i) ≡ false = grind (arith, nat_tests) in rw no (after id ss less (place + 1))
 
 or_with : (a b c : Bool) → a ≡ c → b ≡ false → (a || b) ≡ c
 or_with true b c p q = p
@@ -118,9 +118,9 @@ pub bounded : (n low : ℕ) (es : List Entry) (xs : List SettingRow) → AreNumb
 bounded n low es [] are all = tt
 bounded n low es (x ∷ xs) are all = (numbered_id n low x.id es are all.0, bounded n low es xs are all.1)
 
-behind_run : (P : SettingRow → Type 0) (xs ys : List SettingRow) → AllByRecursion P (xs ++ ys) → AllByRecursion P ys
-behind_run P [] ys all = all
-behind_run P (x ∷ xs) ys all = behind_run P xs ys all.1
+after_run : (P : SettingRow → Type 0) (xs ys : List SettingRow) → AllByRecursion P (xs ++ ys) → AllByRecursion P ys
+after_run P [] ys all = all
+after_run P (x ∷ xs) ys all = after_run P xs ys all.1
 
 shifted : (m n : ℕ) (xs : List SettingRow) → m ≡ n → AllByRecursion (λ x. x.id < m) xs → AllByRecursion (λ x. x.id < n) xs
 shifted m n xs same all = subst (λ k. AllByRecursion (λ x. x.id < k) xs) same all
@@ -142,7 +142,7 @@ make n low (e ∷ es) xs are fit set low_ids =
     let here : has_id (n + 1) xs ≡ is_some_of part.settings = ap (has_id (n + 1)) part.whole ∙ has_append (n + 1) run part.rest ∙ or_with _ _ _ (any_in (n + 1) 1 part.settings) none in
     let some : is_some_of part.settings ≡ not e.marker = sym here ∙ sym (ap (λ i. has_id i xs) id) ∙ set.0 in
     let others = set_less run part.rest es (not_theirs (n + 1) 1 part.settings es (higher (n + 1 + 1) e.admitted es are.1)) (subst (λ ys. AllByRecursion (IsSetAs ys) es) part.whole set.1) in
-    let ids : AllByRecursion (λ x. x.id < (n + 1) + length (e ∷ es)) part.rest = behind_run (λ x. x.id < (n + 1) + length (e ∷ es)) run part.rest (subst (AllByRecursion (λ x. x.id < (n + 1) + length (e ∷ es))) part.whole low_ids) in
+    let ids : AllByRecursion (λ x. x.id < (n + 1) + length (e ∷ es)) part.rest = after_run (λ x. x.id < (n + 1) + length (e ∷ es)) run part.rest (subst (AllByRecursion (λ x. x.id < (n + 1) + length (e ∷ es))) part.whole low_ids) in
     let later = make (n + 1) e.admitted es part.rest are.1 part.fit others (shifted _ _ part.rest (omega arith) ids) in
     record {
       histories = record { entry = e; content = None; settings = part.settings; tenures = [] } ∷ later.histories;

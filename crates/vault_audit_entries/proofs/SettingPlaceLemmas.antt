@@ -127,13 +127,13 @@ has_append i xs ys = list_any-append (λ x. x.id == i) xs ys
 -- they fit, where what follows fits after any of them
 pub run_fits : (id place : ℕ) (ss : List Setting) (rest : List SettingRow) → IsTrue (is_version_id id) → 1 ≤ place → place + length ss ≤ most_settings + 1 → AllByRecursion IsSetting ss → ((k : ℕ) → Fit (at_place id k) rest)
     → Fit (at_place id place) (settings_from id place ss ++ rest)
-run_fits id place [] rest is low high all behind = behind place
-run_fits id place (s ∷ ss) rest is low high all behind =
-    ((record { id = is; place = (low, omega (arith, high)); setting = all.0 }, inl (refl, refl)), run_fits id (place + 1) ss rest is (omega (arith, low)) (omega (arith, high)) all.1 behind)
+run_fits id place [] rest is low high all after = after place
+run_fits id place (s ∷ ss) rest is low high all after =
+    ((record { id = is; place = (low, omega (arith, high)); setting = all.0 }, inl (refl, refl)), run_fits id (place + 1) ss rest is (omega (arith, low)) (omega (arith, high)) all.1 after)
 
 -- so they do after an earlier id
 pub first_fits : (p : SettingPass) (id : ℕ) (ss : List Setting) (rest : List SettingRow) → p.id < id → IsTrue (is_version_id id) → length ss ≤ most_settings → AllByRecursion IsSetting ss → ((k : ℕ) → Fit (at_place id k) rest) → Fit p rest
     → Fit p (settings_from id 1 ss ++ rest)
-first_fits p id [] rest low is high all behind here = here
-first_fits p id (s ∷ ss) rest low is high all behind here =
-    ((record { id = is; place = (omega arith, omega arith); setting = all.0 }, inr (low, refl)), run_fits id 2 ss rest is (omega arith) (omega (arith, high)) all.1 behind)
+first_fits p id [] rest low is high all after here = here
+first_fits p id (s ∷ ss) rest low is high all after here =
+    ((record { id = is; place = (omega arith, omega arith); setting = all.0 }, inr (low, refl)), run_fits id 2 ss rest is (omega arith) (omega (arith, high)) all.1 after)

@@ -14,12 +14,12 @@ use Rattle.vault_audit_model.specs.Tables.{contents_tree}
 use Rattle.vault_audit_model.specs.Values.{number}
 
 -- a version that is held: no marker, and not removed
-abbrev pub is_held : Entry → Bool
-is_held e = not e.marker && is_none e.removal
+abbrev pub is_held_version : Entry → Bool
+is_held_version e = not e.marker && is_none e.removal
 
 -- how many versions are held
 abbrev pub held_count : List Entry → ℕ
-held_count es = length (filter is_held es)
+held_count es = length (filter is_held_version es)
 
 -- the bytes are those of this entry: it is held, and of their size and digest
 abbrev pub IsContentOf : Option Entry → ContentRow → Type 0

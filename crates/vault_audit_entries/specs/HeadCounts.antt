@@ -35,9 +35,9 @@ abbrev pub ShowsCount : Row → Type 0
 ShowsCount row = (n : ℕ) × (column row 0 ≡ number n) × (column row 1 ≡ number n)
 
 -- an entry that is held: a version or a marker
-abbrev pub is_held_entry : Entry → Bool
-is_held_entry e = is_none e.removal
+abbrev pub is_held : Entry → Bool
+is_held e = is_none e.removal
 
 -- how many are
 abbrev pub held_entry_count : List Entry → ℕ
-held_entry_count es = length (filter is_held_entry es)
+held_entry_count es = length (filter is_held es)

@@ -43,13 +43,13 @@ module _ {X : Type 0} (row_of : X → Row) (name_of : X → List ℕ) (Is : X �
   rise p [] fit = tt
   rise p (x ∷ xs) fit = (as_rows x xs (later (name_of x) xs fit.1), rise (Some (name_of x)) xs fit.1)
 
-  behind : (p : Option (List ℕ)) (xs : List X) → AllByRecursion (λ x. IsAfter p (name_of x)) xs → IsAscending (λ a b. name_cmp (name_of a) (name_of b)) xs → AllByRecursion Is xs → Fit p xs
-  behind p [] after order all = tt
-  behind p (x ∷ xs) after order all = ((all.0, after.0), behind (Some (name_of x)) xs order.0 order.1 all.1)
+  past : (p : Option (List ℕ)) (xs : List X) → AllByRecursion (λ x. IsAfter p (name_of x)) xs → IsAscending (λ a b. name_cmp (name_of a) (name_of b)) xs → AllByRecursion Is xs → Fit p xs
+  past p [] after order all = tt
+  past p (x ∷ xs) after order all = ((all.0, after.0), past (Some (name_of x)) xs order.0 order.1 all.1)
 
   none_before : (xs : List X) → AllByRecursion (λ x. IsAfter None (name_of x)) xs
   none_before [] = tt
   none_before (x ∷ xs) = (tt, none_before xs)
 
   pub fitting : (xs : List X) → IsAscending (λ a b. name_cmp (name_of a) (name_of b)) xs → AllByRecursion Is xs → Fit None xs
-  fitting xs order all = behind None xs (none_before xs) order all
+  fitting xs order all = past None xs (none_before xs) order all

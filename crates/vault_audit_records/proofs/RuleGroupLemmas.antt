@@ -66,11 +66,11 @@ cut name gone (x ∷ xs) some ((is, inl (same, place)), fit) whole =
     let state = next_state gone x name some bucket place in
     let more : length (gone ++ x.rule ∷ []) ≡ length gone + 1 = length-append gone (x.rule ∷ []) in
     let later = cut name (gone ++ x.rule ∷ []) xs (omega (arith, more)) (subst (λ q. FitRules q xs) state fit) (subst (λ q. IsWhole (end_of q xs)) state whole) in
-    let behind : xs ≡ rules_from name (length gone + 1 + 1) later.rules ++ later.rest = subst (λ n. xs ≡ rules_from name (n + 1) later.rules ++ later.rest) more later.whole in
+    let past : xs ≡ rules_from name (length gone + 1 + 1) later.rules ++ later.rest = subst (λ n. xs ≡ rules_from name (n + 1) later.rules ++ later.rest) more later.whole in
     record {
       rules = x.rule ∷ later.rules;
       rest = later.rest;
-      whole = first_row x name (length gone + 1) xs later.rules later.rest bucket place behind;
+      whole = first_row x name (length gone + 1) xs later.rules later.rest bucket place past;
       are = (is.rule, later.are);
       set = subst (λ rs. IsTrue (is_rule_set rs)) (append_assoc gone (x.rule ∷ []) later.rules) later.set;
       begins = later.begins;
@@ -116,17 +116,17 @@ of_later : (b : BucketRow) (bs : List BucketRow) (xs : List RuleRow) → AreLate
 of_later b bs [] late all = tt
 of_later b bs (x ∷ xs) late all = (not_first _ _ (ap is_eq late.0) all.0, of_later b bs xs late.1 all.1)
 
-behind_all : (name : List ℕ) (bs : List BucketRow) (x : RuleRow) → AllByRecursion (λ b. name_cmp name b.name ≡ Less) bs → IsOfOne bs x → name_cmp name x.bucket ≡ Less
-behind_all name [] x late one = absurd cc
-behind_all name (b ∷ bs) x late one = here (is_eq (name_cmp b.name x.bucket)) refl one (behind_all name bs x late.1)
+after_all : (name : List ℕ) (bs : List BucketRow) (x : RuleRow) → AllByRecursion (λ b. name_cmp name b.name ≡ Less) bs → IsOfOne bs x → name_cmp name x.bucket ≡ Less
+after_all name [] x late one = absurd cc
+after_all name (b ∷ bs) x late one = here (is_eq (name_cmp b.name x.bucket)) refl one (after_all name bs x late.1)
   where
     here : (e : Bool) → is_eq (name_cmp b.name x.bucket) ≡ e → (e || list_any (λ c. is_eq (name_cmp c.name x.bucket)) bs) ≡ true → (IsOfOne bs x → name_cmp name x.bucket ≡ Less) → name_cmp name x.bucket ≡ Less
     here true is _ _ = subst (λ n. name_cmp name n ≡ Less) (same_name b.name x.bucket is) late.0
     here false is more next = next more
 
-behind_rules : (P : RuleRow → Type 0) (xs ys : List RuleRow) → AllByRecursion P (xs ++ ys) → AllByRecursion P ys
-behind_rules P [] ys all = all
-behind_rules P (x ∷ xs) ys all = behind_rules P xs ys all.1
+after_rules : (P : RuleRow → Type 0) (xs ys : List RuleRow) → AllByRecursion P (xs ++ ys) → AllByRecursion P ys
+after_rules P [] ys all = all
+after_rules P (x ∷ xs) ys all = after_rules P xs ys all.1
 
 -- ---- to buckets
 
@@ -164,7 +164,7 @@ with_rules : (b : BucketRow) (bs : List BucketRow) (x : RuleRow) (xs : List Rule
     → AllByRecursion (IsOfOne (b ∷ bs)) xs → Next b bs → Made (b ∷ bs) (x ∷ xs)
 with_rules b bs x xs is same row place fit whole all next =
     let c = cut b.name (x.rule ∷ []) xs (omega arith) (subst (λ n. FitRules (at_rules n (x.rule ∷ [])) xs) (sym same) fit) (subst (λ n. IsWhole (end_of (at_rules n (x.rule ∷ [])) xs)) (sym same) whole) in
-    let owned = behind_rules (IsOfOne (b ∷ bs)) (rules_from b.name 2 c.rules) c.rest (subst (AllByRecursion (IsOfOne (b ∷ bs))) c.whole all) in
+    let owned = after_rules (IsOfOne (b ∷ bs)) (rules_from b.name 2 c.rules) c.rest (subst (AllByRecursion (IsOfOne (b ∷ bs))) c.whole all) in
     with_cut b bs x xs is same row place c (next c.rest c.begins (of_later b bs c.rest (all_later b.name c.rest c.begins) owned))
 
 first_bucket : (b : BucketRow) (bs : List BucketRow) (x : RuleRow) (xs : List RuleRow) → IsBucketRow b → FitBuckets (Some b.name) bs → IsRuleRow x → x.place ≡ 1 → FitRules (at_rules x.bucket (x.rule ∷ [])) xs
@@ -172,7 +172,7 @@ first_bucket : (b : BucketRow) (bs : List BucketRow) (x : RuleRow) (xs : List Ru
 first_bucket b bs x xs is fitting row place fit whole all next true same = with_rules b bs x xs is (same_name b.name x.bucket same) row place fit whole all.1 next
 first_bucket b bs x xs is fitting row place fit whole all next false same =
     let one : IsOfOne bs x = not_first _ _ same all.0 in
-    let late = behind_all b.name bs x (later_buckets b.name bs fitting) one in
+    let late = after_all b.name bs x (later_buckets b.name bs fitting) one in
     let begins : Begins (Some b.name) (x ∷ xs) = ((row, late, place), fit, whole) in
     without b bs (x ∷ xs) is (next (x ∷ xs) begins (of_later b bs (x ∷ xs) (all_later b.name (x ∷ xs) begins) all))
 
@@ -229,11 +229,11 @@ run_fits name gone (r ∷ rs) rest is some few all ends =
 
 given_fit : (p : RulesSoFar) (name : List ℕ) (rules : Option (List Rule)) (rest : List RuleRow) → IsBucketName name → IsAfter p.bucket name → IsWhole p → IfSome rules AreRules → Ends p rest → ((rs : List Rule) → IsTrue (is_rule_set rs) → Ends (at_rules name rs) rest)
     → Ends p (rules_if_given name rules ++ rest)
-given_fit p name None rest is up whole are here behind = here
-given_fit p name (Some []) rest is up whole are here behind = absurd (let none = are.0 in cc)
-given_fit p name (Some (r ∷ rs)) rest is up whole are here behind =
+given_fit p name None rest is up whole are here past = here
+given_fit p name (Some []) rest is up whole are here past = absurd (let none = are.0 in cc)
+given_fit p name (Some (r ∷ rs)) rest is up whole are here past =
     let count = few (r ∷ rs) are.0 in
-    let later = run_fits name (r ∷ []) rs rest is (omega arith) (omega (arith, count)) are.1.1 (behind (r ∷ rs) are.0) in
+    let later = run_fits name (r ∷ []) rs rest is (omega arith) (omega (arith, count)) are.1.1 (past (r ∷ rs) are.0) in
     (((record { bucket = is; place = (omega arith, omega arith); rule = are.1.0 }, inr ((up, whole), refl)), later.0), later.1)
 
 -- the rules of buckets come one after the other

@@ -61,11 +61,11 @@ found_among es i = find (λ e. e.id == i) es
 pub each_found : (n low : ℕ) (es : List Entry) → AreNumbered n low es → AllByRecursion (λ e. found_among es e.id ≡ Some e) es
 each_found n low [] are = tt
 each_found n low (e ∷ es) are =
-    (rw (alike e.id e.id refl) refl, behind es (higher (n + 1) e.admitted es are.1) (each_found (n + 1) e.admitted es are.1))
+    (rw (alike e.id e.id refl) refl, after es (higher (n + 1) e.admitted es are.1) (each_found (n + 1) e.admitted es are.1))
   where
-    behind : (xs : List Entry) → AllByRecursion (λ x. n + 1 ≤ x.id) xs → AllByRecursion (λ x. found_among es x.id ≡ Some x) xs → AllByRecursion (λ x. found_among (e ∷ es) x.id ≡ Some x) xs
-    behind [] up all = tt
-    behind (x ∷ xs) up all = (rw (apart e.id x.id (omega (arith, are.0.1.0, up.0))) all.0, behind xs up.1 all.1)
+    after : (xs : List Entry) → AllByRecursion (λ x. n + 1 ≤ x.id) xs → AllByRecursion (λ x. found_among es x.id ≡ Some x) xs → AllByRecursion (λ x. found_among (e ∷ es) x.id ≡ Some x) xs
+    after [] up all = tt
+    after (x ∷ xs) up all = (rw (apart e.id x.id (omega (arith, are.0.1.0, up.0))) all.0, after xs up.1 all.1)
 
 abbrev pub IsGiven : Option Entry → Type 0
 IsGiven None = ⊥

@@ -37,9 +37,9 @@ pub set_more : (id : ℕ) (run : List Tenure) (rest : List TenureRow) (es : List
 set_more id run rest [] up all = tt
 set_more id run rest (e ∷ es) up all = (skip e.id id run rest (apart id e.id (omega (arith, up.0))) ∙ all.0, set_more id run rest es up.1 all.1)
 
-behind_run : (P : TenureRow → Type 0) (xs ys : List TenureRow) → AllByRecursion P (xs ++ ys) → AllByRecursion P ys
-behind_run P [] ys all = all
-behind_run P (x ∷ xs) ys all = behind_run P xs ys all.1
+after_run : (P : TenureRow → Type 0) (xs ys : List TenureRow) → AllByRecursion P (xs ++ ys) → AllByRecursion P ys
+after_run P [] ys all = all
+after_run P (x ∷ xs) ys all = after_run P xs ys all.1
 
 shifted : (m n : ℕ) (ts : List TenureRow) → m ≡ n → AllByRecursion (λ t. t.id < m) ts → AllByRecursion (λ t. t.id < n) ts
 shifted m n ts same all = subst (λ k. AllByRecursion (λ t. t.id < k) ts) same all
@@ -149,6 +149,6 @@ module _ (v : Vault) where
             let whole : map row_of (t ∷ ts) ≡ run_of t.id (t.tenure ∷ part.run) ++ map row_of part.rest = ap (λ (xs : List TenureRow). row_of t ∷ xs) part.whole in
             let up = subst (λ i. AllByRecursion (λ x. i + 1 ≤ x.id) es) (sym same) (higher (n + 1 + 1) e.admitted es are.1) in
             let others = set_less t.id (t.tenure ∷ part.run) (map row_of part.rest) es up (subst (λ xs. AllByRecursion (HasSome xs) es) whole set.1) in
-            let lower = behind_run (λ x. x.id < (n + 1) + length (e ∷ es)) (run_of t.id (t.tenure ∷ part.run)) (map row_of part.rest) (subst (AllByRecursion (λ x. x.id < (n + 1) + length (e ∷ es))) whole ids) in
+            let lower = after_run (λ x. x.id < (n + 1) + length (e ∷ es)) (run_of t.id (t.tenure ∷ part.run)) (map row_of part.rest) (subst (AllByRecursion (λ x. x.id < (n + 1) + length (e ∷ es))) whole ids) in
             let begins = subst (λ i. Anew v.moves v.last i part.rest) same part.new in
             with_run e es t ts mine new.1.0.tenure new.1.2.0 new.1.2.1 is (sym some ∙ set.0) part (on part.rest begins those.rest others (shifted _ _ (map row_of part.rest) (omega arith) lower))

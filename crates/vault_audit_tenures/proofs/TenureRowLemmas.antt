@@ -59,12 +59,12 @@ above p x y (z ∷ zs) low fit =
     let here = further x y z low (next_above y z fit.0.2) in
     (pair_less x z here, above (with_tenure p y) x z zs here fit.1)
 
-behind : (p : TenurePass) (x : OwnedTenure) (ys : List OwnedTenure) → Fit (with_tenure p x) ys → AllByRecursion (λ row. pair_cmp (owned_row x) row ≡ Less) (map owned_row ys)
-behind p x [] fit = tt
-behind p x (y ∷ ys) fit =
+after : (p : TenurePass) (x : OwnedTenure) (ys : List OwnedTenure) → Fit (with_tenure p x) ys → AllByRecursion (λ row. pair_cmp (owned_row x) row ≡ Less) (map owned_row ys)
+after p x [] fit = tt
+after p x (y ∷ ys) fit =
     let here = next_above x y fit.0.2 in
     (pair_less x y here, above (with_tenure p x) x y ys here fit.1)
 
 pub rise : (p : TenurePass) (xs : List OwnedTenure) → Fit p xs → IsAscending (λ a b. pair_cmp a b ≡ Less) (map owned_row xs)
 rise p [] fit = tt
-rise p (x ∷ xs) fit = (behind p x xs fit.1, rise (with_tenure p x) xs fit.1)
+rise p (x ∷ xs) fit = (after p x xs fit.1, rise (with_tenure p x) xs fit.1)

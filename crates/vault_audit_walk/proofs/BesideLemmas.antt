@@ -38,14 +38,14 @@ use Rattle.vault_audit_walk.proofs.JoinLemmas.{with_true}
 
 -- ---- lists
 
-all_behind : {A : Type 0} (P : A → Type 0) (xs ys : List A) → AllByRecursion P (xs ++ ys) → AllByRecursion P ys
-all_behind P [] ys all = all
-all_behind P (x ∷ xs) ys all = all_behind P xs ys all.1
+all_after : {A : Type 0} (P : A → Type 0) (xs ys : List A) → AllByRecursion P (xs ++ ys) → AllByRecursion P ys
+all_after P [] ys all = all
+all_after P (x ∷ xs) ys all = all_after P xs ys all.1
 
 -- each of the parts holds it where their whole does
 all_from_flat : {A B : Type 0} (P : B → Type 0) (f : A → List B) (xs : List A) → AllByRecursion P (flat_map f xs) → AllByRecursion (λ x. AllByRecursion P (f x)) xs
 all_from_flat P f [] all = tt
-all_from_flat P f (x ∷ xs) all = (front P (f x) (flat_map f xs) all, all_from_flat P f xs (all_behind P (f x) (flat_map f xs) all))
+all_from_flat P f (x ∷ xs) all = (front P (f x) (flat_map f xs) all, all_from_flat P f xs (all_after P (f x) (flat_map f xs) all))
 
 -- ---- SELECT shown, b.c FROM t AS a LEFT JOIN other AS b ON b.c = a.d
 

@@ -23,13 +23,12 @@ use Rattle.vault_core_model.specs.declared.records.History.{History}
 use Rattle.vault_core_model.specs.declared.records.Removal.{Removal}
 use Rattle.vault_core_model.specs.declared.records.Setting.{Setting}
 use Rattle.vault_core_model.specs.declared.records.Tenure.{Tenure}
-use Rattle.vault_core_model.specs.Checks.{permitted}
+use Rattle.vault_core_model.specs.Checks.{is_own, permitted}
 use Rattle.vault_core_model.specs.Vault.{Vault, caller_of, last_lock}
 use Rattle.vault_core_worm_laws.specs.Bypass.{has_bypass, MayBypass}
 use Rattle.vault_core_worm_laws.specs.Entitled.{has_right, IsAdmitter, IsSetByRight, IsCausedByRight}
 use Rattle.vault_core_worm_laws.specs.Permits.{IsRetentionSetting, IsHoldSetting, IsPermittedSetting}
 use Rattle.vault_core_worm_laws.specs.Removals.{IsPermittedUnder}
-use Rattle.vault_core_worm_laws.specs.Stored.{is_department}
 use Rattle.vault_core_worm_laws.proofs.EntryChanges.{Permitted, permit_under-is}
 use Rattle.vault_core_worm_laws.proofs.LockChanges.{Retained, retainable-is, is-keeps}
 use Rattle.vault_core_evidence.specs.Lawful.{EndsAfter, IsLawfulFirst, AreLawfulAfter, AreLawful, IsOfDepartment, department_of, last_at, IsLawfulEnd, IsLawful}
@@ -312,13 +311,13 @@ is_admitter-by v false (author.Rule rule) is = absurd is
 is_admitter-by v true (author.Caller name) is = is
 is_admitter-by v true (author.Rule rule) is = refl
 
-own_is : (dept : List ℕ) (o : Option (List ℕ)) → is_department dept o ≡ true → o ≡ Some dept
+own_is : (dept : List ℕ) (o : Option (List ℕ)) → is_own o dept ≡ true → o ≡ Some dept
 own_is dept None e = absurd (cc e)
 own_is dept (Some own) e = ap (λ (d : List ℕ). Some d) ((bytes_eq-Decides own dept).0 e)
 
-is_own-by : (dept : List ℕ) (o : Option (List ℕ)) → o ≡ Some dept → is_department dept o ≡ true
+is_own-by : (dept : List ℕ) (o : Option (List ℕ)) → o ≡ Some dept → is_own o dept ≡ true
 is_own-by dept o is =
-    let P : Option (List ℕ) → Type 0 = λ d. is_department dept d ≡ true in subst P (sym is) ((bytes_eq-Decides dept dept).1 refl)
+    let P : Option (List ℕ) → Type 0 = λ d. is_own d dept ≡ true in subst P (sym is) ((bytes_eq-Decides dept dept).1 refl)
 
 department_is : (v : Vault) (marker : Bool) (by : Author) (ts : List Tenure) → is_of_department v marker by ts ≡ true → IsOfDepartment v marker by ts
 department_is v false (author.Caller name) [] e = absurd (cc e)

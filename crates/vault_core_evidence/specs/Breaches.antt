@@ -19,10 +19,10 @@ use Rattle.vault_core_model.specs.declared.records.History.{History}
 use Rattle.vault_core_model.specs.declared.records.Removal.{Removal}
 use Rattle.vault_core_model.specs.declared.records.Setting.{Setting}
 use Rattle.vault_core_model.specs.declared.records.Tenure.{Tenure}
+use Rattle.vault_core_model.specs.Checks.{is_own}
 use Rattle.vault_core_model.specs.Vault.{Vault, caller_of, last_lock}
 use Rattle.vault_core_worm_laws.specs.Bypass.{has_bypass}
 use Rattle.vault_core_worm_laws.specs.Entitled.{has_right}
-use Rattle.vault_core_worm_laws.specs.Stored.{is_department}
 use Rattle.vault_core_evidence.specs.declared.breach.Breach.{Breach}
 use Rattle.vault_core_evidence.specs.declared.breach.Law.{Law}
 use Rattle.vault_core_evidence.specs.declared.breach.Law.TheVariants as law
@@ -65,7 +65,7 @@ is_admitter v true (author.Rule rule) = true
 
 -- who admits a version is of the department of its first tenure, who admits a marker of any
 abbrev pub is_of_department : Vault → Bool → Author → List Tenure → Bool
-is_of_department v false (author.Caller name) (t ∷ ts) = is_department t.dept (department_of v name)
+is_of_department v false (author.Caller name) (t ∷ ts) = is_own (department_of v name) t.dept
 is_of_department v false _ _ = false
 is_of_department v true (author.Caller name) ts = is_some (department_of v name)
 is_of_department v true (author.Rule rule) ts = true

@@ -41,10 +41,10 @@ pub ascending-placed : {A : Type 0} (cmp : A → A → Ordering) → IsTotalOrde
 ascending-placed cmp total x [] apart ascending = (tt, tt)
 ascending-placed cmp total x (y ∷ ys) apart ascending =
     elim (cmp x y) as (λ o. cmp x y ≡ o → IsAscending cmp (placed_by o x y ys (placed cmp x ys))) [
-      | Less ↦ λ before. ((before, All-weaker (λ z. cmp y z ≡ Less) (λ z. cmp x z ≡ Less) (λ z behind. total.trans x y z before behind) ys ascending.0), ascending)
+      | Less ↦ λ before. ((before, All-weaker (λ z. cmp y z ≡ Less) (λ z. cmp x z ≡ Less) (λ z after. total.trans x y z before after) ys ascending.0), ascending)
       | Equal ↦ λ tie. absurd (apart.0 tie)
-      | Greater ↦ λ behind. (
-        All-placed (λ z. cmp y z ≡ Less) cmp x ys (reversed (cmp y x) (sym (total.antisymm x y) ∙ behind)) ascending.0,
+      | Greater ↦ λ after. (
+        All-placed (λ z. cmp y z ≡ Less) cmp x ys (reversed (cmp y x) (sym (total.antisymm x y) ∙ after)) ascending.0,
         ascending-placed cmp total x ys apart.1 ascending.1,
       )
     ] refl

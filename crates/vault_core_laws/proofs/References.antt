@@ -24,15 +24,15 @@ use Rattle.vault_core_laws.proofs.Lists.{All-placed, All-weaker, All-map}
 
 -- ---- one department more
 
-any-behind : {A : Type 0} (p : A → Bool) (x : A) (ys : List A) → IsTrue (list_any p ys) → IsTrue (list_any p (x ∷ ys))
-any-behind p x ys there = elim (p x) as (λ b. IsTrue (b || list_any p ys)) [ true ↦ refl | false ↦ there ]
+any-after : {A : Type 0} (p : A → Bool) (x : A) (ys : List A) → IsTrue (list_any p ys) → IsTrue (list_any p (x ∷ ys))
+any-after p x ys there = elim (p x) as (λ b. IsTrue (b || list_any p ys)) [ true ↦ refl | false ↦ there ]
 
 any-placed : {A : Type 0} (cmp : A → A → Ordering) (p : A → Bool) (x : A) (ys : List A) → IsTrue (list_any p ys) → IsTrue (list_any p (placed cmp x ys))
 any-placed cmp p x [] there = absurd (cc there)
 any-placed cmp p x (y ∷ ys) there =
     elim (cmp x y) as (λ o. IsTrue (list_any p (placed_by o x y ys (placed cmp x ys)))) [
-      | Less ↦ any-behind p x (y ∷ ys) there
-      | Equal ↦ any-behind p x (y ∷ ys) there
+      | Less ↦ any-after p x (y ∷ ys) there
+      | Equal ↦ any-after p x (y ∷ ys) there
       | Greater ↦ elim (p y) as (λ b. IsTrue (b || list_any p ys) → IsTrue (b || list_any p (placed cmp x ys)))
           [ true ↦ λ there. refl | false ↦ λ there. any-placed cmp p x ys there ] there
     ]

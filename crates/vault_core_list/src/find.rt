@@ -3,7 +3,7 @@ ghost use Rattle.std.specs.Prelude.{◌≡◌, ◌==◌, ◌&&◌, [], IfOk, fin
 ghost use Rattle.std.specs.List.{list_any};
 ghost use Rattle.std.specs.Option.{option_copied};
 ghost use Rattle.std.specs.Str.{bytes_eq};
-ghost use Rattle.vault_core_model.specs.Places.{is_behind, is_held_at};
+ghost use Rattle.vault_core_model.specs.Places.{comes_after, is_held_at};
 ghost use Rattle.vault_core_model.specs.Reads.{head_over, held_of, last_setting};
 ghost use Rattle.vault_core_model.specs.Vault.{bucket_in, config_in, last_lock};
 
@@ -234,8 +234,8 @@ pub(crate) fn entries(
 }
 
 /// Whether the name comes after that text; every name comes after the empty one.
-fn is_behind(name: &BucketName, after: &str) -> bool
-    ensures { result ≡ is_behind name.now after.now }
+fn comes_after(name: &BucketName, after: &str) -> bool
+    ensures { result ≡ comes_after name.now after.now }
 {
     after.is_empty() || name.as_str() > after
 }
@@ -258,12 +258,12 @@ pub(crate) fn bucket_names(
     after: &str,
     most: u32,
 ) -> Result<Vec<BucketName>, AllocError>
-    ensures { IfOk result (λ names. names.items ≡ take most (filter (λ name. is_behind name after.now) (map (λ b. b.name) buckets.now))) }
+    ensures { IfOk result (λ names. names.items ≡ take most (filter (λ name. comes_after name after.now) (map (λ b. b.name) buckets.now))) }
 {
     let names = names(alloc, buckets)?;
     names
         .into_iter()
-        .filter(|name| is_behind(name, after))
+        .filter(|name| comes_after(name, after))
         .take(most as usize)
         .collect(alloc)
 }

@@ -5,7 +5,7 @@ ghost use Rattle.std.specs.List.{prefix_len};
 ghost use Rattle.std.specs.Option.{option_eq};
 ghost use Rattle.std.specs.Ordering.{is_gt, nat_cmp};
 ghost use Rattle.std.specs.Str.{bytes_eq};
-ghost use Rattle.vault_core_model.specs.Places.{is_behind, is_held_in, key_set, with_key};
+ghost use Rattle.vault_core_model.specs.Places.{comes_after, is_held_in, key_set, with_key};
 
 use std::alloc::{AllocError, Global};
 use vault_base::name::{BucketName, KeyPrefix, ObjectKey};
@@ -62,25 +62,25 @@ fn held(
 }
 
 /// Whether the key comes after that one; every key comes after the empty text.
-fn is_behind(key: &ObjectKey, after: &KeyPrefix) -> bool
-    ensures { result ≡ is_behind key.now after.now }
+fn comes_after(key: &ObjectKey, after: &KeyPrefix) -> bool
+    ensures { result ≡ comes_after key.now after.now }
 {
     after.as_str().is_empty() || key.as_str() > after.as_str()
 }
 
 /// The first of the bucket's keys after `after` that have a held entry: at most `most`.
-pub(crate) fn behind(
+pub(crate) fn later(
     alloc: Global,
     histories: &[History],
     bucket: &BucketName,
     after: &KeyPrefix,
     most: u32,
 ) -> Result<Vec<ObjectKey>, AllocError>
-    ensures { IfOk result (λ keys. keys.items ≡ take most (filter (λ k. is_behind k after.now) (key_set (map (λ h. h.entry.key) (filter (λ h. is_held_in bucket.now h.entry) histories.now))))) }
+    ensures { IfOk result (λ keys. keys.items ≡ take most (filter (λ k. comes_after k after.now) (key_set (map (λ h. h.entry.key) (filter (λ h. is_held_in bucket.now h.entry) histories.now))))) }
 {
     let keys = held(alloc, histories, bucket)?;
     keys.into_iter()
-        .filter(|key| is_behind(key, after))
+        .filter(|key| comes_after(key, after))
         .take(most as usize)
         .collect(alloc)
 }

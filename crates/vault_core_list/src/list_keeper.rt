@@ -178,7 +178,7 @@ impl Keeper for ListKeeper {
         after: &KeyPrefix,
         most: u32,
     ) -> Result<Vec<ObjectKey>, Fault> {
-        Ok(keys::behind(self.alloc, &self.lists.histories, bucket, after, most)?)
+        Ok(keys::later(self.alloc, &self.lists.histories, bucket, after, most)?)
     }
 
     fn ids(

@@ -21,12 +21,12 @@ use Rattle.vault_core_model.specs.declared.reply.Listed.{Listed}
 use Rattle.vault_core_model.specs.declared.reply.Page.{Page}
 use Rattle.vault_core_model.specs.ListingOutcome.{is_below, is_asked_for, asked_for}
 use Rattle.vault_core_model.specs.ListingOutcome as outcome
-use Rattle.vault_core_model.specs.Places.{is_held, is_held_at, is_held_in, is_behind, held_at, key_set, keys_of, with_key, with_key_by}
-use Rattle.vault_core_model.specs.Reads.{keys_after}
+use Rattle.vault_core_model.specs.Places.{is_held, is_held_at, is_held_in, comes_after, held_at, key_set, keys_of, with_key, with_key_by}
+use Rattle.vault_core_model.specs.Reads.{keys_after, later_keys}
 use Rattle.vault_core_model.specs.Sound.{Sound}
 use Rattle.vault_core_model.specs.Vault.{Vault}
-use Rattle.vault_core_listing.specs.Walk.{has_prefix, is_past, EndsOrAdvances, asked_at, asked_first, beginning, completed, filled, has_first, is_prefix_later, keys_behind, page_of}
-use Rattle.vault_core_listing.proofs.Keys.{IsOver, greater, over_behind, IsRising, among-set, behind_page, cmp, is_among, rising_set, split_at}
+use Rattle.vault_core_listing.specs.Walk.{has_prefix, is_past, EndsOrAdvances, asked_at, asked_first, beginning, completed, filled, has_first, is_prefix_later, page_of}
+use Rattle.vault_core_listing.proofs.Keys.{IsOver, greater, over_after, IsRising, among-set, after_page, cmp, is_among, rising_set, split_at}
 use Rattle.vault_core_listing.proofs.KeyWalk.{filter_few, nothing_asked, without_prefix}
 use Rattle.vault_core_listing.proofs.Prefixes.{before, past}
 use Rattle.vault_core_listing.proofs.Pages.{cut_off, filled-append, from_empty}
@@ -100,7 +100,7 @@ by_keys v c (k ∷ ks) =
     ∙ ap (λ (ls : List Listed). asked_at v c k ++ ls) (by_keys v c ks)
 
 -- what is asked for: of the key at which the listing begins, and of those after it
-parts : (v : Vault) (c : ListVersions) → Sound v → flat_map (asked_at v c) (keys_of v c.bucket) ≡ asked_first v c ++ flat_map (asked_at v c) (keys_behind v c.bucket (beginning c))
+parts : (v : Vault) (c : ListVersions) → Sound v → flat_map (asked_at v c) (keys_of v c.bucket) ≡ asked_first v c ++ flat_map (asked_at v c) (later_keys v c.bucket (beginning c))
 parts v c sound = by_length (length (beginning c) == 0) refl
   where
     all : (ks : List (List ℕ)) → filter (λ k. true) ks ≡ ks
@@ -118,7 +118,7 @@ page_is v mid c page first sound same begun done =
     done
     ∙ ap (λ w. completed w c first (beginning c)) same
     ∙ ap (λ (p : Page). completed v c p (beginning c)) begun
-    ∙ sym (filled-append c.most (record { entries = []; more = false }) (asked_first v c) (flat_map (asked_at v c) (keys_behind v c.bucket (beginning c))))
+    ∙ sym (filled-append c.most (record { entries = []; more = false }) (asked_first v c) (flat_map (asked_at v c) (later_keys v c.bucket (beginning c))))
     ∙ ap (filled c.most (record { entries = []; more = false })) (sym (parts v c sound))
     ∙ from_empty c.most all
     ∙ ap cut (sym (by_keys v c (keys_of v c.bucket)))
@@ -162,11 +162,11 @@ set_few [] = omega arith
 set_few (k ∷ ks) = omega (arith, with_few k (key_set ks), set_few ks)
 
 -- there are no more keys than ids
-pub few_keys : (v : Vault) (bucket after : List ℕ) → Sound v → length (keys_behind v bucket after) ≤ most_ids
+pub few_keys : (v : Vault) (bucket after : List ℕ) → Sound v → length (later_keys v bucket after) ≤ most_ids
 few_keys v bucket after sound =
     let held : List History = filter (λ h. is_held_in bucket h.entry) v.histories in
     let keys : List (List ℕ) = map (λ (h : History). h.entry.key) held in
-    omega (arith, sound.enough_ids, filter_few (λ h. is_held_in bucket h.entry) v.histories, length-map held (λ (h : History). h.entry.key), set_few keys, filter_few (λ k. is_behind k after) (keys_of v bucket))
+    omega (arith, sound.enough_ids, filter_few (λ h. is_held_in bucket h.entry) v.histories, length-map held (λ (h : History). h.entry.key), set_few keys, filter_few (λ k. comes_after k after) (keys_of v bucket))
 
 pub walk_ends : (v mid : Vault) (c : ListVersions) (page0 page page' : Page) (after : List ℕ) (next : Option (List ℕ))
     → mid ≡ v → next ≡ None → completed v c page after ≡ completed v c page0 (beginning c) → EndsOrAdvances mid c page after page' next
@@ -178,7 +178,7 @@ walk_ends v mid c page0 page page' after next same none left goes =
 
 pub walk_goes_on : (v mid : Vault) (c : ListVersions) (page0 page page' : Page) (after : List ℕ) (next : Option (List ℕ)) (key : List ℕ)
     → mid ≡ v → next ≡ Some key → completed v c page after ≡ completed v c page0 (beginning c) → EndsOrAdvances mid c page after page' next
-    → (completed v c page' key ≡ completed v c page0 (beginning c)) × (length (keys_behind v c.bucket key) + most_keys ≤ length (keys_behind v c.bucket after))
+    → (completed v c page' key ≡ completed v c page0 (beginning c)) × (length (later_keys v c.bucket key) + most_keys ≤ length (later_keys v c.bucket after))
 walk_goes_on v mid c page0 page page' after next key same some left goes =
     let P : Option (List ℕ) → Type 0 = λ o. EndsOrAdvances mid c page after page' o in
     let Q : Vault → Type 0 = λ w. EndsOrAdvances w c page after page' (Some key) in
@@ -191,7 +191,7 @@ pub last_page : (v mid : Vault) (c : ListVersions) (page page' : Page) (after : 
     → page' ≡ filled c.most page (flat_map (asked_at mid c) keys)
     → page' ≡ completed v c page after
 last_page v mid c page page' after keys same lt is now =
-    let all : List (List ℕ) = keys_behind v c.bucket after in
+    let all : List (List ℕ) = later_keys v c.bucket after in
     let few : length all ≤ most_keys = omega (arith, length-take most_keys all, ap length is) in
     now ∙ ap (λ w. filled c.most page (flat_map (asked_at w c) keys)) same
     ∙ ap (λ ks. filled c.most page (flat_map (asked_at v c) ks)) (is ∙ take_all most_keys all few)
@@ -203,18 +203,18 @@ pub next_page : (v mid : Vault) (c : ListVersions) (page page' : Page) (after la
     → page' ≡ filled c.most page (flat_map (asked_at mid c) keys)
     → EndsOrAdvances v c page after page' (Some next)
 next_page v mid c page page' after last next keys same whole is at own named now =
-    let all : List (List ℕ) = keys_behind v c.bucket after in
+    let all : List (List ℕ) = later_keys v c.bucket after in
     let i : ℕ = length keys - 1 in
     let item : last ≡ get_or keys i last = sym (get_or_from_slice_get keys i last last (sym at)) in
     let front : keys ≡ take i keys ++ last ∷ [] = last_apart keys i last (omega arith) item in
     let rest : List (List ℕ) = drop most_keys all in
     let cut : all ≡ take i keys ++ last ∷ rest = sym (take-append-drop most_keys all) ∙ ap (λ ks. ks ++ rest) (sym is ∙ front) ∙ append_assoc (take i keys) (last ∷ []) rest in
-    let behind : keys_behind v c.bucket last ≡ rest = behind_page (keys_of v c.bucket) after (take i keys) last rest (rising_keys v c.bucket) cut named in
+    let later : later_keys v c.bucket last ≡ rest = after_page (keys_of v c.bucket) after (take i keys) last rest (rising_keys v c.bucket) cut named in
     let whole_page : take most_keys all ++ rest ≡ all = take-append-drop most_keys all in
     let filled_page : page' ≡ filled c.most page (flat_map (asked_at v c) (take most_keys all)) = now ∙ ap (λ w. filled c.most page (flat_map (asked_at w c) keys)) same ∙ ap (λ ks. filled c.most page (flat_map (asked_at v c) ks)) is in
-    let fewer : length (keys_behind v c.bucket last) + most_keys ≤ length all = omega (arith, ap length behind, length-drop most_keys all, ap length is, length-take most_keys all) in
+    let fewer : length (later_keys v c.bucket last) + most_keys ≤ length all = omega (arith, ap length later, length-drop most_keys all, ap length is, length-take most_keys all) in
     let goal_at_last : EndsOrAdvances v c page after page' (Some last) = (
-      ap (λ ks. filled c.most page' (flat_map (asked_at v c) ks)) behind
+      ap (λ ks. filled c.most page' (flat_map (asked_at v c) ks)) later
           ∙ ap (λ (p : Page). filled c.most p (flat_map (asked_at v c) rest)) filled_page
           ∙ sym (filled-append c.most page (flat_map (asked_at v c) (take most_keys all)) (flat_map (asked_at v c) rest))
           ∙ ap (filled c.most page) (sym (flat_map-append (asked_at v c) (take most_keys all) rest))
@@ -273,10 +273,10 @@ key_named key named = by_size (nat_le 1 (length key)) refl named
 -- ---- keys past the prefix
 
 none_past : (v : Vault) (c : ListVersions) (last : List ℕ) (ks : List (List ℕ)) → Sound v → cmp last c.prefix ≡ Greater → has_prefix c last ≡ false → IsOver last ks → flat_map (asked_at v c) ks ≡ []
-none_past v c last [] sound over other behind = refl
-none_past v c last (k ∷ ks) sound over other behind =
-    ap (λ (ls : List Listed). ls ++ flat_map (asked_at v c) ks) (without_prefix v c k sound (past c.prefix last k over other behind.0))
-    ∙ none_past v c last ks sound over other behind.1
+none_past v c last [] sound over other later = refl
+none_past v c last (k ∷ ks) sound over other later =
+    ap (λ (ls : List Listed). ls ++ flat_map (asked_at v c) ks) (without_prefix v c k sound (past c.prefix last k over other later.0))
+    ∙ none_past v c last ks sound over other later.1
 
 past_parts : (b h : Bool) → (b && not h) ≡ true → (b ≡ true) × (h ≡ false)
 past_parts true false e = (refl, refl)
@@ -300,4 +300,4 @@ past_page v mid c page page' after last keys sound ends same whole is at now =
     let over : cmp last c.prefix ≡ Greater = greater last c.prefix parts.0 in
     let named : (length last == 0) ≡ false = named_past last c.prefix over in
     let goes : EndsOrAdvances v c page after page' (Some last) = next_page v mid c page page' after last last keys same whole is at refl named now in
-    sym (ap (filled c.most page') (none_past v c last (keys_behind v c.bucket last) sound over parts.1 (over_behind last (keys_of v c.bucket) named))) ∙ goes.0
+    sym (ap (filled c.most page') (none_past v c last (later_keys v c.bucket last) sound over parts.1 (over_after last (keys_of v c.bucket) named))) ∙ goes.0

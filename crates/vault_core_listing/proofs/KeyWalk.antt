@@ -13,7 +13,7 @@ use Rattle.vault_core_model.specs.declared.records.History.{History}
 use Rattle.vault_core_model.specs.declared.reply.Page.{Page}
 use Rattle.vault_core_model.specs.ListingOutcome.{is_asked_for, is_below}
 use Rattle.vault_core_model.specs.ListingOutcome as outcome
-use Rattle.vault_core_model.specs.Places.{held_at, is_behind, is_held_at}
+use Rattle.vault_core_model.specs.Places.{held_at, comes_after, is_held_at}
 use Rattle.vault_core_model.specs.Reads.{entry_of, ids_before, is_older}
 use Rattle.vault_core_model.specs.Sound.{Sound}
 use Rattle.vault_core_model.specs.Vault.{Vault}
@@ -28,7 +28,7 @@ id_of h = h.entry.id
 -- the entry of that key and that id is asked for
 abbrev pub is_asked : ListVersions → List ℕ → ℕ → Bool
 is_asked c key id =
-    has_prefix c key && (is_behind key c.after_key || (bytes_eq key c.after_key && is_below c.after_id id))
+    has_prefix c key && (comes_after key c.after_key || (bytes_eq key c.after_key && is_below c.after_id id))
 
 -- ---- the entries that are read
 
@@ -45,7 +45,7 @@ asked_are_older : (v : Vault) (c : ListVersions) (key : List ℕ) (newest : Opti
 asked_are_older v c key newest [] asked are = refl
 asked_are_older v c key newest (h ∷ hs) asked are =
     let P : List ℕ → Type 0 = λ k. is_asked c k h.entry.id ≡ is_older (older_than c key) h.entry.id in
-    let same : is_asked_for c h.entry ≡ is_older (older_than c key) h.entry.id = subst P (sym are.0.keyed) (older_asked (has_prefix c key) (is_behind key c.after_key) (bytes_eq key c.after_key) c.after_id h.entry.id asked) in
+    let same : is_asked_for c h.entry ≡ is_older (older_than c key) h.entry.id = subst P (sym are.0.keyed) (older_asked (has_prefix c key) (comes_after key c.after_key) (bytes_eq key c.after_key) c.after_id h.entry.id asked) in
     ap (λ b. if b then h ∷ filter (λ g. is_asked_for c g.entry) hs else filter (λ g. is_asked_for c g.entry) hs) same
     ∙ ap (λ (l : List History). if is_older (older_than c key) h.entry.id then h ∷ l else l) (asked_are_older v c key newest hs asked are.1)
 
@@ -224,4 +224,4 @@ never_asked false b e o id other = refl
 
 pub key_not_asked : (v : Vault) (c : ListVersions) (key : List ℕ) → Sound v → is_key_asked c key ≡ false → asked_at v c key ≡ []
 key_not_asked v c key sound other =
-    nothing_asked v c key sound (λ id. never_asked (has_prefix c key) (is_behind key c.after_key) (bytes_eq key c.after_key) c.after_id id other)
+    nothing_asked v c key sound (λ id. never_asked (has_prefix c key) (comes_after key c.after_key) (bytes_eq key c.after_key) c.after_id id other)

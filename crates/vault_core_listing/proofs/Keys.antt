@@ -10,7 +10,7 @@ use Rattle.std.specs.Cmp.Lexicographic.{slice_cmp}
 use Rattle.std.proofs.lemmas.Cmp.{nat_list_cmp_total, tied_itself}
 use Rattle.std.proofs.lemmas.Map.Text.{is_eq-slice_cmp}
 use Rattle.std.proofs.lemmas.Map.Lookups.{exact_bytes}
-use Rattle.vault_core_model.specs.Places.{is_behind, key_set, with_key, with_key_by}
+use Rattle.vault_core_model.specs.Places.{comes_after, key_set, with_key, with_key_by}
 use Rattle.vault_core_model.specs.Order.{IsAscending}
 use Rattle.vault_core_laws.proofs.Tests.{swapped}
 
@@ -147,8 +147,8 @@ gt_is Less e = absurd (cc e)
 gt_is Equal e = absurd (cc e)
 gt_is Greater e = refl
 
-behind_trans : (k x a : List ℕ) → is_gt (cmp k x) ≡ true → is_behind x a ≡ true → is_behind k a ≡ true
-behind_trans k x a above behind = by_length (length a == 0) behind
+after_trans : (k x a : List ℕ) → is_gt (cmp k x) ≡ true → comes_after x a ≡ true → comes_after k a ≡ true
+after_trans k x a above after = by_length (length a == 0) after
   where
     by_length : (b : Bool) → (b || is_gt (cmp x a)) ≡ true → (b || is_gt (cmp k a)) ≡ true
     by_length true e = refl
@@ -167,13 +167,13 @@ pick P [] x ys all = all.0
 pick P (w ∷ xs) x ys all = pick P xs x ys all.1
 
 -- after the last key of a page stand the keys of the pages after it
-pub behind_page : (ks : List (List ℕ)) (a : List ℕ) (xs : List (List ℕ)) (x : List ℕ) (ys : List (List ℕ)) → IsRising ks
-    → filter (λ k. is_behind k a) ks ≡ xs ++ x ∷ ys → (length x == 0) ≡ false
-    → filter (λ k. is_behind k x) ks ≡ ys
-behind_page ks a xs x ys rising page named =
-    let there : is_behind x a ≡ true = pick (λ k. is_behind k a ≡ true) xs x ys (subst (AllByRecursion (λ k. is_behind k a ≡ true)) page (passes (λ k. is_behind k a) ks)) in
-    let thin : above x (filter (λ k. is_behind k a) ks) ≡ above x ks = through (λ k. is_behind k a) (λ k. is_gt (cmp k x)) ks (λ k gt. behind_trans k x a gt there) in
-    let rest : above x (xs ++ x ∷ ys) ≡ ys = above-front xs x ys (subst IsRising page (rising-filter (λ k. is_behind k a) ks rising)) in
+pub after_page : (ks : List (List ℕ)) (a : List ℕ) (xs : List (List ℕ)) (x : List ℕ) (ys : List (List ℕ)) → IsRising ks
+    → filter (λ k. comes_after k a) ks ≡ xs ++ x ∷ ys → (length x == 0) ≡ false
+    → filter (λ k. comes_after k x) ks ≡ ys
+after_page ks a xs x ys rising page named =
+    let there : comes_after x a ≡ true = pick (λ k. comes_after k a ≡ true) xs x ys (subst (AllByRecursion (λ k. comes_after k a ≡ true)) page (passes (λ k. comes_after k a) ks)) in
+    let thin : above x (filter (λ k. comes_after k a) ks) ≡ above x ks = through (λ k. comes_after k a) (λ k. is_gt (cmp k x)) ks (λ k gt. after_trans k x a gt there) in
+    let rest : above x (xs ++ x ∷ ys) ≡ ys = above-front xs x ys (subst IsRising page (rising-filter (λ k. comes_after k a) ks rising)) in
     ap (λ (b : Bool). filter (λ k. b || is_gt (cmp k x)) ks) named ∙ sym thin ∙ ap (above x) page ∙ rest
 
 -- ---- keys that are there
@@ -196,13 +196,13 @@ among-set a k ks = among-with a k (key_set ks)
 
 -- ---- keys after one
 
-behind_one : (last : List ℕ) (ks : List (List ℕ)) → (length last == 0) ≡ false → AllByRecursion (λ k. is_behind k last ≡ true) ks → IsOver last ks
-behind_one last [] named all = tt
-behind_one last (k ∷ ks) named all =
-    (gt_is (cmp k last) (sym (ap (λ b. b || is_gt (cmp k last)) named) ∙ all.0), behind_one last ks named all.1)
+after_one : (last : List ℕ) (ks : List (List ℕ)) → (length last == 0) ≡ false → AllByRecursion (λ k. comes_after k last ≡ true) ks → IsOver last ks
+after_one last [] named all = tt
+after_one last (k ∷ ks) named all =
+    (gt_is (cmp k last) (sym (ap (λ b. b || is_gt (cmp k last)) named) ∙ all.0), after_one last ks named all.1)
 
-pub over_behind : (last : List ℕ) (ks : List (List ℕ)) → (length last == 0) ≡ false → IsOver last (filter (λ k. is_behind k last) ks)
-over_behind last ks named = behind_one last (filter (λ k. is_behind k last) ks) named (passes (λ k. is_behind k last) ks)
+pub over_after : (last : List ℕ) (ks : List (List ℕ)) → (length last == 0) ≡ false → IsOver last (filter (λ k. comes_after k last) ks)
+over_after last ks named = after_one last (filter (λ k. comes_after k last) ks) named (passes (λ k. comes_after k last) ks)
 
 pub greater : (j k : List ℕ) → is_gt (cmp j k) ≡ true → cmp j k ≡ Greater
 greater j k e = gt_is (cmp j k) e

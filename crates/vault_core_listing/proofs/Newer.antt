@@ -29,12 +29,12 @@ all_newer m n (h ∷ hs) le rising =
     rw (lt-ltb m h.entry.id (omega (arith, rising.0))) (ap (λ (l : List History). h ∷ l) (all_newer m h.entry.id hs (omega (arith, rising.0)) rising.1))
 
 -- what is newer than one of them is what comes after it
-newer_behind : (n : ℕ) (gs : List History) (h : History) (hs : List History) → IsRising n (gs ++ h ∷ hs) → (n < h.entry.id) × (filter (λ g. nat_lt h.entry.id g.entry.id) (gs ++ h ∷ hs) ≡ hs) × IsRising h.entry.id hs
+newer_after : (n : ℕ) (gs : List History) (h : History) (hs : List History) → IsRising n (gs ++ h ∷ hs) → (n < h.entry.id) × (filter (λ g. nat_lt h.entry.id g.entry.id) (gs ++ h ∷ hs) ≡ hs) × IsRising h.entry.id hs
 unfolding IsRising
-newer_behind n [] h hs rising =
+newer_after n [] h hs rising =
     (rising.0, rw (le-ltb h.entry.id h.entry.id (omega arith)) (all_newer h.entry.id h.entry.id hs (omega arith) rising.1), rising.1)
-newer_behind n (g ∷ gs) h hs rising =
-    let rest = newer_behind g.entry.id gs h hs rising.1 in
+newer_after n (g ∷ gs) h hs rising =
+    let rest = newer_after g.entry.id gs h hs rising.1 in
     (omega (arith, rising.0, rest.0), rw (le-ltb h.entry.id g.entry.id (omega (arith, rest.0))) rest.1, rest.2)
 
 -- ---- the last of them
@@ -101,11 +101,11 @@ listed_up : (v : Vault) (bucket key : List ℕ) (newest : Option ℕ) (n : ℕ) 
 listed_up v bucket key newest n gs [] all rising last here found = tt
 listed_up v bucket key newest n gs (h ∷ hs) all rising last here found =
     let at = held_there bucket key h here.0 in
-    let behind = newer_behind 0 gs h hs rising in
-    let newer : filter (λ g. nat_lt h.entry.id g.entry.id) (held_at v bucket key) ≡ hs = rw all behind.1 in
+    let after = newer_after 0 gs h hs rising in
+    let newer : filter (λ g. nat_lt h.entry.id g.entry.id) (held_at v bucket key) ≡ hs = rw all after.1 in
     let alone : is_current v h ≡ (length hs == 0) = rw (at.held, at.bucket_is, at.key_is, newer) refl in (
       record {
-        is = alone ∙ last_alone h hs behind.2 ∙ ap (λ o. is_that o h.entry.id) (sym last);
+        is = alone ∙ last_alone h hs after.2 ∙ ap (λ o. is_that o h.entry.id) (sym last);
         found = ap (λ o. option_map (λ (g : History). g.entry) o) found.0;
         keyed = at.key_is;
       },

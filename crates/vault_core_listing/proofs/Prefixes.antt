@@ -45,11 +45,11 @@ same_first : (m n : ℕ) → n ≡ m → nat_eq m n ≡ true
 same_first m n e = grind (arith, nat_tests)
 
 pub past : (prefix last key : List ℕ) → cmp last prefix ≡ Greater → begins last prefix ≡ false → cmp key last ≡ Greater → begins key prefix ≡ false
-past [] last key over other behind = absurd (cc other)
-past (x ∷ p) [] key over other behind = absurd (cc over)
-past (x ∷ p) (y ∷ l) [] over other behind = absurd (cc behind)
-past (x ∷ p) (y ∷ l) (z ∷ k) over other behind =
-    by_first (later y x (nat_cmp y x) (cmp l p) refl over) (later z y (nat_cmp z y) (cmp k l) refl behind) (past p l k)
+past [] last key over other after = absurd (cc other)
+past (x ∷ p) [] key over other after = absurd (cc over)
+past (x ∷ p) (y ∷ l) [] over other after = absurd (cc after)
+past (x ∷ p) (y ∷ l) (z ∷ k) over other after =
+    by_first (later y x (nat_cmp y x) (cmp l p) refl over) (later z y (nat_cmp z y) (cmp k l) refl after) (past p l k)
   where
     rest_other : y ≡ x → (nat_eq x y && begins l p) ≡ false → begins l p ≡ false
     rest_other e f = sym (ap (λ b. b && begins l p) (same_first x y e)) ∙ f

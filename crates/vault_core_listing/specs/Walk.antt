@@ -10,9 +10,9 @@ use Rattle.vault_core_model.specs.declared.records.Entry.{Entry}
 use Rattle.vault_core_model.specs.declared.reply.Listed.{Listed}
 use Rattle.vault_core_model.specs.declared.reply.Page.{Page}
 use Rattle.vault_core_model.specs.Vault.{Vault}
-use Rattle.vault_core_model.specs.Places.{held_at, is_behind, keys_of}
+use Rattle.vault_core_model.specs.Places.{held_at, comes_after}
 use Rattle.vault_core_model.specs.ListingOutcome.{asked_for, is_asked_for, listed}
-use Rattle.vault_core_model.specs.Reads.{entry_of, ids_before}
+use Rattle.vault_core_model.specs.Reads.{entry_of, ids_before, later_keys}
 
 -- the page with one entry more while there is room; then it is known that there are more
 abbrev pub grown : ℕ → Page → Listed → Page
@@ -41,11 +41,11 @@ is_past c key = is_gt (slice_cmp nat_cmp key c.prefix) && not (has_prefix c key)
 -- something of that key may be asked for
 abbrev pub is_key_asked : ListVersions → List ℕ → Bool
 is_key_asked c key =
-    has_prefix c key && (is_behind key c.after_key || (bytes_eq key c.after_key && is_some c.after_id))
+    has_prefix c key && (comes_after key c.after_key || (bytes_eq key c.after_key && is_some c.after_id))
 
 -- of that key the entries older than that one are asked for; each is where there is none
 abbrev pub older_than : ListVersions → List ℕ → Option ℕ
-older_than c key = if is_behind key c.after_key then None else c.after_id
+older_than c key = if comes_after key c.after_key then None else c.after_id
 
 -- how many ids of a key are read: one for each entry that the page still takes, and one by which it is known that there are more
 abbrev pub ids_read : ListVersions → Page → ℕ
@@ -79,20 +79,16 @@ has_first c = is_some c.after_id || is_prefix_later c
 abbrev pub asked_first : Vault → ListVersions → List Listed
 asked_first v c = if length (beginning c) == 0 then [] else asked_at v c (beginning c)
 
--- the keys of the bucket after that one
-abbrev pub keys_behind : Vault → List ℕ → List ℕ → List (List ℕ)
-keys_behind v bucket after = filter (λ k. is_behind k after) (keys_of v bucket)
-
 -- the page once it has the entries of all keys after that one
 abbrev pub completed : Vault → ListVersions → Page → List ℕ → Page
-completed v c page after = filled c.most page (flat_map (asked_at v c) (keys_behind v c.bucket after))
+completed v c page after = filled c.most page (flat_map (asked_at v c) (later_keys v c.bucket after))
 
 -- the walk is done with that page, or goes on after a key after at least a page of keys more
 abbrev pub EndsOrAdvances : Vault → ListVersions → Page → List ℕ → Page → Option (List ℕ) → Type 0
 EndsOrAdvances v c page after page' None = page' ≡ completed v c page after
 EndsOrAdvances v c page after page' (Some next) =
     (completed v c page' next ≡ completed v c page after)
-    × (length (keys_behind v c.bucket next) + most_keys ≤ length (keys_behind v c.bucket after))
+    × (length (later_keys v c.bucket next) + most_keys ≤ length (later_keys v c.bucket after))
 
 -- the page that a listing answers
 abbrev pub page_of : Vault → ListVersions → Page

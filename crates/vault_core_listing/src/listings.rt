@@ -4,7 +4,7 @@ ghost use Rattle.vault_core_model.specs.Leaves.{Leaves, ReadsAs};
 ghost use Rattle.vault_core_model.specs.Halts.{ChecksAs, AnswersAs, is_device};
 ghost use Rattle.vault_core_model.specs.Checks.{check};
 ghost use Rattle.std.specs.Str.{bytes_eq};
-ghost use Rattle.vault_core_model.specs.Places.{is_behind};
+ghost use Rattle.vault_core_model.specs.Places.{comes_after};
 ghost use Rattle.vault_core_model.specs.ListingOutcome as outcome;
 ghost use Rattle.vault_core_listing.specs.Walk.{EndsOrAdvances, GrowsBy, IsFirstAsked, asked_at, asked_first, beginning, completed, filled, has_first, has_prefix, ids_read, is_key_asked, is_past, is_prefix_later, newest_id, older_than, page_of};
 
@@ -67,7 +67,7 @@ fn find_page<K: Keeper>(
         more: false,
     };
     list_first(keeper, &mut page, command)?;
-    list_behind(keeper, &mut page, command)?;
+    list_after(keeper, &mut page, command)?;
     Ok(page)
 }
 
@@ -118,7 +118,7 @@ fn list_first<K: Keeper>(
 
 /// Lists what is asked for of the keys after the one at which the listing begins, a page of keys at a
 /// time, up to the first entry that finds the page full.
-fn list_behind<K: Keeper>(
+fn list_after<K: Keeper>(
     keeper: &mut K,
     page: &mut Page,
     command: &ListVersions,
@@ -128,7 +128,7 @@ fn list_behind<K: Keeper>(
 {
     let mut after = beginning(command)?;
     for _ in 0..MOST_PAGES {
-        let Some(next) = list_keys_behind(keeper, page, command, &after)? else {
+        let Some(next) = list_keys_after(keeper, page, command, &after)? else {
             return Ok(());
         };
         after = next;
@@ -137,7 +137,7 @@ fn list_behind<K: Keeper>(
 }
 
 /// Lists what is asked for of the next page of keys, and states after which key to go on.
-fn list_keys_behind<K: Keeper>(
+fn list_keys_after<K: Keeper>(
     keeper: &mut K,
     page: &mut Page,
     command: &ListVersions,
@@ -271,12 +271,12 @@ fn is_past(command: &ListVersions, key: &ObjectKey) -> bool
 fn is_key_asked(command: &ListVersions, key: &ObjectKey) -> bool
     ensures { result ≡ is_key_asked command.now key.now }
 {
-    has_prefix(command, key) && (is_behind(&command.after_key, key) || is_left_of(command, key))
+    has_prefix(command, key) && (comes_after(&command.after_key, key) || is_left_of(command, key))
 }
 
 /// Whether the key comes after that one; every key comes after the empty text.
-fn is_behind(after: &KeyPrefix, key: &ObjectKey) -> bool
-    ensures { result ≡ is_behind key.now after.now }
+fn comes_after(after: &KeyPrefix, key: &ObjectKey) -> bool
+    ensures { result ≡ comes_after key.now after.now }
 {
     let after = after.as_str();
     after.is_empty() || key.as_str() > after
@@ -293,7 +293,7 @@ fn is_left_of(command: &ListVersions, key: &ObjectKey) -> bool
 fn older_than(command: &ListVersions, key: &ObjectKey) -> Option<VersionId>
     ensures { result ≡ older_than command.now key.now }
 {
-    if is_behind(&command.after_key, key) {
+    if comes_after(&command.after_key, key) {
         None
     } else {
         command.after_id

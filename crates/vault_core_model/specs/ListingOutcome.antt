@@ -14,7 +14,7 @@ use Rattle.vault_core_model.specs.declared.reply.Answer.{Answer}
 use Rattle.vault_core_model.specs.declared.reply.Answer.TheVariants as answer
 use Rattle.vault_core_model.specs.declared.reply.Listed.{Listed}
 use Rattle.vault_core_model.specs.Vault.{Vault}
-use Rattle.vault_core_model.specs.Places.{is_held, held_at, is_current, is_behind, keys_of}
+use Rattle.vault_core_model.specs.Places.{is_held, held_at, is_current, comes_after, keys_of}
 use Rattle.vault_core_model.specs.Reads.{entry_of, tenures_of}
 use Rattle.vault_core_model.specs.Checks.{◌>>=◌, check, access}
 
@@ -27,7 +27,7 @@ is_below (Some after) id = nat_lt id after
 
 -- the entry comes after the place after which a listing begins
 abbrev pub is_after : ListVersions → Entry → Bool
-is_after c e = is_behind e.key c.after_key || (bytes_eq e.key c.after_key && is_below c.after_id e.id)
+is_after c e = comes_after e.key c.after_key || (bytes_eq e.key c.after_key && is_below c.after_id e.id)
 
 -- its key begins as asked, and it comes after that place
 abbrev pub is_asked_for : ListVersions → Entry → Bool

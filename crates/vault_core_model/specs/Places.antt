@@ -34,8 +34,8 @@ abbrev pub current : Vault → List ℕ → List ℕ → Option History
 current v bucket key = find (is_current v) (held_at v bucket key)
 
 -- the key comes after that one, by their bytes; every key comes after the empty text
-abbrev pub is_behind : List ℕ → List ℕ → Bool
-is_behind key after = length after == 0 || is_gt (slice_cmp nat_cmp key after)
+abbrev pub comes_after : List ℕ → List ℕ → Bool
+comes_after key after = length after == 0 || is_gt (slice_cmp nat_cmp key after)
 
 -- k before the keys x and xs, or x before the rest, or k once, by how k compares with x
 abbrev pub with_key_by : Ordering → List ℕ → List ℕ → List (List ℕ) → List (List ℕ) → List (List ℕ)

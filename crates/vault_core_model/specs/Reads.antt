@@ -9,7 +9,7 @@ use Rattle.vault_core_model.specs.declared.records.LastSetting.{LastSetting}
 use Rattle.vault_core_model.specs.declared.records.Setting.{Setting}
 use Rattle.vault_core_model.specs.declared.records.Tenure.{Tenure}
 use Rattle.vault_core_model.specs.Vault.{Vault, history_of, last_lock}
-use Rattle.vault_core_model.specs.Places.{held_at, is_held, is_behind, keys_of}
+use Rattle.vault_core_model.specs.Places.{held_at, is_held, comes_after, keys_of}
 
 -- the entry of that id, held or removed
 abbrev pub entry_of : Vault → ℕ → Option Entry
@@ -66,9 +66,13 @@ held_of h = record { id = h.entry.id; marker = h.entry.marker; size = h.entry.si
 abbrev pub entries_of : Vault → List ℕ → List ℕ → List Held
 entries_of v bucket key = map held_of (held_at v bucket key)
 
--- the first of the bucket's keys after that one
+-- the bucket's keys after that one
+abbrev pub later_keys : Vault → List ℕ → List ℕ → List (List ℕ)
+later_keys v bucket after = filter (λ k. comes_after k after) (keys_of v bucket)
+
+-- the first of them
 abbrev pub keys_after : Vault → List ℕ → List ℕ → ℕ → List (List ℕ)
-keys_after v bucket after most = take most (filter (λ k. is_behind k after) (keys_of v bucket))
+keys_after v bucket after most = take most (later_keys v bucket after)
 
 -- the entry of that id is older than that one; each is where none is given
 abbrev pub is_older : Option ℕ → ℕ → Bool
@@ -82,7 +86,7 @@ ids_before v bucket key than most =
 
 -- the names of the first buckets after that text, by their bytes
 abbrev pub buckets_after : Vault → List ℕ → ℕ → List (List ℕ)
-buckets_after v after most = take most (filter (λ name. is_behind name after) (map (λ b. b.name) v.buckets))
+buckets_after v after most = take most (filter (λ name. comes_after name after) (map (λ b. b.name) v.buckets))
 
 -- the removed entries, by rising id
 abbrev pub removed_entries : Vault → List Entry

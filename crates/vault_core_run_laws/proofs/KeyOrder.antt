@@ -78,7 +78,7 @@ one_list (k ∷ ks) (j ∷ js) rk rj f g =
     back : (x : List ℕ) → IsIn x js → IsIn x (k ∷ ks) → IsIn x ks
     back x i = ⊎_elim (λ (e : x ≡ k). absurd (irreflexive j (under_in j j js rj.0 (subst (λ y. IsIn y js) (e ∙ same) i)))) (λ (h : IsIn x ks). h)
 
--- a key that stands after others is none of them
+-- in a rising list no key is in the rest and among the keys before it
 pub later_others : (done rest : List (List ℕ)) (k : List ℕ) → IsRising (done ++ rest) → IsIn k rest → IsIn k done → ⊥
 later_others [] rest k r i j = j
 later_others (x ∷ done) rest k r i j =
@@ -91,7 +91,7 @@ later_others (x ∷ done) rest k r i j =
 
 -- ---- keys that rise are apart
 
--- k is none of these
+-- k differs from each of these
 abbrev pub IsAway : List ℕ → List (List ℕ) → Type 0
 IsAway k [] = Unit {0}
 IsAway k (j ∷ js) = (bytes_eq j k ≡ false) × (bytes_eq k j ≡ false) × IsAway k js

@@ -8,7 +8,7 @@ use Rattle.vault_rules.specs.Rules.{are_rules}
 use Rattle.vault_rules.specs.KeyPlan.{Planned, at_key, key_plan}
 use Rattle.vault_rules.proofs.KeyRepeat.{rises}
 use Rattle.vault_core_model.specs.Vault.{Vault, config_in}
-use Rattle.vault_core_model.specs.Places.{keys_of, is_behind}
+use Rattle.vault_core_model.specs.Places.{keys_of, comes_after}
 use Rattle.vault_core_model.specs.Reads.{entries_of}
 use Rattle.vault_core_model.specs.Change.{changed}
 use Rattle.vault_core_model.specs.Plan.{after_steps, change_of, rules_in, is_mark}
@@ -176,9 +176,9 @@ filter_rises p (k ∷ ks) r = cases (p k) (filter_rises p ks r.1)
     cases true h = (under_each k (filter p ks) (λ x i. under_in k x ks r.0 (in_filter p x ks i).0), h)
     cases false h = h
 
--- a key after the last of rising keys is none of them
-is_later : (k : List ℕ) (ks : List (List ℕ)) (x : List ℕ) → 1 ≤ length (last_key (k ∷ ks)) → IsRising (k ∷ ks) → is_behind x (last_key (k ∷ ks)) ≡ true → IsIn x (k ∷ ks) → ⊥
-is_later k ks x some r behind i =
+-- a key after the last of rising keys isn't among them
+is_later : (k : List ℕ) (ks : List (List ℕ)) (x : List ℕ) → 1 ≤ length (last_key (k ∷ ks)) → IsRising (k ∷ ks) → comes_after x (last_key (k ∷ ks)) ≡ true → IsIn x (k ∷ ks) → ⊥
+is_later k ks x some r after i =
     ⊎_elim (λ (e : x ≡ a). irreflexive a (ap (slice_cmp nat_cmp a) (sym e) ∙ less))
     (λ (m : slice_cmp nat_cmp x a ≡ Less). nat_list_irreflexive a x less m) (up_to_last k ks x r i)
   where
@@ -195,7 +195,7 @@ is_later k ks x some r behind i =
     greater false Equal e f = absurd (cc f)
 
     less : slice_cmp nat_cmp a x ≡ Less
-    less = turn a x (greater (length a == 0) (slice_cmp nat_cmp x a) (not_empty (length a) some) behind)
+    less = turn a x (greater (length a == 0) (slice_cmp nat_cmp x a) (not_empty (length a) some) after)
 
 module _ (v : Vault) (b : List ℕ) (t : ℕ) (done rest : List (List ℕ)) (may : MayRun v b t) (e : keys_of v b ≡ done ++ rest) (ids : HaveIds v (plans_at v b t done)) where
   all_rise : IsRising (done ++ rest)
@@ -205,24 +205,24 @@ module _ (v : Vault) (b : List ℕ) (t : ℕ) (done rest : List (List ℕ)) (may
   as_before x n = other_keys_stay v b t done (plans_at v b t done) [] x may (rising_left done rest all_rise) (sym (append-nil (plans_at v b t done))) ids n
 
   -- the keys after the last that is done are the rest, by what is among them
-  page_by : (a : List ℕ) → ((x : List ℕ) → is_behind x a ≡ true → IsIn x done → ⊥) → ((x : List ℕ) → IsIn x rest → is_behind x a ≡ true)
-      → filter (λ k. is_behind k a) (keys_of (after_steps v b t (plans_at v b t done)) b) ≡ rest
-  page_by a later behind =
-      one_list (filter (λ k. is_behind k a) (keys_of v1 b)) rest (filter_rises (λ k. is_behind k a) (keys_of v1 b) (keys_rise v1 b)) (rising_right done rest all_rise) into out
+  page_by : (a : List ℕ) → ((x : List ℕ) → comes_after x a ≡ true → IsIn x done → ⊥) → ((x : List ℕ) → IsIn x rest → comes_after x a ≡ true)
+      → filter (λ k. comes_after k a) (keys_of (after_steps v b t (plans_at v b t done)) b) ≡ rest
+  page_by a later after =
+      one_list (filter (λ k. comes_after k a) (keys_of v1 b)) rest (filter_rises (λ k. comes_after k a) (keys_of v1 b) (keys_rise v1 b)) (rising_right done rest all_rise) into out
     where
       v1 : Vault
       v1 = after_steps v b t (plans_at v b t done)
 
-      into : (x : List ℕ) → IsIn x (filter (λ k. is_behind k a) (keys_of v1 b)) → IsIn x rest
+      into : (x : List ℕ) → IsIn x (filter (λ k. comes_after k a) (keys_of v1 b)) → IsIn x rest
       into x i =
-          let h = in_filter (λ k. is_behind k a) x (keys_of v1 b) i in
+          let h = in_filter (λ k. comes_after k a) x (keys_of v1 b) i in
           let held = key_held v b x (subst HasAny (as_before x (later x h.1)) (held_key v1 b x h.0)) in
           ⊎_elim (λ (j : IsIn x done). absurd (later x h.1 j)) (λ (j : IsIn x rest). j) (in_append x done rest (subst (IsIn x) e held))
 
-      out : (x : List ℕ) → IsIn x rest → IsIn x (filter (λ k. is_behind k a) (keys_of v1 b))
+      out : (x : List ℕ) → IsIn x rest → IsIn x (filter (λ k. comes_after k a) (keys_of v1 b))
       out x i =
           let held = held_key v b x (subst (IsIn x) (sym e) (append_in x done rest i)) in
-          filter_in (λ k. is_behind k a) x (keys_of v1 b) (behind x i)
+          filter_in (λ k. comes_after k a) x (keys_of v1 b) (after x i)
           (key_held v1 b x (subst HasAny (sym (as_before x (later_others done rest x all_rise i))) held))
 
 pub pages_go_on : PagesGoOn

@@ -92,7 +92,7 @@ OtherKeysStay =
     → MayRun v bucket t → IsRising keys → plans_at v bucket t keys ≡ ps ++ qs → HaveIds v ps → (IsIn key keys → ⊥)
     → entries_of (after_steps v bucket t ps) bucket key ≡ entries_of v bucket key
 
--- a key that stands after others in a rising list is none of them
+-- in a rising list no key is in the rest and among the keys before it
 abbrev pub LaterKeysAreOthers : Type 0
 LaterKeysAreOthers = (done rest : List (List ℕ)) (key : List ℕ) → IsRising (done ++ rest) → IsIn key rest → IsIn key done → ⊥
 

@@ -6,7 +6,7 @@ use Rattle.std.specs.Cmp.Lexicographic.{nat_list_cmp_total}
 use Rattle.std.specs.declared.cmp.Ordering.{Ordering}
 use Rattle.std.specs.declared.cmp.Ordering.TheVariants.{Less, Equal, Greater}
 use Rattle.std.proofs.lemmas.List.Elements.{filter-append}
-use Rattle.vault_core_model.specs.Places.{is_behind}
+use Rattle.vault_core_model.specs.Places.{comes_after}
 use Rattle.vault_core_run_laws.specs.KeyOrder.{IsIn, IsUnder, IsRising}
 use Rattle.vault_core_run_laws.specs.KeyRuns.{last_key}
 use Rattle.vault_core_run_laws.proofs.KeyOrder.{irreflexive, under_in, same_key, turn, turn_back, under_each}
@@ -16,10 +16,10 @@ use Rattle.vault_core_runs.proofs.Prefixes.{cmp}
 
 -- those after a place, and those that are not
 abbrev pub beyond : List ℕ → List (List ℕ) → List (List ℕ)
-beyond a ks = filter (λ k. is_behind k a) ks
+beyond a ks = filter (λ k. comes_after k a) ks
 
 abbrev pub up_to : List ℕ → List (List ℕ) → List (List ℕ)
-up_to a ks = filter (λ k. not (is_behind k a)) ks
+up_to a ks = filter (λ k. not (comes_after k a)) ks
 
 -- ---- what is among those that pass
 
@@ -69,21 +69,21 @@ wider p q (k ∷ ks) implies = by_test (p k) refl (wider p q ks implies)
 
 -- ---- places
 
-later_too : (j k a : List ℕ) → cmp k j ≡ Less → is_behind k a ≡ true → is_behind j a ≡ true
+later_too : (j k a : List ℕ) → cmp k j ≡ Less → comes_after k a ≡ true → comes_after j a ≡ true
 later_too j k a less there = by_length (length a == 0) there
   where
     by_length : (b : Bool) → (b || is_gt (cmp k a)) ≡ true → (b || is_gt (cmp j a)) ≡ true
     by_length true e = refl
     by_length false e = ap is_gt (turn_back j a (nat_list_cmp_total.trans a k j (turn a k (gt_is (cmp k a) e)) less))
 
-is_greater : (k a : List ℕ) → (length a == 0) ≡ false → is_behind k a ≡ is_gt (cmp k a)
+is_greater : (k a : List ℕ) → (length a == 0) ≡ false → comes_after k a ≡ is_gt (cmp k a)
 is_greater k a named = ap (λ b. b || is_gt (cmp k a)) named
 
-pub onward : (a n : List ℕ) → is_behind n a ≡ true → (length n == 0) ≡ false → IsOnward a n
+pub onward : (a n : List ℕ) → comes_after n a ≡ true → (length n == 0) ≡ false → IsOnward a n
 onward a n there named = λ k h. later_too k n a (turn n k (gt_is (cmp k n) (sym (is_greater k n named) ∙ h))) there
 
 -- where one key comes after a place, so do all after it
-all_beyond : (a k : List ℕ) (ks : List (List ℕ)) → IsUnder k ks → is_behind k a ≡ true → (beyond a ks ≡ ks) × (up_to a ks ≡ [])
+all_beyond : (a k : List ℕ) (ks : List (List ℕ)) → IsUnder k ks → comes_after k a ≡ true → (beyond a ks ≡ ks) × (up_to a ks ≡ [])
 all_beyond a k [] under there = (refl, refl)
 all_beyond a k (j ∷ js) under there =
     let e = later_too j k a under.0 there in
@@ -94,9 +94,9 @@ all_beyond a k (j ∷ js) under there =
 
 pub split_place : (a : List ℕ) (ks : List (List ℕ)) → IsRising ks → up_to a ks ++ beyond a ks ≡ ks
 split_place a [] r = refl
-split_place a (k ∷ ks) r = by_test (is_behind k a) refl (split_place a ks r.1)
+split_place a (k ∷ ks) r = by_test (comes_after k a) refl (split_place a ks r.1)
   where
-    by_test : (b : Bool) → is_behind k a ≡ b → up_to a ks ++ beyond a ks ≡ ks → (if not b then k ∷ up_to a ks else up_to a ks) ++ (if b then k ∷ beyond a ks else beyond a ks) ≡ k ∷ ks
+    by_test : (b : Bool) → comes_after k a ≡ b → up_to a ks ++ beyond a ks ≡ ks → (if not b then k ∷ up_to a ks else up_to a ks) ++ (if b then k ∷ beyond a ks else beyond a ks) ≡ k ∷ ks
     by_test true e rest =
         let all = all_beyond a k ks r.0 e in
         ap (λ l. l ++ k ∷ beyond a ks) all.1 ∙ ap (λ (l : List (List ℕ)). k ∷ l) all.0
@@ -117,23 +117,23 @@ none_up p (k ∷ ks) = by_test (p k) refl (none_up p ks)
 
 -- no key lies between a place and itself
 pub none_between : (a : List ℕ) (ks : List (List ℕ)) → up_to a (beyond a ks) ≡ []
-none_between a ks = none_up (λ k. is_behind k a) ks
+none_between a ks = none_up (λ k. comes_after k a) ks
 
 module _ (ks : List (List ℕ)) (a s : List ℕ) (rising : IsRising ks) (on : IsOnward a s) where
   -- those between two places, and those after the second
   pub rest_joined : up_to s (beyond a ks) ++ beyond s ks ≡ beyond a ks
   rest_joined =
-      ap (λ l. up_to s (beyond a ks) ++ l) (sym (through (λ k. is_behind k a) (λ k. is_behind k s) ks on))
-      ∙ split_place s (beyond a ks) (filter_rises (λ k. is_behind k a) ks rising)
+      ap (λ l. up_to s (beyond a ks) ++ l) (sym (through (λ k. comes_after k a) (λ k. comes_after k s) ks on))
+      ∙ split_place s (beyond a ks) (filter_rises (λ k. comes_after k a) ks rising)
 
   -- those between the first and the second, and between the second and a third
   pub joined : (n : List ℕ) → IsOnward s n → up_to s (beyond a ks) ++ up_to n (beyond s ks) ≡ up_to n (beyond a ks)
   joined n further =
       sym (ap (up_to n) (sym rest_joined)
-      ∙ filter-append (λ k. not (is_behind k n)) (up_to s (beyond a ks)) (beyond s ks)
-      ∙ ap (λ l. l ++ up_to n (beyond s ks)) (wider (λ k. not (is_behind k s)) (λ k. not (is_behind k n)) (beyond a ks) (λ k h. not_further k (is_behind k n) refl h)))
+      ∙ filter-append (λ k. not (comes_after k n)) (up_to s (beyond a ks)) (beyond s ks)
+      ∙ ap (λ l. l ++ up_to n (beyond s ks)) (wider (λ k. not (comes_after k s)) (λ k. not (comes_after k n)) (beyond a ks) (λ k h. not_further k (comes_after k n) refl h)))
     where
-      not_further : (k : List ℕ) (b : Bool) → is_behind k n ≡ b → not (is_behind k s) ≡ true → not b ≡ true
+      not_further : (k : List ℕ) (b : Bool) → comes_after k n ≡ b → not (comes_after k s) ≡ true → not b ≡ true
       not_further k true e h = absurd (cc (sym h ∙ ap not (further k e)))
       not_further k false e h = refl
 
@@ -158,7 +158,7 @@ page_cut [] rest rising some named = absurd (omega arith)
 page_cut (k ∷ []) rest rising some named =
     ap (λ b. if not b then k ∷ up_to k rest else up_to k rest) own ∙ ap (λ (l : List (List ℕ)). k ∷ l) (none_later rest rising.0)
   where
-    own : is_behind k k ≡ false
+    own : comes_after k k ≡ false
     own = is_greater k k named ∙ not_own k (cmp k k) refl
 
     none_later : (js : List (List ℕ)) → IsUnder k js → up_to k js ≡ []
@@ -178,8 +178,8 @@ pub record IsPage (a : List ℕ) (ks page : List (List ℕ)) (next : List ℕ) :
 
 pub page_of : (a : List ℕ) (ks page rest : List (List ℕ)) → IsRising ks → beyond a ks ≡ page ++ rest → 1 ≤ length page → (length (last_key page) == 0) ≡ false → IsPage a ks page (last_key page)
 page_of a ks page rest rising cut some named = record {
-  on = onward a (last_key page) (passes (λ k. is_behind k a) ks (last_key page) (subst (IsIn (last_key page)) (sym cut) (last_in page rest some))) named;
-  between = ap (up_to (last_key page)) cut ∙ page_cut page rest (subst IsRising cut (filter_rises (λ k. is_behind k a) ks rising)) some named;
+  on = onward a (last_key page) (passes (λ k. comes_after k a) ks (last_key page) (subst (IsIn (last_key page)) (sym cut) (last_in page rest some))) named;
+  between = ap (up_to (last_key page)) cut ∙ page_cut page rest (subst IsRising cut (filter_rises (λ k. comes_after k a) ks rising)) some named;
 }
 
 -- ---- what keys give up to a place before which they give nothing
@@ -220,10 +220,10 @@ pub nothing_of : {X : Type 0} (f : List ℕ → List X) (ks : List (List ℕ)) �
 nothing_of f [] none = refl
 nothing_of f (k ∷ ks) none = ap (λ l. l ++ flat_map f ks) (none k (inl refl)) ∙ nothing_of f ks (λ j i. none j (inr i))
 
-pub up_to_one : {X : Type 0} (f : List ℕ → List X) (a p : List ℕ) (ks : List (List ℕ)) → (length p == 0) ≡ false → is_behind p a ≡ true → IsRising ks
-    → ((k : List ℕ) → is_behind k a ≡ true → cmp k p ≡ Less → f k ≡ []) → ((IsIn p ks → ⊥) → f p ≡ [])
+pub up_to_one : {X : Type 0} (f : List ℕ → List X) (a p : List ℕ) (ks : List (List ℕ)) → (length p == 0) ≡ false → comes_after p a ≡ true → IsRising ks
+    → ((k : List ℕ) → comes_after k a ≡ true → cmp k p ≡ Less → f k ≡ []) → ((IsIn p ks → ⊥) → f p ≡ [])
     → flat_map f (up_to p (beyond a ks)) ≡ f p
 up_to_one f a p ks named there rising low absent =
-    only_at f p (beyond a ks) named (filter_rises (λ k. is_behind k a) ks rising)
-    (λ k i less. low k (passes (λ j. is_behind j a) ks k i) less)
-    (λ none. absent (λ i. none (filter_in (λ k. is_behind k a) p ks there i)))
+    only_at f p (beyond a ks) named (filter_rises (λ k. comes_after k a) ks rising)
+    (λ k i less. low k (passes (λ j. comes_after j a) ks k i) less)
+    (λ none. absent (λ i. none (filter_in (λ k. comes_after k a) p ks there i)))

@@ -8,7 +8,7 @@ use Rattle.std.specs.declared.cmp.Ordering.TheVariants.{Less, Equal, Greater}
 use Rattle.std.proofs.lemmas.Bool.{and_parts, or_parts}
 use Rattle.std.proofs.Math.ListN.{drop_of_length-le}
 use Rattle.vault_rules.specs.declared.rule.Rule.{Rule}
-use Rattle.vault_core_model.specs.Places.{is_behind}
+use Rattle.vault_core_model.specs.Places.{comes_after}
 use Rattle.vault_core_run_laws.proofs.KeyOrder.{same_key, turn, turn_back}
 use Rattle.vault_core_runs.specs.Ranges.{begins, is_nearer, is_next, is_ruled, nearer, nearest}
 use Rattle.vault_core_runs.proofs.Prefixes.{before, cmp, past, starts, starts_itself}
@@ -26,7 +26,7 @@ not_empty x xs = grind arith
 
 -- ---- a prefix that begins a key, and no text before it, comes after that text
 
-ahead_of : (k place q : List ℕ) → is_behind k place ≡ true → starts place q ≡ false → starts k q ≡ true → is_gt (cmp q place) ≡ true
+ahead_of : (k place q : List ℕ) → comes_after k place ≡ true → starts place q ≡ false → starts k q ≡ true → is_gt (cmp q place) ≡ true
 ahead_of k [] [] there other here = absurd (cc other)
 ahead_of k [] (x ∷ q) there other here = refl
 ahead_of k (y ∷ l) q there other here = by_order (cmp q (y ∷ l)) refl
@@ -39,7 +39,7 @@ ahead_of k (y ∷ l) q there other here = by_order (cmp q (y ∷ l)) refl
     by_order Equal e = absurd (cc (sym (starts_itself q) ∙ subst (λ z. starts z q ≡ false) (sym (same_key q (y ∷ l) e)) other))
     by_order Less e = absurd (cc (sym here ∙ past q (y ∷ l) k (turn_back (y ∷ l) q e) other gone))
 
-ahead : (k place : List ℕ) (r : Rule) → is_behind k place ≡ true → begins place r ≡ false → begins k r ≡ true → is_gt (cmp r.prefix place) ≡ true
+ahead : (k place : List ℕ) (r : Rule) → comes_after k place ≡ true → begins place r ≡ false → begins k r ≡ true → is_gt (cmp r.prefix place) ≡ true
 ahead k place r there other here =
     let parts = and_parts r.enabled (starts k r.prefix) here in
     ahead_of k place r.prefix there (sym (ap (λ c. c && starts place r.prefix) parts.0) ∙ other) parts.1
@@ -108,7 +108,7 @@ kept_all : (k place : List ℕ) (found : Option (List ℕ)) (rs : List Rule) →
 kept_all k place found [] most = most
 kept_all k place found (r ∷ rs) most = kept_all k place (nearer place r found) rs (kept_most k place r found most)
 
-reached : (k place : List ℕ) (found : Option (List ℕ)) (rs : List Rule) → is_behind k place ≡ true → is_ruled rs place ≡ false → is_ruled rs k ≡ true → is_at_most k (nearest place found rs) ≡ true
+reached : (k place : List ℕ) (found : Option (List ℕ)) (rs : List Rule) → comes_after k place ≡ true → is_ruled rs place ≡ false → is_ruled rs k ≡ true → is_at_most k (nearest place found rs) ≡ true
 reached k place found [] there out ruled = absurd (cc ruled)
 reached k place found (r ∷ rs) there out ruled =
     let parts = or_parts (begins place r) (is_ruled rs place) out in
@@ -122,7 +122,7 @@ reached k place found (r ∷ rs) there out ruled =
 
 -- with nothing found, no key after the place is ruled
 pub unruled_all : (rules : List Rule) (place : List ℕ) → is_ruled rules place ≡ false → nearest place None rules ≡ None
-    → (k : List ℕ) → is_behind k place ≡ true → is_ruled rules k ≡ false
+    → (k : List ℕ) → comes_after k place ≡ true → is_ruled rules k ≡ false
 unruled_all rules place out none k there = by_test (is_ruled rules k) refl
   where
     by_test : (b : Bool) → is_ruled rules k ≡ b → b ≡ false
@@ -131,7 +131,7 @@ unruled_all rules place out none k there = by_test (is_ruled rules k) refl
 
 -- else none before what is found
 pub unruled_before : (rules : List Rule) (place p : List ℕ) → is_ruled rules place ≡ false → nearest place None rules ≡ Some p
-    → (k : List ℕ) → is_behind k place ≡ true → cmp k p ≡ Less → is_ruled rules k ≡ false
+    → (k : List ℕ) → comes_after k place ≡ true → cmp k p ≡ Less → is_ruled rules k ≡ false
 unruled_before rules place p out found k there less = by_test (is_ruled rules k) refl
   where
     by_test : (b : Bool) → is_ruled rules k ≡ b → b ≡ false

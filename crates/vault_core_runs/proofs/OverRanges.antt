@@ -13,8 +13,8 @@ use Rattle.vault_core_model.specs.declared.halt.Halt.{Halt}
 use Rattle.vault_core_model.specs.declared.halt.Halt.TheVariants as halt
 use Rattle.vault_core_model.specs.declared.reply.Counts.{Counts}
 use Rattle.vault_core_model.specs.Vault.{Vault}
-use Rattle.vault_core_model.specs.Places.{is_behind, keys_of}
-use Rattle.vault_core_model.specs.Reads.{entries_of, keys_after}
+use Rattle.vault_core_model.specs.Places.{comes_after, keys_of}
+use Rattle.vault_core_model.specs.Reads.{entries_of, keys_after, later_keys}
 use Rattle.vault_core_model.specs.Plan.{counts, plan, rules_in}
 use Rattle.vault_core_run_laws.specs.KeyOrder.{IsIn, IsRising}
 use Rattle.vault_core_run_laws.specs.KeyRuns.{MayRun, plan_at, plans_at, last_key}
@@ -22,7 +22,7 @@ use Rattle.vault_core_run_laws.proofs.KeyOrder.{one_list}
 use Rattle.vault_core_run_laws.proofs.Keys.{HasAny, held_key, key_held}
 use Rattle.vault_core_run_laws.proofs.RunLaws.{plans_are_key_by_key, bucket_keys_rise, other_keys_stay, rising_left}
 use Rattle.vault_core_runs.specs.Making.{IsLastKey, MakesAll, MakesUpTo, plus}
-use Rattle.vault_core_runs.specs.Ranges.{GoesOn, IsOnward, is_ruled, later_keys, keys_between, nearest}
+use Rattle.vault_core_runs.specs.Ranges.{GoesOn, IsOnward, is_ruled, keys_between, nearest}
 use Rattle.vault_core_runs.proofs.Making.{MakesAll-then, MakesAll-first, MakesUpTo-fault, MakesUpTo-more, same_counts}
 use Rattle.vault_core_runs.proofs.Nearest.{found_after, found_named, unruled_all, unruled_before}
 use Rattle.vault_core_runs.proofs.OverKeys.{may_go_on, same_plans, plans_at-append}
@@ -51,35 +51,35 @@ GoesOn-err (Err f) e v b t a x y v' h m = subst (λ (k : Halt). MakesUpTo v b t 
 
 between_rises : (v : Vault) (b a s : List ℕ) → IsRising (keys_between v b a s)
 between_rises v b a s =
-    filter_rises (λ k. not (is_behind k s)) (later_keys v b a) (filter_rises (λ k. is_behind k a) (keys_of v b) (bucket_keys_rise v b))
+    filter_rises (λ k. not (comes_after k s)) (later_keys v b a) (filter_rises (λ k. comes_after k a) (keys_of v b) (bucket_keys_rise v b))
 
 -- ---- what is made between two places leaves the keys after them
 
 module _ (v v1 : Vault) (b : List ℕ) (t : ℕ) (a s : List ℕ) (x y : Counts) (may : MayRun v b t) (m : MakesAll v b t (plans_at v b t (keys_between v b a s)) x y v1) where
-  as_before : (k : List ℕ) → is_behind k s ≡ true → entries_of v1 b k ≡ entries_of v b k
+  as_before : (k : List ℕ) → comes_after k s ≡ true → entries_of v1 b k ≡ entries_of v b k
   as_before k there =
       let done = keys_between v b a s in
       ap (λ u. entries_of u b k) m.left
       ∙ other_keys_stay v b t done (plans_at v b t done) [] k may (between_rises v b a s) (sym (append-nil (plans_at v b t done))) m.ids
-      (λ i. out ((in_filter (λ j. not (is_behind j s)) k (later_keys v b a) i).1))
+      (λ i. out ((in_filter (λ j. not (comes_after j s)) k (later_keys v b a) i).1))
     where
-      out : not (is_behind k s) ≡ true → ⊥
+      out : not (comes_after k s) ≡ true → ⊥
       out h = absurd (cc (sym h ∙ ap not there))
 
   keys_stay : later_keys v1 b s ≡ later_keys v b s
   keys_stay =
       one_list (later_keys v1 b s) (later_keys v b s)
-      (filter_rises (λ k. is_behind k s) (keys_of v1 b) (bucket_keys_rise v1 b)) (filter_rises (λ k. is_behind k s) (keys_of v b) (bucket_keys_rise v b)) into out
+      (filter_rises (λ k. comes_after k s) (keys_of v1 b) (bucket_keys_rise v1 b)) (filter_rises (λ k. comes_after k s) (keys_of v b) (bucket_keys_rise v b)) into out
     where
       into : (k : List ℕ) → IsIn k (later_keys v1 b s) → IsIn k (later_keys v b s)
       into k i =
-          let h = in_filter (λ j. is_behind j s) k (keys_of v1 b) i in
-          filter_in (λ j. is_behind j s) k (keys_of v b) h.1 (key_held v b k (subst HasAny (as_before k h.1) (held_key v1 b k h.0)))
+          let h = in_filter (λ j. comes_after j s) k (keys_of v1 b) i in
+          filter_in (λ j. comes_after j s) k (keys_of v b) h.1 (key_held v b k (subst HasAny (as_before k h.1) (held_key v1 b k h.0)))
 
       out : (k : List ℕ) → IsIn k (later_keys v b s) → IsIn k (later_keys v1 b s)
       out k i =
-          let h = in_filter (λ j. is_behind j s) k (keys_of v b) i in
-          filter_in (λ j. is_behind j s) k (keys_of v1 b) h.1 (key_held v1 b k (subst HasAny (sym (as_before k h.1)) (held_key v b k h.0)))
+          let h = in_filter (λ j. comes_after j s) k (keys_of v b) i in
+          filter_in (λ j. comes_after j s) k (keys_of v1 b) h.1 (key_held v1 b k (subst HasAny (sym (as_before k h.1)) (held_key v b k h.0)))
 
   -- a run may go on there
   pub may_from : MayRun v1 b t × (rules_in v1 b ≡ rules_in v b)
@@ -92,7 +92,7 @@ module _ (v v1 : Vault) (b : List ℕ) (t : ℕ) (a s : List ℕ) (x y : Counts)
   rest_plans : IsOnward a s → plans_at v1 b t (later_keys v1 b s) ≡ plans_at v b t (later_keys v b s)
   rest_plans on =
       ap (plans_at v1 b t) keys_stay
-      ∙ later_plans (later_keys v b s) (later_keys v b a) (filter_rises (λ k. is_behind k a) (keys_of v b) (bucket_keys_rise v b)) (rest_joined (keys_of v b) a s (bucket_keys_rise v b) on)
+      ∙ later_plans (later_keys v b s) (later_keys v b a) (filter_rises (λ k. comes_after k a) (keys_of v b) (bucket_keys_rise v b)) (rest_joined (keys_of v b) a s (bucket_keys_rise v b) on)
 
   rest_parts : IsOnward a s → plans_at v b t (keys_between v b a s) ++ plans_at v b t (later_keys v b s) ≡ plans_at v b t (later_keys v b a)
   rest_parts on =
@@ -101,7 +101,7 @@ module _ (v v1 : Vault) (b : List ℕ) (t : ℕ) (a s : List ℕ) (x y : Counts)
   -- those up to a third place
   next_plans : (n : List ℕ) → IsOnward a s → IsOnward s n → plans_at v1 b t (keys_between v1 b s n) ≡ plans_at v b t (keys_between v b s n)
   next_plans n on further =
-      ap (λ ks. plans_at v1 b t (filter (λ k. not (is_behind k n)) ks)) keys_stay
+      ap (λ ks. plans_at v1 b t (filter (λ k. not (comes_after k n)) ks)) keys_stay
       ∙ later_plans (keys_between v b s n) (keys_between v b a n) (between_rises v b a n) (joined (keys_of v b) a s (bucket_keys_rise v b) on n further)
 
   next_parts : (n : List ℕ) → IsOnward a s → IsOnward s n → plans_at v b t (keys_between v b a s) ++ plans_at v b t (keys_between v b s n) ≡ plans_at v b t (keys_between v b a n)
@@ -152,13 +152,13 @@ module _ (v : Vault) (b : List ℕ) (t : ℕ) (rules : List Rule) (a : List ℕ)
   pub goes_to_end : (x : Counts) → nearest a None rules ≡ None → GoesOn (Ok None) v b t a x x v
   goes_to_end x none =
       makes_none v v b t (plans_at v b t (later_keys v b a)) x
-      (nothing_of (plan_at v b t) (later_keys v b a) (λ k i. none_ruled k (unruled_all rules a out none k (in_filter (λ j. is_behind j a) k (keys_of v b) i).1))) refl
+      (nothing_of (plan_at v b t) (later_keys v b a) (λ k i. none_ruled k (unruled_all rules a out none k (in_filter (λ j. comes_after j a) k (keys_of v b) i).1))) refl
 
   module _ (p : List ℕ) (found : nearest a None rules ≡ Some p) where
     named : (length p == 0) ≡ false
     named = found_named rules a p found
 
-    there : is_behind p a ≡ true
+    there : comes_after p a ≡ true
     there = by_length (length a == 0)
       where
         by_length : (c : Bool) → (c || is_gt (cmp p a)) ≡ true
@@ -215,7 +215,7 @@ module _ (v : Vault) (b : List ℕ) (t : ℕ) (a : List ℕ) (keys : List (List 
   cut = sym (take-append-drop most_keys (later_keys v b a)) ∙ ap (λ l. l ++ rest) (sym is)
 
   pub page_rises : IsRising keys
-  page_rises = rising_left keys rest (subst IsRising cut (filter_rises (λ k. is_behind k a) (keys_of v b) (bucket_keys_rise v b)))
+  page_rises = rising_left keys rest (subst IsRising cut (filter_rises (λ k. comes_after k a) (keys_of v b) (bucket_keys_rise v b)))
 
   -- a halt within it, and a fault after it
   pub stops_in_page : (e : Halt) (x y : Counts) (v2 : Vault) → MakesUpTo v b t (plans_at v b t keys) e x y v2 → MakesUpTo v b t (plans_at v b t (later_keys v b a)) e x y v2

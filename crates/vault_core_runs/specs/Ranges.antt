@@ -7,7 +7,8 @@ use Rattle.vault_rules.specs.declared.rule.Rule.{Rule}
 use Rattle.vault_core_model.specs.declared.halt.Halt.{Halt}
 use Rattle.vault_core_model.specs.declared.reply.Counts.{Counts}
 use Rattle.vault_core_model.specs.Vault.{Vault}
-use Rattle.vault_core_model.specs.Places.{is_behind, keys_of}
+use Rattle.vault_core_model.specs.Places.{comes_after, keys_of}
+use Rattle.vault_core_model.specs.Reads.{later_keys}
 use Rattle.vault_core_run_laws.specs.KeyRuns.{plans_at}
 use Rattle.vault_core_runs.specs.Making.{MakesAll, MakesUpTo}
 
@@ -36,17 +37,13 @@ abbrev pub nearest : List ℕ → Option (List ℕ) → List Rule → Option (Li
 nearest place found [] = found
 nearest place found (r ∷ rs) = nearest place (nearer place r found) rs
 
--- the keys of a bucket after a place
-abbrev pub later_keys : Vault → List ℕ → List ℕ → List (List ℕ)
-later_keys v bucket place = filter (λ k. is_behind k place) (keys_of v bucket)
-
--- those of them that are not after a later one
+-- the keys of a bucket after a place that are not after a later one
 abbrev pub keys_between : Vault → List ℕ → List ℕ → List ℕ → List (List ℕ)
-keys_between v bucket place next = filter (λ k. not (is_behind k next)) (later_keys v bucket place)
+keys_between v bucket place next = filter (λ k. not (comes_after k next)) (later_keys v bucket place)
 
 -- what comes after the next place comes after this one
 abbrev pub IsOnward : List ℕ → List ℕ → Type 0
-IsOnward place next = (k : List ℕ) → is_behind k next ≡ true → is_behind k place ≡ true
+IsOnward place next = (k : List ℕ) → comes_after k next ≡ true → comes_after k place ≡ true
 
 -- a run goes on from a place: to a next one, where the plans of the keys between are made; to the end, where those of all later keys are; or up to a halt within them
 abbrev pub GoesOn : Result (Option (List ℕ)) Halt → Vault → List ℕ → ℕ → List ℕ → Counts → Counts → Vault → Type 0

@@ -10,6 +10,7 @@ use Rattle.vault_core_model.specs.declared.records.Entry.{Entry}
 use Rattle.vault_core_model.specs.declared.records.History.{History}
 use Rattle.vault_core_model.specs.declared.records.Removal.{Removal}
 use Rattle.vault_core_model.specs.declared.records.Tenure.{Tenure}
+use Rattle.vault_core_model.specs.Checks.{is_own}
 use Rattle.vault_core_model.specs.Vault.{Vault}
 use Rattle.vault_core_model.specs.Sound.{AreTenures, HasItsBytes, HasTenures, HasTenuresAs, IsWhole, IsWholeAs, IsWithBucket, Sound, last_tenure}
 use Rattle.vault_core_model.specs.Totals.{Share, share, shares_from, shares_of, removal_day, items_by, items_in, over_departments, admitted_bytes, received_bytes, held_bytes, removed_bytes, handed_bytes}
@@ -17,7 +18,7 @@ use Rattle.vault_core_laws.proofs.Balance.{conserved, each, one_place, over}
 use Rattle.vault_core_laws.proofs.Items.{by-cons}
 use Rattle.vault_core_laws.proofs.Lists.{All-weaker}
 use Rattle.vault_core_laws.proofs.Tenures.{owner_of}
-use Rattle.vault_core_worm_laws.specs.Stored.{StandsOnce, EachStandsOnce, content_size, all_stored_bytes, is_department, is_version_of, stored_bytes}
+use Rattle.vault_core_worm_laws.specs.Stored.{StandsOnce, EachStandsOnce, content_size, all_stored_bytes, is_version_of, stored_bytes}
 
 held_or_gone : (e : Entry) (o : Option Removal) (content : Option (List ℕ)) → HasItsBytes o content e → ((o ≡ None) × ((bytes : List ℕ) × (content ≡ Some bytes) × (length bytes ≡ e.size))) ⊎ (IsSome o × (content ≡ None))
 held_or_gone e None None has = absurd has
@@ -52,7 +53,7 @@ if_none true = refl
 if_none false = refl
 
 held_by : (dept : List ℕ) (size : ℕ) (r : Option Removal) (first : Bool) (t : Tenure) (ts : List Tenure)
-    → sum_by held_size (items_by dept (shares_from size r first (t ∷ ts))) ≡ (if is_department dept (option_map (λ x. x.dept) (last_tenure (t ∷ ts))) then if_held (removal_day r) size 0 else 0)
+    → sum_by held_size (items_by dept (shares_from size r first (t ∷ ts))) ≡ (if is_own (option_map (λ x. x.dept) (last_tenure (t ∷ ts))) dept then if_held (removal_day r) size 0 else 0)
 held_by dept size r first t [] = omega (arith, by-cons held_size dept (share size first t (removal_day r) true) [])
 held_by dept size r first t (u ∷ us) = omega (
   arith,
@@ -67,18 +68,18 @@ stands_if b h = if b then content_size h else 0
 
 -- while it is held its last tenure is its bucket's department's; once it is removed nothing stands
 of_removal : (v : Vault) (dept : List ℕ) (h : History) (r : Option Removal) (content : Option (List ℕ)) → HasItsBytes r content h.entry → IsWithBucket v r h
-    → (if is_department dept (option_map (λ x. x.dept) (last_tenure h.tenures)) then if_held (removal_day r) h.entry.size 0 else 0) ≡ (if is_department dept (owner_of v h.entry.bucket) then length (unwrap_or content []) else 0)
+    → (if is_own (option_map (λ x. x.dept) (last_tenure h.tenures)) dept then if_held (removal_day r) h.entry.size 0 else 0) ≡ (if is_own (owner_of v h.entry.bucket) dept then length (unwrap_or content []) else 0)
 of_removal v dept h None content has with =
     rw (with, sized h.entry None content has) refl
 of_removal v dept h (Some r) content has with =
-    rw (sym (sized h.entry (Some r) content has)) (if_none (is_department dept (option_map (λ x. x.dept) (last_tenure h.tenures))) ∙ sym (if_none (is_department dept (owner_of v h.entry.bucket))))
+    rw (sym (sized h.entry (Some r) content has)) (if_none (is_own (option_map (λ x. x.dept) (last_tenure h.tenures)) dept) ∙ sym (if_none (is_own (owner_of v h.entry.bucket) dept)))
 
 held_of : (v : Vault) (dept : List ℕ) (h : History) (ts : List Tenure) (marker : Bool) → h.tenures ≡ ts → IsWholeAs marker h.entry h.content h.settings → HasTenuresAs marker v h
-    → sum_by held_size (items_by dept (shares_of h)) ≡ stands_if (not marker && is_department dept (owner_of v h.entry.bucket)) h
+    → sum_by held_size (items_by dept (shares_of h)) ≡ stands_if (not marker && is_own (owner_of v h.entry.bucket) dept) h
 held_of v dept h ts true is whole has = let e = has in rw e refl
 held_of v dept h [] false is whole has = absurd (subst (λ xs. AreTenures v h.entry xs) is has.0)
 held_of v dept h (t ∷ ts) false is whole has =
-    let P : List Tenure → Type 0 = λ xs. sum_by held_size (items_by dept (shares_from h.entry.size h.entry.removal true xs)) ≡ (if is_department dept (option_map (λ x. x.dept) (last_tenure xs)) then if_held (removal_day h.entry.removal) h.entry.size 0 else 0) in
+    let P : List Tenure → Type 0 = λ xs. sum_by held_size (items_by dept (shares_from h.entry.size h.entry.removal true xs)) ≡ (if is_own (option_map (λ x. x.dept) (last_tenure xs)) dept then if_held (removal_day h.entry.removal) h.entry.size 0 else 0) in
     subst P (sym is) (held_by dept h.entry.size h.entry.removal true t ts) ∙ of_removal v dept h h.entry.removal h.content whole.1 has.2
 
 kept : (h : History) (rest : List History) (b : Bool) → sum_by content_size (if b then h ∷ rest else rest) ≡ stands_if b h + sum_by content_size rest

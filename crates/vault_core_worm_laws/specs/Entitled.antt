@@ -48,7 +48,7 @@ IsCausedByRight v (cause.Request name) = HasRight v name right.DeleteVersion
 IsCausedByRight v (cause.Bypass name) = HasRight v name right.DeleteVersion
 IsCausedByRight v (cause.Rule rule) = Unit {0}
 
--- the rights behind the change
+-- the rights after the change
 abbrev pub IsEntitled : Vault → ℕ → Change → Type 0
 IsEntitled v t (Admit a) = IsAdmitter v a.history.entry.marker a.history.entry.by × IsFirstBy v a.history.entry.by a.history.settings
 IsEntitled v t (AddSetting id s) = IsSetByRight v t (lock_of v id) s

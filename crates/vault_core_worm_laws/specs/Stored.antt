@@ -1,8 +1,8 @@
 -- Where the bytes of each version stand that was ever admitted.
 use Rattle.std.specs.Prelude.{◌≡◌, ◌⊎◌, ◌&&◌, ℕ, Bool, true, false, not, List, [], length, filter, sum_by, Option, unwrap_or, Some, None, option_map, IsSome}
 use Rattle.std.specs.List.{AllByRecursion}
-use Rattle.std.specs.Str.{bytes_eq}
 use Rattle.vault_core_model.specs.declared.records.History.{History}
+use Rattle.vault_core_model.specs.Checks.{is_own}
 use Rattle.vault_core_model.specs.Vault.{Vault, config_of}
 
 -- held, with all its bytes
@@ -30,15 +30,10 @@ content_size h = length (unwrap_or h.content [])
 abbrev pub all_stored_bytes : Vault → ℕ
 all_stored_bytes v = sum_by content_size v.histories
 
--- it is that department
-abbrev pub is_department : List ℕ → Option (List ℕ) → Bool
-is_department dept None = false
-is_department dept (Some own) = bytes_eq own dept
-
 -- a content version in a bucket of the department
 abbrev pub is_version_of : Vault → List ℕ → History → Bool
 is_version_of v dept h =
-    not h.entry.marker && is_department dept (option_map (λ c. c.dept) (config_of v h.entry.bucket))
+    not h.entry.marker && is_own (option_map (λ c. c.dept) (config_of v h.entry.bucket)) dept
 
 -- and of the versions in a department's buckets
 abbrev pub stored_bytes : Vault → List ℕ → ℕ

@@ -1,4 +1,4 @@
-//! A reader, a writer and files that fail, for tests of what a fault or a crash leaves behind.
+//! A reader, a writer and files that fail, for tests of what a fault or a crash leaves after.
 #![tactic(auto)]
 
 pub mod device;

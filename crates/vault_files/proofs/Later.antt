@@ -80,20 +80,20 @@ is_other v n m bucket batch line free there =
 new_placed : (p : Note → Bool) (x : Note) (ys : List Note) → p x ≡ true → find p ys ≡ None → find p (placed note_cmp x ys) ≡ Some x
 new_placed p x [] is none = rw is refl
 new_placed p x (y ∷ ys) is none =
-    by_place (note_cmp x y) (new_placed p x ys is (none_behind (p y) none)) (not_first (p y) none)
+    by_place (note_cmp x y) (new_placed p x ys is (none_after (p y) none)) (not_first (p y) none)
   where
-    none_behind : (b : Bool) → (if b then Some y else find p ys) ≡ None → find p ys ≡ None
-    none_behind true h = absurd (cc h)
-    none_behind false h = h
+    none_after : (b : Bool) → (if b then Some y else find p ys) ≡ None → find p ys ≡ None
+    none_after true h = absurd (cc h)
+    none_after false h = h
 
     not_first : (b : Bool) → (if b then Some y else find p ys) ≡ None → b ≡ false
     not_first true h = absurd (cc h)
     not_first false h = refl
 
     by_place : (o : Ordering) → find p (placed note_cmp x ys) ≡ Some x → p y ≡ false → find p (placed_by o x y ys (placed note_cmp x ys)) ≡ Some x
-    by_place Less behind not_y = rw is refl
-    by_place Equal behind not_y = rw is refl
-    by_place Greater behind not_y = rw not_y behind
+    by_place Less after not_y = rw is refl
+    by_place Equal after not_y = rw is refl
+    by_place Greater after not_y = rw not_y after
 
 pub new_note-found : (v : Vault) (t : ℕ) (h : History) (n : Note) → note_of v n.bucket n.batch n.line ≡ None → note_of (changed v t (Admit (record { history = h; note = Some n }))) n.bucket n.batch n.line ≡ Some n
 new_note-found v t h n free = new_placed (is_line_of n.bucket n.batch n.line) n v.notes (is_own_line n) free

@@ -10,7 +10,7 @@ use Rattle.httparse.specs.declared.spans.RequestSpans.{RequestSpans}
 use Rattle.vault_core_model.specs.Vault.{Vault}
 use Rattle.vault_http.specs.Command.{IsWithinLength}
 use Rattle.vault_http.specs.Exchange.{HeadJudged, PlanServed, Said, ServedFor, head_asked_for, is_shown, spans_asked}
-use Rattle.vault_http.specs.Head.{IsHead}
+use Rattle.vault_http_request.specs.Head.{IsHead}
 use Rattle.vault_http.specs.Judging.{ComesTo, Denies, IsDenial, Judges}
 use Rattle.vault_http.specs.Left.{DeniedLeft, DenyLeft, HeadLeft, IsBodyTaken, IsTakenFor, LeftFor}
 use Rattle.vault_http.specs.Reply.{AnswersRefusal}

@@ -1,6 +1,3 @@
-pub mod Heads
-pub mod Prompt
-pub mod Blank
 pub mod BodyLemmas
 pub mod TextLemmas
 pub mod Counted

@@ -16,7 +16,7 @@ use Rattle.vault_core_model.specs.declared.reply.Reply.{Reply}
 use Rattle.vault_http.specs.Reply.{AnswersRefusal, AnswersReply}
 use Rattle.vault_http.specs.declared.answer.head.Allow.{Allow}
 use Rattle.vault_http.specs.declared.answer.head.Allow.TheVariants as allow
-use Rattle.vault_http.specs.Head.{IsHead, HasNoHead}
+use Rattle.vault_http_request.specs.Head.{IsHead, HasNoHead}
 use Rattle.vault_http_request.specs.Host.{is_for}
 use Rattle.vault_http_request.specs.Operation.{is_head}
 use Rattle.vault_http_request.specs.Plan.{asked_in, asked_of}

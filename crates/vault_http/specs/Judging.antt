@@ -3,7 +3,7 @@ use Rattle.std.specs.Prelude.{ℕ, ◌≡◌, ◌≤◌, ◌<◌, ◌⊎◌, Lis
 use Rattle.httparse.specs.Grammar.{RequestHead}
 use Rattle.vault_base.specs.declared.refusal.Refusal.TheVariants as refusal
 use Rattle.vault_http.specs.Exchange.{Said, allow_of, head_asked_for, is_shown}
-use Rattle.vault_http.specs.Head.{IsHead, HasNoHead}
+use Rattle.vault_http_request.specs.Head.{IsHead, HasNoHead}
 use Rattle.vault_http.specs.declared.carrying.Denial.{Denial}
 use Rattle.vault_http.specs.declared.judging.Judgement.{Judgement}
 use Rattle.vault_http.specs.declared.judging.Judgement.TheVariants.{Nothing, Denied, Planned}

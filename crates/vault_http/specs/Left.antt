@@ -10,9 +10,9 @@ use Rattle.vault_core_model.specs.declared.command.Command.{Command}
 use Rattle.vault_core_model.specs.declared.reply.Reply.{Reply}
 use Rattle.vault_http.specs.Reply.{AnswersRefusal}
 use Rattle.vault_http.specs.declared.answer.head.Allow.{Allow}
-use Rattle.vault_http.specs.Head.{IsHead, HasNoHead}
-use Rattle.vault_http.specs.declared.read.bytes.ReadFault.{ReadFault}
-use Rattle.vault_http.specs.declared.read.bytes.ReadFault.TheVariants as reads
+use Rattle.vault_http_request.specs.Head.{IsHead, HasNoHead}
+use Rattle.vault_http_request.specs.declared.read.bytes.ReadFault.{ReadFault}
+use Rattle.vault_http_request.specs.declared.read.bytes.ReadFault.TheVariants as reads
 use Rattle.vault_io.specs.Begins.{Begins}
 use Rattle.vault_http_request.specs.declared.plan.Plan.{Plan}
 use Rattle.vault_http.specs.Command.{IsWithinLength}

@@ -3,11 +3,8 @@ pub mod Left
 pub mod Hearing
 pub mod Calls
 pub mod Steady
-pub mod Head
 pub mod Judging
-pub mod Body
 pub mod Bodies
-pub mod Bytes
 pub mod Command
 pub mod Reply
 pub mod Answer

@@ -6,8 +6,6 @@ ghost use Rattle.vault_http.specs.Command as spec;
 ghost use Rattle.vault_http.specs.declared.fault.ServeFault.TheVariants as faults;
 
 use crate::fault::ServeFault;
-use crate::read::body::read_body;
-use crate::read::bytes::ReadFault;
 use std::alloc::Global;
 use std::io::Read;
 use vault_base::content::Content;
@@ -15,6 +13,8 @@ use vault_base::refusal::Refusal;
 use vault_core_model::command::Command;
 use vault_http_request::command::command_of;
 use vault_http_request::operation::Operation;
+use vault_http_request::read::body::read_body;
+use vault_http_request::read::bytes::ReadFault;
 use vault_http_request::request_headers::Locks;
 use vault_values::fault::LineFault;
 

@@ -1,8 +1,8 @@
 //! Why a request was not served to its end.
 ghost use Rattle.vault_http.specs.Left.{FromRead};
 
-use crate::read::bytes::ReadFault;
 use thiserror::Error;
+use vault_http_request::read::bytes::ReadFault;
 
 /// Why a request was not served to its end.
 #[derive(Clone, Copy, Debug, PartialEq, Eq, Error)]

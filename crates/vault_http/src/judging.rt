@@ -10,7 +10,6 @@ ghost use Rattle.vault_http.specs.declared.fault.ServeFault.TheVariants as fault
 
 use crate::answer::head::Allow;
 use crate::fault::ServeFault;
-use crate::read::head::{Front, read_head};
 use httparse::spans::{EMPTY_HEADER_SPAN, HeaderSpan, RequestSpans};
 use std::alloc::Global;
 use std::io::Read;
@@ -19,6 +18,7 @@ use vault_base::refusal::Refusal;
 use vault_http_request::host::{Hosts, is_for};
 use vault_http_request::operation::Resource;
 use vault_http_request::plan::{Asked, Plan, asked_of};
+use vault_http_request::read::head::{Front, read_head};
 use vault_values::fault::LineFault;
 
 /// What comes of the front of what a reader gives.

@@ -9,7 +9,6 @@ pub mod fault;
 pub mod hearing;
 pub mod judging;
 pub mod laws;
-pub mod read;
 mod send;
 pub mod serve;
 

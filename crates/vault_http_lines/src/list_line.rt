@@ -14,7 +14,7 @@ use vault_core_model::command::{Command, ListVersions};
 use vault_http_values::values;
 use vault_values::fault::LineFault;
 
-/// The entry of `after_key` behind which the listing begins; it means nothing without that key.
+/// The entry of `after_key` after which the listing begins; it means nothing without that key.
 #[tactic(auto, unfolding(crate::specs::ListLine::after_id_of))]
 fn after_id(value: &Value) -> Result<Option<VersionId>, LineFault>
     ensures { Gives (λ x. x) result (spec.after_id_of (view value.now)) }

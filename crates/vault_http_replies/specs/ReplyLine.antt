@@ -191,7 +191,7 @@ stop_name Memory = codes "Memory"
 stop_name Device = codes "Device"
 stop_name VaultFull = codes "VaultFull"
 
--- a run that was stopped behind so many changes
+-- a run that was stopped after n changes
 abbrev pub stopped_value : ℕ → Stop → Data
 stopped_value changes stop = object (member (codes "changes") (whole changes) (member (codes "fault") (text (stop_name stop)) no_members))
 

@@ -1,1 +1,4 @@
 pub mod Contains
+pub mod Heads
+pub mod Prompt
+pub mod Blank

@@ -1,3 +1,6 @@
+pub mod Bytes
+pub mod Head
+pub mod Body
 pub mod Command
 pub mod Operation
 pub mod Plan

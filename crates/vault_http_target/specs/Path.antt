@@ -13,8 +13,8 @@ abbrev pub before : ℕ → List ℕ → List ℕ
 before stop bytes = take (count_before stop bytes) bytes
 
 -- the bytes after it
-abbrev pub behind : ℕ → List ℕ → List ℕ
-behind stop bytes = drop (count_before stop bytes + 1) bytes
+abbrev pub after : ℕ → List ℕ → List ℕ
+after stop bytes = drop (count_before stop bytes + 1) bytes
 
 -- the bytes as a text
 abbrev pub as_text : List ℕ → Option (List ℕ)

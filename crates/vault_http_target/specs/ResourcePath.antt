@@ -4,7 +4,7 @@ use Rattle.vault_base.specs.declared.refusal.Refusal.{Refusal}
 use Rattle.vault_base.specs.declared.refusal.Refusal.TheVariants.{InvalidArgument, InvalidBucketName}
 use Rattle.vault_values.specs.Fault.{◌>>=◌}
 use Rattle.vault_values.specs.Named.{bucket_named, key_named}
-use Rattle.vault_http_target.specs.Path.{before, behind, decoded}
+use Rattle.vault_http_target.specs.Path.{before, after, decoded}
 use Rattle.vault_http_target.specs.Routes.{is_routed}
 use Rattle.vault_http_target.specs.declared.resource_path.ResourcePath.{ResourcePath}
 use Rattle.vault_http_target.specs.declared.resource_path.ResourcePath.TheVariants.{Bucket, Key}
@@ -36,4 +36,4 @@ unfoldable pub resource_path_of : List ℕ → Result ResourcePath Refusal
 resource_path_of path = do
   _ ← routed path
   bucket ← bucket_in (before 47 (drop 1 path))
-  resource_path_within bucket (behind 47 (drop 1 path))
+  resource_path_within bucket (after 47 (drop 1 path))

@@ -10,7 +10,7 @@ use Rattle.vault_values.specs.Fault.{◌>>=◌, or_refused, if_given}
 use Rattle.vault_values.specs.Named.{prefix_if}
 use Rattle.vault_http_target.specs.Fields.{Fields}
 use Rattle.vault_http_target.specs.Number.{number_upto}
-use Rattle.vault_http_target.specs.Path.{before, behind}
+use Rattle.vault_http_target.specs.Path.{before, after}
 use Rattle.vault_http_target.specs.ResourcePath.{resource_path_of}
 use Rattle.vault_http_target.specs.Query.{pairs_of, value_named, has_named, are_among, count_among}
 use Rattle.vault_http_target.specs.declared.resource_path.ResourcePath.{ResourcePath}
@@ -142,4 +142,4 @@ target_at (path.Key bucket key) pairs method = target_of_key bucket key pairs me
 unfoldable pub target_of : List ℕ → List ℕ → Result Target Refusal
 target_of method target = do
   path ← resource_path_of (before 63 target)
-  target_at path (pairs_of (behind 63 target)) method
+  target_at path (pairs_of (after 63 target)) method

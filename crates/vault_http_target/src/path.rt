@@ -27,8 +27,8 @@ pub fn before(bytes: &[u8], stop: u8) -> &[u8]
 }
 
 /// The bytes after the first such byte, if there are any.
-pub fn behind(bytes: &[u8], stop: u8) -> &[u8]
-    ensures { result.now ≡ spec.behind stop bytes.now }
+pub fn after(bytes: &[u8], stop: u8) -> &[u8]
+    ensures { result.now ≡ spec.after stop bytes.now }
 {
     let n = count_before(bytes, stop);
     if n < bytes.len() {
@@ -39,7 +39,7 @@ pub fn behind(bytes: &[u8], stop: u8) -> &[u8]
 }
 
 /// The bytes after the first one.
-pub fn behind_first(bytes: &[u8]) -> &[u8]
+pub fn after_first(bytes: &[u8]) -> &[u8]
     ensures { result.now ≡ drop 1 bytes.now }
 {
     if bytes.is_empty() { bytes } else { &bytes[1..] }

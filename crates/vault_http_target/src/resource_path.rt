@@ -2,7 +2,7 @@
 ghost use Rattle.vault_values.specs.Fault.{Gives};
 ghost use Rattle.vault_http_target.specs.ResourcePath as spec;
 
-use crate::path::{before, behind, behind_first, decoded};
+use crate::path::{after, after_first, before, decoded};
 use crate::routes::is_routed;
 use std::alloc::Global;
 use vault_base::name::{BucketName, ObjectKey};
@@ -65,7 +65,7 @@ pub fn resource_path_of(alloc: Global, path: &[u8]) -> Result<ResourcePath, Line
     ensures { Gives (λ x. x) result (spec.resource_path_of path.now) }
 {
     check_route(alloc, path)?;
-    let parts = behind_first(path);
+    let parts = after_first(path);
     let bucket = bucket_in(alloc, before(parts, b'/'))?;
-    resource_path_within(alloc, bucket, behind(parts, b'/'))
+    resource_path_within(alloc, bucket, after(parts, b'/'))
 }

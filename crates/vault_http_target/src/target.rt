@@ -6,7 +6,7 @@ ghost use Rattle.vault_http_target.specs.Query.{shown};
 ghost use Rattle.vault_http_target.specs.Target as spec;
 
 use crate::number::number_upto;
-use crate::path::{before, behind};
+use crate::path::{after, before};
 use crate::query::{Pair, are_among, count_among, has_named, pairs_of, value_named};
 use crate::resource_path::{ResourcePath, resource_path_of};
 use std::alloc::Global;
@@ -259,6 +259,6 @@ pub fn target_of(alloc: Global, method: &[u8], target: &[u8]) -> Result<Target, 
     ensures { Gives (λ x. x) result (spec.target_of method.now target.now) }
 {
     let path = resource_path_of(alloc, before(target, b'?'))?;
-    let pairs = pairs_of(alloc, behind(target, b'?'))?;
+    let pairs = pairs_of(alloc, after(target, b'?'))?;
     target_at(alloc, path, pairs.as_slice(), method)
 }

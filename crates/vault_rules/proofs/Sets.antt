@@ -30,14 +30,14 @@ not_less_back : (m n : ℕ) → IsTrue (nat_lt m n) → nat_lt n m ≡ false
 not_less_back m n h = grind (arith, nat_tests)
 
 -- what is newer than x stands after it
-newer_behind : (before : List Held) (x : Held) (after : List Held) → IsTrue (ids_rise (before ++ x ∷ after)) → newer_among (before ++ x ∷ after) x ≡ after
-newer_behind [] x after h =
+newer_after : (before : List Held) (x : Held) (after : List Held) → IsTrue (ids_rise (before ++ x ∷ after)) → newer_among (before ++ x ∷ after) x ≡ after
+newer_after [] x after h =
     ap (λ b. cond b (x ∷ newer_among after x) (newer_among after x)) (not_less_itself x.id)
     ∙ filter_all (λ y. nat_lt x.id y.id) after (both (list_all (λ y. nat_lt x.id y.id) after) (ids_rise after) h).0
-newer_behind (b ∷ bs) x after h =
+newer_after (b ∷ bs) x after h =
     let e = both (list_all (λ y. nat_lt b.id y.id) (bs ++ x ∷ after)) (ids_rise (bs ++ x ∷ after)) h in
     ap (λ c. cond c (b ∷ newer_among (bs ++ x ∷ after) x) (newer_among (bs ++ x ∷ after) x)) (not_less_back b.id x.id (in_middle (λ y. nat_lt b.id y.id) bs x after e.0))
-    ∙ newer_behind bs x after e.1
+    ∙ newer_after bs x after e.1
 
 some_stand : (n : ℕ) → nat_lt 0 (suc n) ≡ true
 some_stand n = grind (arith, nat_tests)
@@ -73,7 +73,7 @@ module _ (rules : List Rule) (key : List ℕ) (t : ℕ) where
 
   removal_at : (hs before : List Held) (x : Held) (after : List Held) → hs ≡ before ++ x ∷ after → IsTrue (ids_rise hs) → removal_rule rules key t hs x ≡ removal (dues rules key t) x after
   removal_at hs before x after e h =
-      let n : newer_among hs x ≡ after = ap (λ l. newer_among l x) e ∙ newer_behind before x after (subst (λ l. IsTrue (ids_rise l)) e h) in
+      let n : newer_among hs x ≡ after = ap (λ l. newer_among l x) e ∙ newer_after before x after (subst (λ l. IsTrue (ids_rise l)) e h) in
       ap (λ l. only_if (nat_lt 0 (length l) && not (is_locked x.lock t)) (due_noncurrent rules key x.size (first_admission l) (length l - 1) t)) n ∙ removal_is x after
 
   pub removals_from : (hs before l : List Held) → hs ≡ before ++ l → IsTrue (ids_rise hs) → filter_map (λ x. option_map (λ r. Remove x.id r) (removal_rule rules key t hs x)) l ≡ removals (dues rules key t) l
@@ -93,7 +93,7 @@ module _ (rules : List Rule) (key : List ℕ) (t : ℕ) where
   -- the rule that marks the key for x, above which these stand
   mark_at : (hs before : List Held) (x : Held) (after : List Held) → hs ≡ before ++ x ∷ after → IsTrue (ids_rise hs) → mark_rule rules key t hs x ≡ only_if ((length after == 0) && not x.marker) (due_current rules key x.size x.admitted t)
   mark_at hs before x after e h =
-      let n : newer_among hs x ≡ after = ap (λ l. newer_among l x) e ∙ newer_behind before x after (subst (λ l. IsTrue (ids_rise l)) e h) in
+      let n : newer_among hs x ≡ after = ap (λ l. newer_among l x) e ∙ newer_after before x after (subst (λ l. IsTrue (ids_rise l)) e h) in
       ap (λ l. only_if ((length l == 0) && not x.marker) (due_current rules key x.size x.admitted t)) n
 
   push_mark : (o : Option ℕ) → cons_option (option_map (λ r. Mark r) o) [] ≡ mark_step o

@@ -1,4 +1,4 @@
--- The tables of a connection behind a call that was refused.
+-- The tables of a connection after a call that was refused.
 use Rattle.std.specs.Prelude.{◌≡◌, false, IsTrue}
 use Rattle.sqlite.specs.Effect.{IsDatabase}
 use Rattle.sqlite.specs.State.{State}

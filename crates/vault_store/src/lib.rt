@@ -1,5 +1,5 @@
 //! A vault in tables: the keeper over a `sqlite` connection, vaults of earlier editions copied, and the law of
-//! what is found behind a crash.
+//! what is found after a crash.
 #![tactic(auto)]
 
 mod blame;

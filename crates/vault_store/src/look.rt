@@ -30,7 +30,7 @@ pub(crate) fn end_transaction<S: Alter>(conn: &mut Connection<S>)
 }
 
 /// Looks at the tables of a connection outside a transaction, which are to be of that edition. It is outside
-/// one behind it, and no table is changed.
+/// one after it, and no table is changed.
 ///
 /// The errors are those of `audit`.
 pub(crate) fn look_as<S: Alter>(

@@ -245,7 +245,7 @@ impl<S: Alter> SqlKeeper<S> {
         // Nor are stores that work, unless the tables of the copy refuse a row of the old vault.
         ensures healthy { old.old.in_transaction ≡ false → new.in_transaction ≡ false
             → IfErr result (λ e. IsHealthy (state O.Store old.new) → IsHealthy (state S.Store e.1) → e.0 ≡ Refusal.Device → RefusesItsRow edition (state O.Store old.old).now) }
-        // Inside a transaction it is refused, and that is left as it was; else none is open behind it, and no table was changed.
+        // Inside a transaction it is refused, and that is left as it was; else none is open after it, and no table was changed.
         ensures inside { IsTrue new.in_transaction → IsErrAnd result (λ e. (e.0 ≡ Refusal.Device) × (e.1 ≡ new)) }
         ensures outside { new.in_transaction ≡ false → IfErr result (λ e. HasCleanDisk (state S.Store e.1) → e.1.in_transaction ≡ false) }
         ensures tables { new.in_transaction ≡ false → IfErr result (λ e. HasCleanDisk (state S.Store e.1) → HasTablesOf (state S.Store new) (state S.Store e.1)) }

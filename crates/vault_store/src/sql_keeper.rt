@@ -153,7 +153,7 @@ impl<S: Alter> SqlKeeper<S> {
         ensures healthy { conn.in_transaction ≡ false → IfErr result (λ e. IsHealthy (state S.Store e.1) → e.0 ≢ Refusal.Device) }
         ensures damaged { IfErr result (λ e. HasCleanDisk (state S.Store e.1) → (t : Table) → e.0 ≡ Refusal.Damaged t → (v : Vault) → ¬ AreSound (state S.Store conn).now v) }
         ensures harmless { IfErr result (λ e. Survives (state S.Store conn) (state S.Store e.1) (λ _. ⊥)) }
-        // Inside a transaction it is refused, and that is left as it was; else none is open behind it, and no table was changed.
+        // Inside a transaction it is refused, and that is left as it was; else none is open after it, and no table was changed.
         ensures inside { IsTrue conn.in_transaction → IsErrAnd result (λ e. (e.0 ≡ Refusal.Device) × (e.1 ≡ conn)) }
         ensures outside { conn.in_transaction ≡ false → IfErr result (λ e. HasCleanDisk (state S.Store e.1) → e.1.in_transaction ≡ false) }
         ensures tables { conn.in_transaction ≡ false → IfErr result (λ e. HasCleanDisk (state S.Store e.1) → HasTablesOf (state S.Store conn) (state S.Store e.1)) }
@@ -192,7 +192,7 @@ impl<S: Alter> SqlKeeper<S> {
         // A crash leaves what it could leave before, or a new vault.
         ensures crash { IfOk result (λ k. Survives (state S.Store conn) (state S.Store k.conn) (IsFoundIn opening)) }
         ensures harmless { IfErr result (λ e. Survives (state S.Store conn) (state S.Store e.1) (IsFoundIn opening)) }
-        // Inside a transaction it is refused, and that is left as it was; else none is open behind it, and no table was changed.
+        // Inside a transaction it is refused, and that is left as it was; else none is open after it, and no table was changed.
         ensures inside { IsTrue conn.in_transaction → IsErrAnd result (λ e. e.1 ≡ conn) }
         ensures outside { conn.in_transaction ≡ false → IfErr result (λ e. e.1.in_transaction ≡ false) }
         ensures tables { conn.in_transaction ≡ false → IfErr result (λ e. HasCleanDisk (state S.Store e.1) → HasTablesOf (state S.Store conn) (state S.Store e.1)) }

@@ -55,16 +55,16 @@ head_among p id [] g found passes = absurd (cc found)
 head_among p id (h ∷ hs) g found passes =
     elim (eqb h.entry.id id) as (λ b. (if b then Some h else find (λ x. x.entry.id == id) hs) ≡ Some g → HasHead (cond (p h) (h ∷ filter p hs) (filter p hs))) [
       | true ↦ λ it. let same : g ≡ h = cc (sym it) in first (p h) (subst (λ x. p x ≡ true) same passes)
-      | false ↦ λ it. behind (p h) (head_among p id hs g it passes)
+      | false ↦ λ it. past (p h) (head_among p id hs g it passes)
     ] found
   where
     first : (b : Bool) → b ≡ true → HasHead (cond b (h ∷ filter p hs) (filter p hs))
     first true is = head_of_some h (filter p hs)
     first false is = absurd (cc is)
 
-    behind : (b : Bool) → HasHead (filter p hs) → HasHead (cond b (h ∷ filter p hs) (filter p hs))
-    behind true rest = head_of_some h (filter p hs)
-    behind false rest = rest
+    past : (b : Bool) → HasHead (filter p hs) → HasHead (cond b (h ∷ filter p hs) (filter p hs))
+    past true rest = head_of_some h (filter p hs)
+    past false rest = rest
 
 head_there : (v : Vault) (id : ℕ) (e : Entry) → entry_of v id ≡ Some e → e.removal ≡ None → (head : Head) × (head_of v e.bucket e.key ≡ Some head)
 head_there v id e there held =

@@ -110,7 +110,7 @@ module _ (schema : Schema) (base : Table) (db : Trees) (row : Row) (fit : IsFit 
   never_written why (inr (inl (r, has, big, ends))) = fits_in r has big
   never_written why (inr (inr (next, applied, (n, leads)))) = goes_on n next _ why (no_works schema Enforced 0 base.tree edit.news) leads
 
--- the statement isn't refused, if each row that it is given is such a row, and no row lacks a parent behind it
+-- the statement isn't refused, if each row that it is given is such a row, and no row lacks a parent after it
 module _ (old : State) (schema : Schema) (base : Table) (at width : ℕ) (terms : List Term) (db : Trees) (row : Row) (unlimited : old.step_limit ≡ None) (bare : db base.tree ≡ [])
     (accepted : accepts_terms terms (stamped base []) ≡ true)
     (fit : IsFit schema (record base { is_counted = false }) db row)

@@ -15,7 +15,7 @@ use Rattle.vault_audit_model.specs.Tables.{vault_schema, meta, callers}
 use Rattle.vault_audit_schema.specs.Statements.{schema_of_first}
 use Rattle.vault_audit_schema.specs.Texts.{insert_into_text}
 
--- no rows are counted behind a table
+-- no rows are counted after a table
 pub uncounted : (t : Table) → lacks_sequence (schema_of_first (place_of t + 1)) ≡ false
 unfolding everything
 uncounted table.Meta = refl

@@ -42,11 +42,11 @@ pub record HasRowMore (t : Table) (row : Row) (old new : Database) : Type 0 wher
 abbrev pub PutsRow : Table → Row → Database → Database → Type 0
 PutsRow t row old new = old.schema ≡ vault_schema → IsRowOf t row → HasRowMore t row old new
 
--- the rows of the first so many tables, and none of the others
+-- the rows of the first n tables, and none of the others
 abbrev pub first_rows : Vault → ℕ → Rows
 first_rows v k t = cond (nat_lt (place_of t) k) (rows_of v t) []
 
--- the first so many tables have the rows of the vault, and the others none
+-- the first n tables have the rows of the vault, and the others none
 pub record HasFirstRows (v : Vault) (k : ℕ) (db : Database) : Type 0 where
   pub schema : db.schema ≡ vault_schema
   pub rows : AreSameRows (first_rows v k) (rows_in db)
@@ -92,7 +92,7 @@ abbrev pub StopsAt : Table → List ℕ → State → Database → Type 0
 StopsAt t sql s first =
     (before : List Row) × (row : Row) × (now : Database) × IsTrue s.is_open × Begins sql [] s (before ++ row ∷ []) × Goes (λ x r y. PutsRow t r x y) first before now × Refuses t row now
 
--- Of tables of that edition that are sound for a vault: two stores that work, of which the second has copied the first so many tables inside a transaction, refuse more of the copy for these causes alone.
+-- Of tables of that edition that are sound for a vault: two stores that work, of which the second has copied the first n tables inside a transaction, refuse more of the copy for these causes alone.
 abbrev pub FailsForARow : {A : Type 0} → Edition → ℕ → State → State → State → State → Result A Error → Type 0
 FailsForARow n k old later new next result =
     (v : Vault) → AreSoundAs n old.now v → HasCopied n old.now k new.now → IsHealthy later → IsHealthy next → IsTrue new.in_transaction → IsTrue new.is_open → IfErr result (IsRefusedFor v)

@@ -18,6 +18,7 @@ use Rattle.vault_audit_model.specs.Rows.{meta_row, meta_columns}
 use Rattle.vault_audit_model.specs.Spells.{meta_of, AreSound}
 use Rattle.vault_audit_schema.specs.Statements.{schema_of_first}
 use Rattle.vault_audit_walk.specs.Health.{IsHealthy, IsMemory}
+use Rattle.vault_store_create.specs.Copied.{Steps}
 
 -- these tables and no others are there, and none has a row
 pub record HasEmpty (schema_is : Schema) (db : Database) : Type 0 where
@@ -32,12 +33,8 @@ abbrev pub HasAll : Database → Type 0
 HasAll = HasEmpty vault_schema
 
 -- A part of a transaction goes from a database of one kind to one of another, and leaves the last commit alone.
-pub record Moves (old new : State) (From To : Database → Type 0) : Type 0 where
-  pub was_open : IsTrue old.is_open
-  pub is_open : IsTrue new.is_open
-  pub inside : IsTrue new.in_transaction
-  pub committed : new.committed ≡ old.committed
-  pub goes : From old.now → To new.now
+abbrev pub Moves : State → State → (Database → Type 0) → (Database → Type 0) → Type 0
+Moves old new From To = Steps old new (λ a b. From a → To b)
 
 -- All tables are there, and meta has its row; none has another.
 pub record HasMetaRow (db : Database) : Type 0 where

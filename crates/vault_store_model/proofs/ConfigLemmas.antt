@@ -110,9 +110,9 @@ set_first name rules b bs here others =
     IsPermutation-same _ _ (ap (λ l. rules_if_given b.name rules ++ flat_map rules_in l) (unset name rules bs others)
     ∙ ap (λ n. rules_if_given n rules ++ flat_map rules_in bs) ((bytes_eq-Decides b.name name).0 here) ∙ ap (λ l. rules_if_given name rules ++ flat_map rules_in l) (sym kept))
 
-there_or_behind : (name : List ℕ) (b : Bucket) (bs : List Bucket) (x : Bool) → x ≡ false → IsSome (option_map (λ (c : Bucket). c.config) (if x then Some b else bucket_in bs name)) → IsSome (config_in bs name)
-there_or_behind name b bs true e there = absurd (cc e)
-there_or_behind name b bs false e there = there
+there_or_after : (name : List ℕ) (b : Bucket) (bs : List Bucket) (x : Bool) → x ≡ false → IsSome (option_map (λ (c : Bucket). c.config) (if x then Some b else bucket_in bs name)) → IsSome (config_in bs name)
+there_or_after name b bs true e there = absurd (cc e)
+there_or_after name b bs false e there = there
 
 set_in : (name : List ℕ) (rules : Option (List Rule)) (bs : List Bucket) → IsSome (config_in bs name) → IsAscending bucket_cmp bs → IsPermutation (flat_map rules_in (map (with_rules name rules) bs)) (rules_if_given name rules ++ left_of name bs)
 set_in name rules [] there up = absurd (cc there)
@@ -120,7 +120,7 @@ set_in name rules (b ∷ bs) there up =
     elim (bytes_eq b.name name) as (λ x. bytes_eq b.name name ≡ x → IsPermutation (flat_map rules_in ((if x then record b { rules = rules } else b) ∷ map (with_rules name rules) bs)) (rules_if_given name rules ++ flat_map rules_in (cond (not x) (b ∷ filter (λ c. not (bytes_eq c.name name)) bs) (filter (λ c. not (bytes_eq c.name name)) bs)))) [
       | true ↦ λ here. set_first name rules b bs here (all_weaker (λ c. bucket_cmp b c ≡ Less) (λ c. bytes_eq c.name name ≡ false) (λ c before. other_name name b c here before) bs up.0)
       | false ↦ λ other.
-          IsPermutation-trans _ _ _ (IsPermutation-append_right (rules_in b) _ _ (set_in name rules bs (there_or_behind name b bs (bytes_eq b.name name) other there) up.1))
+          IsPermutation-trans _ _ _ (IsPermutation-append_right (rules_in b) _ _ (set_in name rules bs (there_or_after name b bs (bytes_eq b.name name) other there) up.1))
           (second_first (rules_in b) (rules_if_given name rules) (left_of name bs))
     ] refl
 

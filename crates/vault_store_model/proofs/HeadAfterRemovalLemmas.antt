@@ -35,12 +35,12 @@ among_held p id (h ∷ hs) g found passes =
           let same : h ≡ g = cc it in
           let own : p h.entry ≡ true = subst (λ (x : History). p x.entry ≡ true) (sym same) passes in
           ap (λ b. has_id id (cond b (h.entry ∷ filter p (entries_in hs)) (filter p (entries_in hs)))) own ∙ ap (λ b. b || has_id id (filter p (entries_in hs))) here
-      | false ↦ λ other it. behind (p h.entry) h.entry (filter p (entries_in hs)) (among_held p id hs g it passes)
+      | false ↦ λ other it. later (p h.entry) h.entry (filter p (entries_in hs)) (among_held p id hs g it passes)
     ] refl found
   where
-    behind : (b : Bool) (e : Entry) (es : List Entry) → has_id id es ≡ true → has_id id (cond b (e ∷ es) es) ≡ true
-    behind true e es there = elim (eqb e.id id) as (λ b. (b || has_id id es) ≡ true) [ true ↦ refl | false ↦ there ]
-    behind false e es there = there
+    later : (b : Bool) (e : Entry) (es : List Entry) → has_id id es ≡ true → has_id id (cond b (e ∷ es) es) ≡ true
+    later true e es there = elim (eqb e.id id) as (λ b. (b || has_id id es) ≡ true) [ true ↦ refl | false ↦ there ]
+    later false e es there = there
 
 -- ---- how many others there are
 

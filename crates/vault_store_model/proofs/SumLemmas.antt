@@ -26,7 +26,7 @@ use Rattle.vault_store_model.specs.Sums.{CountsIn, CountsOut, last_tenure_of}
 use Rattle.vault_store_model.proofs.EntryLemmas.{other_ids, found_history, items_push}
 use Rattle.vault_store_model.proofs.RemovalLemmas.{found_all}
 use Rattle.vault_store_model.proofs.SettingLemmas.{found_first, found_later}
-use Rattle.vault_store_model.proofs.TenureLemmas.{EndsOne, ends_behind, ends_before, last_ends, own_admitted}
+use Rattle.vault_store_model.proofs.TenureLemmas.{EndsOne, ends_after, ends_before, last_ends, own_admitted}
 
 -- ---- a row of sums
 
@@ -85,7 +85,7 @@ ends_later id r g h t hs other it =
     let whole : items_in t.dept (map (removed_if id r) (h ∷ hs)) ≡ items_by t.dept (shares_of h) ++ items_in t.dept (map (removed_if id r) hs) =
     ap (λ b. items_by t.dept (shares_of (if b then removed_by r h else h)) ++ items_in t.dept (map (removed_if id r) hs)) other in
     subst (EndsOne g.entry.size (day t.from) (day r.at) (items_in t.dept (h ∷ hs))) (sym whole)
-    (ends_behind g.entry.size (day t.from) (day r.at) (items_by t.dept (shares_of h)) _ _ it)
+    (ends_after g.entry.size (day t.from) (day r.at) (items_by t.dept (shares_of h)) _ _ it)
 
 ends_in : (n id : ℕ) (r : Removal) (hs : List History) (g : History) (t : Tenure) → AreIdsFrom n hs → find (λ h. h.entry.id == id) hs ≡ Some g → g.entry.removal ≡ None → last_tenure g.tenures ≡ Some t → EndsIn id r t.dept g (day t.from) hs
 ends_in n id r [] g t ids found held last = absurd (cc found)

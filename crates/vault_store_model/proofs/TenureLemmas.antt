@@ -90,8 +90,8 @@ pub record EndsOne (size from end : ℕ) (was is : List Item) : Type 0 where
   pub ended : is ≡ before ++ removed_item first size from end ∷ after
 
 -- the same with these before them
-pub ends_behind : (size from end : ℕ) (xs was is : List Item) → EndsOne size from end was is → EndsOne size from end (xs ++ was) (xs ++ is)
-ends_behind size from end xs was is it = record {
+pub ends_after : (size from end : ℕ) (xs was is : List Item) → EndsOne size from end was is → EndsOne size from end (xs ++ was) (xs ++ is)
+ends_after size from end xs was is it = record {
   first = it.first;
   before = xs ++ it.before;
   after = it.after;

@@ -17,7 +17,7 @@ use Rattle.sqlite_sql.specs.Query.{Query, Output, output, output_cmp}
 use Rattle.vault_base.specs.Name.{is_bucket_name}
 use Rattle.vault_core_model.specs.declared.records.Bucket.{Bucket}
 use Rattle.vault_core_model.specs.Order.{IsAscending as Stand, bucket_cmp}
-use Rattle.vault_core_model.specs.Places.{is_behind}
+use Rattle.vault_core_model.specs.Places.{comes_after}
 use Rattle.vault_core_model.specs.Reads.{buckets_after}
 use Rattle.vault_core_model.specs.Vault.{Vault}
 use Rattle.vault_audit_model.specs.Limits.{IsBucket}
@@ -28,7 +28,7 @@ use Rattle.vault_audit_model.specs.Values.{number}
 use Rattle.vault_store_reads.specs.Queries.{FindsRows}
 use Rattle.vault_store_model.specs.Scans.{passes}
 use Rattle.vault_store_reads.specs.Shown.{name_row}
-use Rattle.vault_store_reads.proofs.KeyLemmas.{some_bytes, behind_is, take-map}
+use Rattle.vault_store_reads.proofs.KeyLemmas.{some_bytes, after_is, take-map}
 use Rattle.vault_store_reads.proofs.SelectLemmas.{select_of, of_records, answered}
 use Rattle.vault_store_reads.proofs.OrderedTextLemmas.{buckets_text, buckets_tests, buckets_order, buckets_is}
 use Rattle.vault_store_reads.proofs.ValueLemmas.{later_text, text_less}
@@ -45,10 +45,10 @@ abbrev test : List ℕ → Row → Bool
 test after c = is_true (binary (Compare Gt Binary) (column c 0) (Text after)) && true
 
 abbrev keep : List ℕ → Bucket → Bool
-keep after b = is_behind b.name after
+keep after b = comes_after b.name after
 
 tests : (after : List ℕ) (b : Bucket) → IsBucket b → test after (row_for b) ≡ keep after b
-tests after b is = and_true _ ∙ later_text b.name after ∙ behind_is b.name after (named b.name is.name.1)
+tests after b is = and_true _ ∙ later_text b.name after ∙ after_is b.name after (named b.name is.name.1)
 
 abbrev out : Row → Output
 out c = (column c 0 ∷ [], column c 0 ∷ [])
@@ -73,23 +73,23 @@ outs_rise ks up =
     let R : Output → Output → Type 0 = λ a b. output_cmp buckets_query a b ≡ Less in
     ascending-map R name_out ks (ascending_weaker (λ j k. slice_cmp nat_cmp j k ≡ Less) (λ j k. R (name_out j) (name_out k)) (λ j k low. text_less j k low) ks up)
 
-names_kept : (after : List ℕ) (bs : List Bucket) → map (λ b. out (row_for b)) (filter (keep after) bs) ≡ map name_out (filter (λ name. is_behind name after) (map (λ b. b.name) bs))
+names_kept : (after : List ℕ) (bs : List Bucket) → map (λ b. out (row_for b)) (filter (keep after) bs) ≡ map name_out (filter (λ name. comes_after name after) (map (λ b. b.name) bs))
 names_kept after bs =
-    let behind = λ (name : List ℕ). is_behind name after in
+    let later = λ (name : List ℕ). comes_after name after in
     let name_of = λ (b : Bucket). b.name in
     let kept = filter (keep after) bs in
     let same : map (λ b. out (row_for b)) kept ≡ map name_out (map name_of kept) = sym (map-map name_out name_of kept) in
-    same ∙ ap (map name_out) (sym (filter-map behind name_of bs))
+    same ∙ ap (map name_out) (sym (filter-map later name_of bs))
 
 pub found_buckets : (v : Vault) (after : List ℕ) (most : ℕ) (rows : List Row) → FindsRows v buckets_text (Text after ∷ number most ∷ []) rows → rows ≡ map name_row (buckets_after v after most)
 found_buckets v after most rows (db, sound, answers) =
     let params : Row = Text after ∷ number most ∷ [] in
-    let behind = λ (name : List ℕ). is_behind name after in
+    let later = λ (name : List ℕ). comes_after name after in
     let names = map (λ (b : Bucket). b.name) v.buckets in
     let found = map (λ r. output buckets_query (params ∷ r ∷ [])) (filter (passes buckets_tests params) (db.trees buckets_tree)) in
     let are = of_records row_for bucket_columns (test after) out (passes buckets_tests params) (λ r. output buckets_query (params ∷ r ∷ [])) (λ r. refl) (λ r. refl) (keep after) v.buckets (db.trees buckets_tree) sound.spells.buckets
     (all_weaker IsBucket (λ b. test after (row_for b) ≡ keep after b) (tests after) v.buckets sound.spells.kept.limits.buckets) in
     let same = subst (λ os. IsPermutation os found) (names_kept after v.buckets) are in
-    let rise = ascending-filter (λ j k. slice_cmp nat_cmp j k ≡ Less) behind names (names_rise v.buckets sound.spells.kept.sound.ordered.buckets) in
-    answered buckets_tree buckets_tests (col 1 1 ∷ []) buckets_order (col 0 1) db params rows (answers buckets_query buckets_is) (map name_out (filter behind names)) same (outs_rise (filter behind names) rise)
-    ∙ ap (take most) (map-map (λ (o : Output). o.1) name_out (filter behind names)) ∙ take-map name_row most (filter behind names)
+    let rise = ascending-filter (λ j k. slice_cmp nat_cmp j k ≡ Less) later names (names_rise v.buckets sound.spells.kept.sound.ordered.buckets) in
+    answered buckets_tree buckets_tests (col 1 1 ∷ []) buckets_order (col 0 1) db params rows (answers buckets_query buckets_is) (map name_out (filter later names)) same (outs_rise (filter later names) rise)
+    ∙ ap (take most) (map-map (λ (o : Output). o.1) name_out (filter later names)) ∙ take-map name_row most (filter later names)

@@ -29,7 +29,7 @@ pub none_counted : (hs : List History) → ◌≡◌ {A = Option Head} None (hea
 none_counted [] is = refl
 none_counted (h ∷ hs) is = absurd (let both = is ∙ (over_some h hs).1 in cc both)
 
--- ---- the rows of so many
+-- ---- the rows of n
 
 pub none_shown : (hs : List History) → length hs ≡ 0 → [] ≡ map entry_shown (map held_of hs)
 none_shown [] none = refl

@@ -8,7 +8,7 @@ use Rattle.sqlite_keyed.proofs.ListLemmas.{map-map}
 use Rattle.sqlite_value.specs.Order.{Row}
 use Rattle.vault_base.specs.Limits.{most_content, most_settings}
 use Rattle.vault_base.specs.Name.{is_version_id}
-use Rattle.vault_core_model.specs.Places.{is_held_at, is_held_in, is_behind, held_at, keys_of, key_set, with_key, with_key_by}
+use Rattle.vault_core_model.specs.Places.{is_held_at, is_held_in, comes_after, held_at, keys_of, key_set, with_key, with_key_by}
 use Rattle.vault_core_model.specs.Reads.{buckets_after, entries_of, head_over, held_of, ids_before, is_older, keys_after, last_setting, setting_of}
 use Rattle.vault_core_model.specs.Sound.{IsWhole}
 use Rattle.vault_core_model.specs.Vault.{Vault, history_of, bucket_in, last_lock}
@@ -118,7 +118,7 @@ module _ (v : Vault) (kept : IsKept v) where
   keys_readable bucket after most =
       let held = all_filtered IsHistory (λ h. is_held_in bucket h.entry) v.histories kept.limits.histories in
       let keys = all_mapped IsObjectKey (λ (h : History). h.entry.key) _ (all_as (λ (h : History) (is : IsHistory h). is.entry.key) _ held) in
-      reported key_row IsObjectKey _ (all_taken IsObjectKey most _ (all_filtered IsObjectKey (λ k. is_behind k after) (keys_of v bucket) (keys_all _ keys)))
+      reported key_row IsObjectKey _ (all_taken IsObjectKey most _ (all_filtered IsObjectKey (λ k. comes_after k after) (keys_of v bucket) (keys_all _ keys)))
 
   pub newest_readable : (bucket key : List ℕ) (id : ℕ) → AreReadable id_row (λ n. IsTrue (is_version_id n)) (map id_row (option_to_list (newest_but v bucket key id)))
   newest_readable bucket key id =
@@ -144,4 +144,4 @@ module _ (v : Vault) (kept : IsKept v) where
   pub buckets_readable : (after : List ℕ) (most : ℕ) → AreReadable name_row IsBucketName (map name_row (buckets_after v after most))
   buckets_readable after most =
       let names = all_mapped IsBucketName (λ (b : Bucket). b.name) v.buckets (all_as (λ (b : Bucket) (is : IsBucket b). is.name) v.buckets kept.limits.buckets) in
-      reported name_row IsBucketName _ (all_taken IsBucketName most _ (all_filtered IsBucketName (λ name. is_behind name after) (map (λ (b : Bucket). b.name) v.buckets) names))
+      reported name_row IsBucketName _ (all_taken IsBucketName most _ (all_filtered IsBucketName (λ name. comes_after name after) (map (λ (b : Bucket). b.name) v.buckets) names))

@@ -56,13 +56,13 @@ names_apart name (b ∷ bs) up = (all_weaker (λ c. bucket_cmp b c ≡ Less) (λ
 
 -- ---- places
 
-behind : (bucket : List ℕ) (place least : ℕ) (rs : List Rule) → least < place → AllByRecursion (λ r. least < r.place) (rules_from bucket place rs)
-behind bucket place least [] low = tt
-behind bucket place least (r ∷ rs) low = (low, behind bucket (place + 1) least rs (omega (arith, low)))
+after : (bucket : List ℕ) (place least : ℕ) (rs : List Rule) → least < place → AllByRecursion (λ r. least < r.place) (rules_from bucket place rs)
+after bucket place least [] low = tt
+after bucket place least (r ∷ rs) low = (low, after bucket (place + 1) least rs (omega (arith, low)))
 
 places_rise : (bucket : List ℕ) (place : ℕ) (rs : List Rule) → Ascending (λ r s. r.place < s.place) (rules_from bucket place rs)
 places_rise bucket place [] = tt
-places_rise bucket place (r ∷ rs) = (behind bucket (place + 1) place rs (omega arith), places_rise bucket (place + 1) rs)
+places_rise bucket place (r ∷ rs) = (after bucket (place + 1) place rs (omega arith), places_rise bucket (place + 1) rs)
 
 given_rise : (bucket : List ℕ) (o : Option (List Rule)) → Ascending (λ r s. r.place < s.place) (rules_if_given bucket o)
 given_rise bucket None = tt

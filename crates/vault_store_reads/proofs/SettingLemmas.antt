@@ -53,13 +53,13 @@ ids_apart id hs ids = ascending_weaker (λ g h. g.entry.id < h.entry.id) (λ g h
 
 -- ---- places
 
-behind : (id place least : ℕ) (ss : List Setting) → least < place → AllByRecursion (λ s. least < s.place) (settings_from id place ss)
-behind id place least [] low = tt
-behind id place least (s ∷ ss) low = (low, behind id (place + 1) least ss (omega (arith, low)))
+after : (id place least : ℕ) (ss : List Setting) → least < place → AllByRecursion (λ s. least < s.place) (settings_from id place ss)
+after id place least [] low = tt
+after id place least (s ∷ ss) low = (low, after id (place + 1) least ss (omega (arith, low)))
 
 places_rise : (id place : ℕ) (ss : List Setting) → IsAscending (λ s t. s.place < t.place) (settings_from id place ss)
 places_rise id place [] = tt
-places_rise id place (s ∷ ss) = (behind id (place + 1) place ss (omega arith), places_rise id (place + 1) ss)
+places_rise id place (s ∷ ss) = (after id (place + 1) place ss (omega arith), places_rise id (place + 1) ss)
 
 all_of : (id place : ℕ) (ss : List Setting) (n : ℕ) → AllByRecursion (λ s. (s.id == n) ≡ (id == n)) (settings_from id place ss)
 all_of id place [] n = tt

@@ -42,13 +42,13 @@ use Rattle.vault_store_reads.proofs.ValueLemmas.{number_less}
 abbrev IsEarlier : Tenure → Tenure → Type 0
 IsEarlier s t = s.number < t.number
 
-behind : (moves end least : ℕ) (t : Tenure) (ts : List Tenure) → least < t.number → FollowOn moves end t ts → AllByRecursion (λ u. least < u.number) (t ∷ ts)
-behind moves end least t [] low follow = (low, tt)
-behind moves end least t (u ∷ us) low follow = (low, behind moves end least u us (omega (arith, low, follow.0)) follow.4)
+after : (moves end least : ℕ) (t : Tenure) (ts : List Tenure) → least < t.number → FollowOn moves end t ts → AllByRecursion (λ u. least < u.number) (t ∷ ts)
+after moves end least t [] low follow = (low, tt)
+after moves end least t (u ∷ us) low follow = (low, after moves end least u us (omega (arith, low, follow.0)) follow.4)
 
 numbers_rise : (moves end : ℕ) (t : Tenure) (ts : List Tenure) → FollowOn moves end t ts → IsAscending IsEarlier (t ∷ ts)
 numbers_rise moves end t [] follow = (tt, tt)
-numbers_rise moves end t (u ∷ us) follow = (behind moves end t.number u us follow.0 follow.4, numbers_rise moves end u us follow.4)
+numbers_rise moves end t (u ∷ us) follow = (after moves end t.number u us follow.0 follow.4, numbers_rise moves end u us follow.4)
 
 theirs_rise : (v : Vault) (e : Entry) (ts : List Tenure) → AreTenures v e ts → IsAscending IsEarlier ts
 theirs_rise v e [] are = absurd are

@@ -53,7 +53,7 @@ null_if_held (Some r) is = absurd (cc is)
 pub number_less : (a b : ℕ) → a < b → ordering_then (value_cmp (number a) (number b)) Equal ≡ Less
 number_less a b low = ap (λ o. ordering_then o Equal) (value_cmp-Int (pos a) (pos b) ∙ int_less a b low)
 
--- what is NULL in both is distinguished by the number behind it
+-- what is NULL in both is distinguished by the number after it
 pub null_then_less : (a b : ℕ) → a < b → ordering_then (value_cmp Null Null) (ordering_then (value_cmp (number a) (number b)) Equal) ≡ Less
 null_then_less a b low = ap (λ o. ordering_then o (ordering_then (value_cmp (number a) (number b)) Equal)) (value_cmp-Null Null) ∙ number_less a b low
 

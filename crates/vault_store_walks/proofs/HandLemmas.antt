@@ -76,7 +76,7 @@ begin_removed s v keeps is_open rows begins =
 same_rows : (xs ys : List Row) → IsProp (xs ≡ ys)
 same_rows xs ys = Coded-set (coded_list row.the_row.coded) xs ys
 
--- how the rows of the removed entries go on behind these
+-- how the rows of the removed entries go on after these
 pub on_removed : (s : State) (v : Vault) → ∥ Keeps s v ∥₁ → IsTrue s.is_open → (rows : List Row) → Begins removed_text [] s rows → (tail : List Row) × (rows ++ tail ≡ map entry_row (removed_entries v))
 on_removed s v kept is_open rows begins =
     let all = map entry_row (removed_entries v) in (

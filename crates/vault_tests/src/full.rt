@@ -4,7 +4,7 @@ use std::test::Fail;
 use vault_core_model::keeper::Keeper;
 use vault_tests_doubles::watched_keeper::WatchedKeeper;
 use vault_transcript::transcript::play;
-use vault_transcript::trial::{Trial, try_behind};
+use vault_transcript::trial::{Trial, try_after};
 
 /// Key `a` is to be marked and to lose version 1, key `b` to be marked, key `c` to lose version 4 and then
 /// its marker.
@@ -28,7 +28,7 @@ const BEFORE: &str = r#"
 struct Full {
     ids: u64,
     transcript: &'static str,
-    behind: &'static str,
+    after: &'static str,
 }
 
 impl Full {
@@ -41,7 +41,7 @@ impl Full {
 impl Trial for Full {
     fn carry_out<K: Keeper>(&self, alloc: Global, keeper: &mut K) -> Result<(), Fail> {
         self.play(alloc, keeper)?;
-        play(alloc, keeper, self.behind)
+        play(alloc, keeper, self.after)
     }
 }
 
@@ -101,29 +101,29 @@ const VAULTS: [Full; 4] = [
     Full {
         ids: 1,
         transcript: MARK_WITHOUT_ID,
-        behind: SECOND_RUN,
+        after: SECOND_RUN,
     },
     Full {
         ids: 0,
         transcript: FIRST_MARK_WITHOUT_ID,
-        behind: "",
+        after: "",
     },
     Full {
         ids: 0,
         transcript: REMOVALS,
-        behind: "",
+        after: "",
     },
     Full {
         ids: 0,
         transcript: NOTHING_ADMITTED,
-        behind: "",
+        after: "",
     },
 ];
 
 #[test]
 fn vaults_that_run_out_of_ids(rt: HostRuntime) -> Result<(), Fail> {
     for full in &VAULTS {
-        try_behind(rt.alloc(), BEFORE, full)?;
+        try_after(rt.alloc(), BEFORE, full)?;
     }
     Ok(())
 }

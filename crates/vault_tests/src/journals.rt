@@ -3,7 +3,7 @@ ghost use Rattle.std.specs.Prelude.{None};
 
 use std::alloc::Global;
 use std::cell::Cell;
-use std::io::{self, Write};
+use std::io::{self, BufWriter, Write};
 use std::test::Fail;
 use vault_core::fuse_keeper::FuseKeeper;
 use vault_core_list::list_keeper::ListKeeper;
@@ -182,4 +182,51 @@ fn a_line_comes_before_its_reply(rt: HostRuntime) -> Result<(), Fail> {
         str::from_utf8(written.as_slice())?,
         wanted.as_str(),
     )
+}
+
+/// A writer that takes all, and fails where what it holds back is to be handed on.
+#[derive(Drop)]
+struct Unflushed;
+
+impl Write for Unflushed {
+    ghost contents = { λ _. None };
+
+    fn write(&mut self, buf: &[u8]) -> io::Result<usize> {
+        Ok(buf.len())
+    }
+
+    fn flush(&mut self) -> io::Result<()> {
+        Err(io::Error::from(io::ErrorKind::TimedOut))
+    }
+}
+
+/// What the journal's writer holds back is handed on after each line.
+#[test]
+fn a_line_is_handed_on(rt: HostRuntime) -> Result<(), Fail> {
+    let alloc = rt.alloc();
+    let mut keeper = ListKeeper::new(alloc)?;
+    let text = Cell::new(Vec::new(alloc));
+    let writer = BufWriter::new(alloc, Sharing { alloc, text: &text })?;
+    let journal = journal_of(alloc, &mut keeper, writer)?;
+    let written = text.replace(Vec::new(alloc));
+    let wanted = wanted(alloc, 8, "")?;
+    compare(
+        "the journal",
+        str::from_utf8(written.as_slice())?,
+        wanted.as_str(),
+    )?;
+    drop(journal);
+    Ok(())
+}
+
+/// A line that isn't handed on is the journal's last.
+#[test]
+fn a_line_that_is_held_back_loses_a_journal(rt: HostRuntime) -> Result<(), Fail> {
+    let alloc = rt.alloc();
+    let mut keeper = ListKeeper::new(alloc)?;
+    let journal = journal_of(alloc, &mut keeper, Unflushed)?;
+    if journal.state != JournalState::Lost {
+        return Err(Fail::new("the journal isn't lost"));
+    }
+    Ok(())
 }

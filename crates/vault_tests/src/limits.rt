@@ -11,7 +11,7 @@ use vault_core_model::keeper::Keeper;
 use vault_core_model::reply::{Answer, Reply};
 use vault_tests_doubles::rigged_keeper::RiggedKeeper;
 use vault_transcript::transcript::play;
-use vault_transcript::trial::{Trial, try_behind, try_on_new};
+use vault_transcript::trial::{Trial, try_after, try_on_new};
 
 /// The name that was read. A proof of a test goes through one way out of it, in place of two of each reading.
 fn named<T: Drop>(read: Result<Result<T, NameFault>, AllocError>) -> Result<T, Fail> {
@@ -336,7 +336,7 @@ fn limits_that_no_vault_is_filled_up_to(rt: HostRuntime) -> Result<(), Fail> {
             transcript,
             asked: *asked,
         };
-        try_behind(rt.alloc(), before, &limit)?;
+        try_after(rt.alloc(), before, &limit)?;
     }
     Ok(())
 }

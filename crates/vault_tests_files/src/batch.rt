@@ -24,7 +24,7 @@ fn file(alloc: Global, name: &str, bytes: &str) -> Result<File, Fail> {
     Ok(File { name, bytes })
 }
 
-/// Files by name and bytes. With a number the folder refuses the read behind so many.
+/// Files by name and bytes. With a number the folder refuses the read after n.
 pub fn folder(
     alloc: Global,
     files: &[(&str, &str)],
@@ -114,7 +114,7 @@ fn printed<K: Keeper, F: Folder>(
 pub struct Listed<'a> {
     /// Each file's name and bytes.
     pub files: &'a [(&'a str, &'a str)],
-    /// With a number the folder refuses the read behind so many.
+    /// With a number the folder refuses the read after n.
     pub left: Option<u64>,
     pub list: &'a [u8],
     pub wanted: &'a str,

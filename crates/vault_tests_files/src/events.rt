@@ -7,7 +7,7 @@ use vault_failing::streams::FailingWriter;
 use vault_files::ExportFault;
 use vault_files_events::export_events;
 use vault_transcript::replies_of::{answers_still, stated};
-use vault_transcript::trial::{Trial, compare, try_behind};
+use vault_transcript::trial::{Trial, compare, try_after};
 
 /// A version under governance and a hold, which is lifted; its bucket moves there and back; it is removed by a bypass.
 /// And a marker.
@@ -53,7 +53,7 @@ fn export<K: Keeper, W: Write>(
     export_events(alloc, keeper, writer, None).err()
 }
 
-/// What a writer gets that takes so many writes, and whether it took all.
+/// What a writer gets that takes n writes, and whether it took all.
 fn written<K: Keeper>(
     alloc: Global,
     keeper: &mut K,
@@ -81,7 +81,7 @@ struct Events<'a> {
 }
 
 impl Events<'_> {
-    /// Fails unless what is written for a writer that takes so many writes is a beginning of the text, longer than the one
+    /// Fails unless what is written for a writer that takes n writes is a beginning of the text, longer than the one
     /// before, and the whole text where it takes all.
     fn cut<K: Keeper>(
         &self,
@@ -124,7 +124,7 @@ impl Trial for Events<'_> {
 #[test]
 fn events_are_cut_after_each_write(rt: HostRuntime) -> Result<(), Fail> {
     for (transcript, whole, writes) in [("", OF_NOTHING, 1), (HISTORY, OF_EVENTS, 3)] {
-        try_behind(rt.alloc(), transcript, &Events { whole, writes })?;
+        try_after(rt.alloc(), transcript, &Events { whole, writes })?;
     }
     Ok(())
 }
@@ -152,5 +152,5 @@ impl Trial for HeldBack {
 /// What is held back is handed on before the events count as written, and a fault of that is reported.
 #[test]
 fn events_that_are_held_back_fail_at_their_end(rt: HostRuntime) -> Result<(), Fail> {
-    try_behind(rt.alloc(), HISTORY, &HeldBack)
+    try_after(rt.alloc(), HISTORY, &HeldBack)
 }

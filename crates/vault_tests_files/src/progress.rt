@@ -15,7 +15,7 @@ fn a_line_is_printed_after_each_thousand(rt: HostRuntime) -> Result<(), Fail> {
 
 /// The line of the columns' names is no row, and a line may come in pieces.
 #[test]
-fn rows_are_counted_behind_the_first_line(rt: HostRuntime) -> Result<(), Fail> {
+fn rows_are_counted_after_the_first_line(rt: HostRuntime) -> Result<(), Fail> {
     let mut stated = Vec::new(rt.alloc());
     let mut lines = count_lines(&mut stated, 0, b"version,bucket\n");
     for _ in 0..1_000 {

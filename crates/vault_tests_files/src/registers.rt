@@ -7,7 +7,7 @@ use vault_failing::streams::FailingWriter;
 use vault_files::ExportFault;
 use vault_files::register::export_register;
 use vault_transcript::replies_of::{answers_still, stated};
-use vault_transcript::trial::{Trial, compare, try_behind};
+use vault_transcript::trial::{Trial, compare, try_after};
 
 /// Three entries are removed.
 const REMOVALS: &str = r#"
@@ -56,7 +56,7 @@ fn compare_answers(
     Err(Fail::new(format_args!("the register: wanted {wanted:?}, got {given:?}")))
 }
 
-/// What a writer gets that takes so many writes. Fails where another answer comes.
+/// What a writer gets that takes n writes. Fails where another answer comes.
 fn written<K: Keeper>(
     alloc: Global,
     keeper: &mut K,
@@ -73,7 +73,7 @@ fn written<K: Keeper>(
     Ok(written)
 }
 
-/// The first so many lines of a text.
+/// The first n lines of a text.
 fn front_of(alloc: Global, text: &str, count: usize) -> Result<String, Fail> {
     let mut front = String::new(alloc);
     for line in text.lines().take(count) {
@@ -90,7 +90,7 @@ struct Register<'a> {
 }
 
 impl Register<'_> {
-    /// For a writer that takes so many writes: what was written before the first that fails stands.
+    /// For a writer that takes n writes: what was written before the first that fails stands.
     fn cut<K: Keeper>(
         &self,
         alloc: Global,
@@ -103,7 +103,7 @@ impl Register<'_> {
         compare("the register", written.as_str(), front.as_str())
     }
 
-    /// Behind each of its writes but the last, and behind the last.
+    /// After each of its writes but the last, and after the last.
     fn cut_each<K: Keeper>(&self, alloc: Global, keeper: &mut K) -> Result<(), Fail> {
         let count = self.whole.lines().count();
         for writes in 0..count {
@@ -123,9 +123,9 @@ impl Trial for Register<'_> {
 }
 
 #[test]
-fn a_register_is_cut_behind_each_write(rt: HostRuntime) -> Result<(), Fail> {
+fn a_register_is_cut_after_each_write(rt: HostRuntime) -> Result<(), Fail> {
     for (transcript, whole) in [("", OF_NOTHING), (REMOVALS, OF_REMOVALS)] {
-        try_behind(rt.alloc(), transcript, &Register { whole })?;
+        try_after(rt.alloc(), transcript, &Register { whole })?;
     }
     Ok(())
 }
@@ -150,5 +150,5 @@ impl Trial for HeldBack {
 /// What is held back is handed on before the register counts as written, and a fault of that is reported.
 #[test]
 fn a_register_that_is_held_back_fails_at_its_end(rt: HostRuntime) -> Result<(), Fail> {
-    try_behind(rt.alloc(), REMOVALS, &HeldBack)
+    try_after(rt.alloc(), REMOVALS, &HeldBack)
 }

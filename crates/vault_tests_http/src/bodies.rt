@@ -1,4 +1,4 @@
-//! Bodies that come in pieces, with a request right behind them, and what is left where a reader ends or fails, or the
+//! Bodies that come in pieces, with a request right after them, and what is left where a reader ends or fails, or the
 //! device fails, in the middle of one.
 use crate::exchange::NO_BODY;
 use crate::serving::{GET, READING, exchange, serve, spelled};
@@ -32,7 +32,7 @@ const DEVICE: &str =
 /// How contents come.
 #[derive(Clone, Copy)]
 enum Coming {
-    /// One of so many bytes, in pieces of at most so many; whether through a buffer.
+    /// One of n bytes, in pieces of at most m; whether through a buffer.
     InPieces(u32, usize, bool),
     /// Large ones that are cut; whether their reader fails there.
     Cut(bool),
@@ -56,7 +56,7 @@ struct PieceReader<'a> {
     bytes: &'a [u8],
     /// How many bytes it gives at most at once.
     piece: usize,
-    /// Whether it fails behind them.
+    /// Whether it fails after them.
     fails: bool,
     is_interrupted: bool,
 }
@@ -75,7 +75,7 @@ impl Read for PieceReader<'_> {
     }
 }
 
-/// These bytes, in pieces of at most so many, and then the end or a failure.
+/// These bytes, in pieces of at most n, and then the end or a failure.
 fn in_pieces(bytes: &[u8], piece: usize, fails: bool) -> PieceReader<'_> {
     PieceReader {
         bytes,
@@ -85,7 +85,7 @@ fn in_pieces(bytes: &[u8], piece: usize, fails: bool) -> PieceReader<'_> {
     }
 }
 
-/// So many bytes, which no piece can be left out of, or come twice or too early in, unseen.
+/// This many bytes, which no piece can be left out of, or come twice or too early in, unseen.
 fn content_of(alloc: Global, size: u32) -> Result<Vec<u8>, AllocError> {
     let mut content = Vec::new(alloc);
     for at in 0..size {
@@ -94,7 +94,7 @@ fn content_of(alloc: Global, size: u32) -> Result<Vec<u8>, AllocError> {
     Ok(content)
 }
 
-/// What a text spells, and these bytes behind it.
+/// What a text spells, and these bytes after it.
 fn with_body(alloc: Global, text: &str, body: &[u8]) -> Result<Vec<u8>, AllocError> {
     let text = spelled(alloc, text)?;
     let mut bytes = Vec::new(alloc);
@@ -149,7 +149,7 @@ fn compare_text<R: Read, K: Keeper>(
     compare_next(alloc, reader, keeper, Ok(()), answer.as_bytes())
 }
 
-/// The content is put and then got, by two requests that stand one right behind the other, and then nothing comes.
+/// The content is put and then got, by two requests that stand one right after the other, and then nothing comes.
 fn put_and_get<R: Read, K: Keeper>(
     alloc: Global,
     reader: &mut R,
@@ -162,7 +162,7 @@ fn put_and_get<R: Read, K: Keeper>(
     compare_text(alloc, reader, keeper, "")
 }
 
-/// A request that puts a content, and right behind it one that gets it.
+/// A request that puts a content, and right after it one that gets it.
 fn put_and_get_of(alloc: Global, content: &[u8]) -> Result<Vec<u8>, AllocError> {
     let mut input = put_of(alloc, content)?;
     let get = spelled(alloc, GET)?;
@@ -196,7 +196,7 @@ fn come_in_each_piece(alloc: Global, size: u32) -> Result<(), Fail> {
     Ok(())
 }
 
-/// Whatever the pieces, the body is what the request says, and nothing behind it is taken.
+/// Whatever the pieces, the body is what the request says, and nothing after it is taken.
 #[test]
 fn bodies_in_pieces(rt: HostRuntime) -> Result<(), Fail> {
     for size in SIZES {
@@ -225,7 +225,7 @@ fn cut_body<K: Keeper>(
     }
 }
 
-/// Each such beginning makes no step; the whole body does, and behind it nothing is read any more.
+/// Each such beginning makes no step; the whole body does, and after it nothing is read any more.
 fn cut_bodies<K: Keeper>(alloc: Global, keeper: &mut K, fails: bool) -> Result<(), Fail> {
     let content = content_of(alloc, LARGE)?;
     for cut in CUTS {
@@ -258,17 +258,17 @@ fn compare_faults<K: Keeper>(keeper: &mut K) -> Result<(), Fail> {
     Err(Fail::new(format_args!("wanted 1 fault, got {faults}")))
 }
 
-/// A content of so many bytes, which the device refuses the first time.
+/// A content of n bytes, which the device refuses the first time.
 #[derive(Clone, Copy)]
 struct Refused(u32);
 
 impl Trial for Refused {
-    /// It is put, and put again right behind, and got.
+    /// It is put, and put again right after, and got.
     fn carry_out<K: Keeper>(&self, alloc: Global, keeper: &mut K) -> Result<(), Fail> {
         let content = content_of(alloc, self.0)?;
         let mut input = put_of(alloc, content.as_slice())?;
-        let behind = put_and_get_of(alloc, content.as_slice())?;
-        input.extend_from_slice(behind.as_slice())?;
+        let after = put_and_get_of(alloc, content.as_slice())?;
+        input.extend_from_slice(after.as_slice())?;
         let mut reader = in_pieces(input.as_slice(), 4_095, false);
         compare_text(alloc, &mut reader, keeper, DEVICE)?;
         put_and_get(alloc, &mut reader, keeper, content.as_slice())?;
@@ -276,7 +276,7 @@ impl Trial for Refused {
     }
 }
 
-/// A device that refuses a content, a small one or a large one, leaves the request behind it whole, and the vault as it
+/// A device that refuses a content, a small one or a large one, leaves the request after it whole, and the vault as it
 /// was.
 #[test]
 fn a_device_that_refuses_a_content(rt: HostRuntime) -> Result<(), Fail> {

@@ -1,4 +1,4 @@
-//! Each row's request, of which a reader gives a beginning: behind every byte it ends, or it fails.
+//! Each row's request, of which a reader gives a beginning: after every byte it ends, or it fails.
 use crate::exchange::{Exchange, answer_whole, compare_deed};
 use crate::rows::rows;
 use crate::serving::{READING, answer, serve};
@@ -11,14 +11,14 @@ use vault_failing::streams::FailingReader;
 use vault_http::ServeFault;
 use vault_transcript::replies_of::edge;
 
-/// What a reader does behind the bytes that it gives.
+/// What a reader does after the bytes that it gives.
 #[derive(Clone, Copy)]
 enum Cut {
     Ends,
     Fails,
 }
 
-/// Fails unless the first so many bytes get their one answer where the reader ends.
+/// Fails unless the first n bytes get their one answer where the reader ends.
 fn serve_ending<K: Keeper>(
     alloc: Global,
     keeper: &mut K,
@@ -42,7 +42,7 @@ fn serve_from<K: Keeper>(
     Ok((String::from_utf8(written)?, served))
 }
 
-/// Fails unless `Read` is reported where the reader fails behind so many bytes, and nothing but 100 Continue is written.
+/// Fails unless `Read` is reported where the reader fails after n bytes, and nothing but 100 Continue is written.
 /// Where they are all that is read, it isn't asked any more, and they get their answer.
 fn serve_failing<K: Keeper>(
     alloc: Global,
@@ -73,8 +73,8 @@ fn serve_front<K: Keeper>(
     }
 }
 
-/// The first so many bytes make no step.
-fn cut_behind<K: Keeper>(
+/// The first n bytes make no step.
+fn cut_after<K: Keeper>(
     alloc: Global,
     keeper: &mut K,
     exchange: &Exchange,
@@ -104,7 +104,7 @@ fn cut_each<K: Keeper>(
     cut: Cut,
 ) -> Result<(), Fail> {
     for size in 0..whole_of(exchange, cut) {
-        cut_behind(alloc, keeper, exchange, cut, size)?;
+        cut_after(alloc, keeper, exchange, cut, size)?;
     }
     Ok(())
 }
@@ -149,7 +149,7 @@ fn cut_rows(alloc: Global, cut: Cut) -> Result<(), Fail> {
     Ok(())
 }
 
-/// No byte gets no answer; a cut head gets InvalidArgument, a cut body MalformedBody behind 100 Continue where
+/// No byte gets no answer; a cut head gets InvalidArgument, a cut body MalformedBody after 100 Continue where
 /// the head asked for it, and neither makes a step: what `serve_one` says in `ok`.
 #[test]
 fn a_request_that_is_cut_makes_no_step(rt: HostRuntime) -> Result<(), Fail> {

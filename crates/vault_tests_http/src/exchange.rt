@@ -15,7 +15,7 @@ const NO_HEAD: &str =
 pub const NO_BODY: &str =
     "HTTP/1.1 400 Bad Request\r\ndate: Mon, 15 Jan 2024 10:30:00 GMT\r\nconnection: close\r\ncontent-type: application/json\r\ncontent-length: 31\r\n\r\n{\"code\":\"MalformedBody\",\"n\":12}";
 
-/// The same behind `GO_ON`.
+/// The same after `GO_ON`.
 const GO_ON_NO_BODY: &str =
     "HTTP/1.1 100 Continue\r\n\r\nHTTP/1.1 400 Bad Request\r\ndate: Mon, 15 Jan 2024 10:30:00 GMT\r\nconnection: close\r\ncontent-type: application/json\r\ncontent-length: 31\r\n\r\n{\"code\":\"MalformedBody\",\"n\":12}";
 
@@ -57,7 +57,7 @@ impl Exchange {
         })
     }
 
-    /// Fails unless this is what is answered to the first so many bytes.
+    /// Fails unless this is what is answered to the first n bytes.
     pub fn compare_answer(&self, size: usize, given: &str) -> Result<(), Fail> {
         let name = self.request.as_str();
         if size == 0 {
@@ -73,7 +73,7 @@ impl Exchange {
         }
     }
 
-    /// Fails unless this is what is written before the rest of so many bytes is waited for.
+    /// Fails unless this is what is written before the rest of n bytes is waited for.
     pub fn compare_replies(&self, size: usize, given: &str) -> Result<(), Fail> {
         let name = self.request.as_str();
         if self.waits && size >= self.head {
@@ -83,14 +83,14 @@ impl Exchange {
         }
     }
 
-    /// The first bytes of the request, so many.
+    /// The first n bytes of the request.
     pub fn front(&self, size: usize) -> Result<&[u8], Fail> {
         Ok(self.request.as_bytes().get(..size).ok_or("a front")?)
     }
 }
 
 /// Fails unless the whole request is answered as it should be, and what isn't read of it is left, as is what comes
-/// behind it.
+/// after it.
 pub fn answer_whole<K: Keeper>(
     alloc: Global,
     keeper: &mut K,

@@ -59,8 +59,8 @@ const REFUSED: &str =
 const REFUSED_HEAD: &str =
     "HTTP/1.1 503 Service Unavailable\r\ndate: Mon, 15 Jan 2024 10:30:00 GMT\r\nconnection: close\r\ncontent-type: application/json\r\ncontent-length: 24\r\n\r\n";
 
-/// The bytes behind 100 Continue, if it was written.
-fn behind_go_on(written: &str) -> &str {
+/// The bytes after 100 Continue, if it was written.
+fn after_go_on(written: &str) -> &str {
     written.strip_prefix(GO_ON).unwrap_or(written)
 }
 
@@ -74,7 +74,7 @@ fn ending_of(
     if served == Ok(()) && text == exchange.whole.as_str() {
         return Ok(Ending::Answered);
     }
-    let last = behind_go_on(text);
+    let last = after_go_on(text);
     if served == Ok(()) && (last == REFUSED || last == REFUSED_HEAD) {
         return Ok(Ending::Refused);
     }
@@ -122,13 +122,13 @@ fn stated_after<K: Filled>(alloc: Global, exchange: &Exchange) -> Result<String,
     stated(alloc, &mut keeper)
 }
 
-/// The vault is as behind the request; where the refusal was answered it is as before, and where nothing was
+/// The vault is as after the request; where the refusal was answered it is as before, and where nothing was
 /// answered it is either of both.
-fn is_promised(ending: Ending, left: &str, before: &str, behind: &str) -> bool {
+fn is_promised(ending: Ending, left: &str, before: &str, after: &str) -> bool {
     match ending {
-        Ending::Answered => left == behind,
+        Ending::Answered => left == after,
         Ending::Refused => left == before,
-        Ending::Faulted => left == before || left == behind,
+        Ending::Faulted => left == before || left == after,
     }
 }
 
@@ -158,15 +158,15 @@ fn report_troubled(rt: &HostRuntime, ending: Ending, is_changed: bool) -> Result
 fn judge<K: Filled>(rt: &HostRuntime, case: &mut Case<K>) -> Result<(), Fail> {
     let alloc = rt.alloc();
     let before = stated_before::<K>(alloc)?;
-    let behind = stated_after::<K>(alloc, &case.exchange)?;
+    let after = stated_after::<K>(alloc, &case.exchange)?;
     let request = case.exchange.request.as_str();
-    if (before.as_str() == behind.as_str()) == (case.exchange.deed == Deed::Made) {
+    if (before.as_str() == after.as_str()) == (case.exchange.deed == Deed::Made) {
         return Err(Fail::new(format_args!("{request} doesn't do what it should")));
     }
     let left = stated(alloc, &mut case.keeper)?;
     let is_changed = is_changed(case.exchange.deed, left.as_str(), before.as_str());
     report_troubled(rt, case.ending, is_changed)?;
-    if is_promised(case.ending, left.as_str(), before.as_str(), behind.as_str()) {
+    if is_promised(case.ending, left.as_str(), before.as_str(), after.as_str()) {
         return Ok(());
     }
     Err(Fail::new(format_args!("{request} leaves another vault")))

@@ -5,7 +5,7 @@ use std::test::Fail;
 use vault_core_model::keeper::Keeper;
 use vault_transcript::trial::{Trial, try_on_new};
 
-/// A request with a part so many times where `#` stands.
+/// A request with a part n times where `#` stands.
 fn lengthened(
     alloc: Global,
     request: &str,

@@ -1,4 +1,4 @@
-//! Readings of the clock that come again, lie behind the last one, or are no moment.
+//! Readings of the clock that come again, lie after the last one, or are no moment.
 use crate::serving::{GET, READING, exchange};
 use std::alloc::Global;
 use std::test::Fail;

@@ -7,7 +7,7 @@ pub enum Deed {
     Made,
     /// It is read to its end, and changes nothing.
     Read,
-    /// It changes nothing, and what comes behind its head isn't read.
+    /// It changes nothing, and what comes after its head isn't read.
     Left,
 }
 

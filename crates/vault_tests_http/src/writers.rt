@@ -14,9 +14,9 @@ use vault_http::ServeFault;
 /// Where a writer fails.
 #[derive(Clone, Copy, Debug)]
 enum Full {
-    /// Behind so many writes.
-    Behind(u64),
-    /// At its first write, behind a writer that holds back what it is handed.
+    /// After n writes.
+    After(u64),
+    /// At its first write, after a writer that holds back what it is handed.
     HeldBack,
 }
 
@@ -27,7 +27,7 @@ fn writer_of(alloc: Global, writes_left: u64) -> FailingWriter {
     }
 }
 
-/// Serves bytes to a writer that takes so many writes: what it took, and what that comes to.
+/// Serves bytes to a writer that takes n writes: what it took, and what that comes to.
 fn serve_to<K: Keeper>(
     alloc: Global,
     keeper: &mut K,
@@ -41,7 +41,7 @@ fn serve_to<K: Keeper>(
 }
 
 /// Fails unless the writer takes what was to be written before its fault: what is reported.
-fn serve_behind<K: Keeper>(
+fn serve_after<K: Keeper>(
     alloc: Global,
     keeper: &mut K,
     exchange: &Exchange,
@@ -74,7 +74,7 @@ fn serve_stopped<K: Keeper>(
     full: Full,
 ) -> Result<Result<(), ServeFault>, Fail> {
     match full {
-        Full::Behind(writes) => serve_behind(alloc, keeper, exchange, size, writes),
+        Full::After(writes) => serve_after(alloc, keeper, exchange, size, writes),
         Full::HeldBack => serve_held_back(alloc, keeper, exchange.front(size)?),
     }
 }
@@ -104,10 +104,10 @@ fn refuse_each_write<K: Filled>(alloc: Global, exchange: &Exchange) -> Result<()
     let size = exchange.request.len();
     let is_made = exchange.deed == Deed::Made;
     let is_made_first = is_made && !exchange.waits;
-    refuse_write::<K>(alloc, exchange, size, Full::Behind(0), is_made_first)?;
+    refuse_write::<K>(alloc, exchange, size, Full::After(0), is_made_first)?;
     refuse_write::<K>(alloc, exchange, size, Full::HeldBack, is_made_first)?;
     if exchange.waits {
-        refuse_write::<K>(alloc, exchange, size, Full::Behind(1), is_made)?;
+        refuse_write::<K>(alloc, exchange, size, Full::After(1), is_made)?;
     }
     Ok(())
 }
@@ -115,17 +115,17 @@ fn refuse_each_write<K: Filled>(alloc: Global, exchange: &Exchange) -> Result<()
 /// A cut head and a cut body: the answer to them fails, and nothing is changed.
 fn refuse_writes_to_cuts<K: Filled>(alloc: Global, exchange: &Exchange) -> Result<(), Fail> {
     let head = exchange.head;
-    refuse_write::<K>(alloc, exchange, 1, Full::Behind(0), false)?;
+    refuse_write::<K>(alloc, exchange, 1, Full::After(0), false)?;
     if head < exchange.read {
-        refuse_write::<K>(alloc, exchange, head, Full::Behind(0), false)?;
+        refuse_write::<K>(alloc, exchange, head, Full::After(0), false)?;
     }
     if exchange.waits {
-        refuse_write::<K>(alloc, exchange, head, Full::Behind(1), false)?;
+        refuse_write::<K>(alloc, exchange, head, Full::After(1), false)?;
     }
     Ok(())
 }
 
-/// Serves the whole request to a writer that takes so many writes, and fails unless that gets the whole answer.
+/// Serves the whole request to a writer that takes n writes, and fails unless that gets the whole answer.
 fn serve_all<K: Keeper>(
     alloc: Global,
     keeper: &mut K,

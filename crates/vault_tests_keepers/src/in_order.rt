@@ -52,7 +52,7 @@ const IDS: [(&str, u32, u32, &str); 14] = [
     ("c", 9, 9, ""),
 ];
 
-/// The names of at most so many buckets after a text.
+/// The names of at most n buckets after a text.
 const BUCKETS: [(&str, u32, &str); 9] = [
     ("", 9, "archive docs ledgers "),
     ("", 2, "archive docs "),

@@ -13,7 +13,7 @@ fn three_reads(reader: &mut FailingReader<'_>) -> [Option<usize>; 3] {
 }
 
 #[test]
-fn a_reader_fails_behind_its_bytes(rt: HostRuntime) -> Result<(), Fail> {
+fn a_reader_fails_after_its_bytes(rt: HostRuntime) -> Result<(), Fail> {
     let mut reader = FailingReader { bytes: b"abc" };
     assert_eq!(rt; three_reads(&mut reader), [Some(2), Some(1), None]);
     Ok(())
@@ -31,7 +31,7 @@ fn takes_one_write(alloc: Global) -> io::Result<bool> {
 }
 
 #[test]
-fn a_writer_fails_behind_its_writes(rt: HostRuntime) -> Result<(), Fail> {
+fn a_writer_fails_after_its_writes(rt: HostRuntime) -> Result<(), Fail> {
     assert!(rt; takes_one_write(rt.alloc())?);
     Ok(())
 }

@@ -4,7 +4,7 @@ use std::test::Fail;
 use vault_core_model::keeper::Keeper;
 use vault_tests_doubles::watched_keeper::WatchedKeeper;
 use vault_transcript::transcript::play;
-use vault_transcript::trial::{Trial, compare, try_behind};
+use vault_transcript::trial::{Trial, compare, try_after};
 
 const RULES: &str = r#"
 {"at":"2014-01-01T00:00:00Z","as":"ann","do":"set-rules","bucket":"docs","rules":[{"ID":"r1","Status":"Enabled","Expiration":{"Days":1}}]}
@@ -15,7 +15,7 @@ const RULES: &str = r#"
 pub struct Filling {
     before: &'static str,
     between: &'static str,
-    behind: &'static str,
+    later: &'static str,
     /// The calls by which a run makes its change.
     change: &'static str,
 }
@@ -25,13 +25,13 @@ pub const FILLINGS: [Filling; 2] = [
     Filling {
         before: "{\"at\":\"2024-03-01T00:00:00Z\",\"as\":\"ann\",\"do\":\"put\",\"bucket\":\"docs\",\"key\":\"k",
         between: "\",\"text\":\"x\"}\n  {\"ok\":{\"version_id\":",
-        behind: "}}\n",
+        later: "}}\n",
         change: "next id\nadmit\n",
     },
     Filling {
         before: "{\"at\":\"2024-03-01T00:00:00Z\",\"as\":\"ann\",\"do\":\"delete\",\"bucket\":\"docs\",\"key\":\"k",
         between: "\"}\n  {\"ok\":{\"delete_marker\":true,\"version_id\":",
-        behind: "}}\n",
+        later: "}}\n",
         change: "remove\n",
     },
 ];
@@ -54,7 +54,7 @@ fn fill_key<K: Keeper>(
         key.as_str(),
         filling.between,
         id.as_str(),
-        filling.behind,
+        filling.later,
     ];
     let lines = pieces.concat(alloc)?;
     play(alloc, keeper, lines.as_str())
@@ -245,7 +245,7 @@ fn a_run_asks_for_its_keys_in_pages(rt: HostRuntime) -> Result<(), Fail> {
             keys: *keys,
             transcript,
         };
-        try_behind(rt.alloc(), RULES, &run)?;
+        try_after(rt.alloc(), RULES, &run)?;
     }
     Ok(())
 }

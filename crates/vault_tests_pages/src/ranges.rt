@@ -6,7 +6,7 @@ use std::test::Fail;
 use vault_core_model::keeper::Keeper;
 use vault_tests_doubles::watched_keeper::WatchedKeeper;
 use vault_transcript::transcript::play;
-use vault_transcript::trial::{Trial, compare, try_behind};
+use vault_transcript::trial::{Trial, compare, try_after};
 
 /// The keys are `k1001` to `k1600`, each with one version.
 const KEYS: u32 = 600;
@@ -37,7 +37,7 @@ impl Trial for Asked {
 
 fn try_each(alloc: Global, rows: &[Asked]) -> Result<(), Fail> {
     for row in rows {
-        try_behind(alloc, row.before, row)?;
+        try_after(alloc, row.before, row)?;
     }
     Ok(())
 }

@@ -1,19 +1,9 @@
 //! Tests of the vault served over loopback, clients and server in one process: what is answered, and peers that
-//! are gone before they are answered. Other peers take their time, by a clock that moves as one waits, and requests
-//! come at known times.
+//! are gone before they are answered. Other peers take their time, by a clock that moves as one waits.
 #![tactic(auto)]
 
 #[cfg(test)]
 mod broken;
-#[cfg(test)]
-mod counting;
-#[cfg(test)]
-mod doors;
-#[cfg(test)]
-mod hearing;
-#[cfg(test)]
-mod in_time;
-pub mod known;
 #[cfg(test)]
 mod late;
 #[cfg(test)]
@@ -22,5 +12,3 @@ mod loopback;
 mod peers;
 #[cfg(test)]
 mod served;
-#[cfg(test)]
-mod slow;

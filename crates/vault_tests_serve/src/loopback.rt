@@ -13,9 +13,6 @@ use vaultctl_serve::peer::Peer;
 use vaultctl_serve::reporter::Reporter;
 use vaultctl_serve::{Means, Port, PortFault, serve, serve_arrivals};
 
-/// 2024-01-15T10:30:00Z.
-pub const READING: u64 = 1_705_314_600;
-
 /// A network in which, as soon as a port is bound, a client has sent each of the requests and waits for its
 /// answer; and a clock that stands still, but whose moment may not be read.
 #[derive(Drop)]

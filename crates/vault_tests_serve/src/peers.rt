@@ -1,5 +1,4 @@
 //! Peers that connect, send what they send, and are gone before their connection is taken.
-use crate::loopback::READING;
 use std::alloc::Global;
 use std::cell::Cell;
 use std::io;
@@ -7,20 +6,6 @@ use std::io::Write;
 use std::net::{Net, OpenListener, SocketAddr, TcpListener, TcpStream};
 use std::test::Fail;
 use std::time::{Clock, Duration};
-
-/// A clock that stands still.
-#[derive(Clone, Copy)]
-pub struct StandingClock;
-
-impl Clock for StandingClock {
-    fn monotonic(&self) -> io::Result<Duration> {
-        Ok(Duration::ZERO)
-    }
-
-    fn since_1970(&self) -> io::Result<Duration> {
-        Ok(Duration::from_secs(READING))
-    }
-}
 
 /// A clock that can't be read.
 #[derive(Clone, Copy)]

@@ -1,12 +1,13 @@
 //! Requests over loopback, with their answers byte for byte.
-use crate::loopback::{Failing, Loopback, READING, answered, send, serve_connections, serve_port};
-use crate::peers::{StandingClock, StoppedClock};
+use crate::loopback::{Failing, Loopback, answered, send, serve_connections, serve_port};
+use crate::peers::StoppedClock;
 use std::cell::Cell;
 use std::io;
 use std::net::{Ipv4Addr, TcpListener};
 use std::test::Fail;
 use vault_base::moment::Moment;
 use vault_core::fuse_keeper::FuseKeeper;
+use vault_tests_doors::clocks::{READING, StandingClock};
 use vault_transcript::transcript::opened;
 use vaultctl_serve::PortFault;
 use vaultctl_serve::clock::now;
@@ -157,7 +158,7 @@ fn a_clock_without_a_time(rt: HostRuntime) -> Result<(), Fail> {
     answered(alloc, clients, &[STORED])
 }
 
-/// A port that another listener has can't be had, and nothing is reported.
+/// A port that another listener has isn't free, and nothing is reported.
 #[test]
 fn a_port_that_is_taken(rt: HostRuntime) -> Result<(), Fail> {
     let alloc = rt.alloc();

@@ -58,7 +58,7 @@ pub struct Day {
 /// So few that each day has several copies.
 const SHORT_LOG: usize = 40;
 
-/// So many that no day has a copy but the one at its end.
+/// So large that no day has a copy but the one at its end.
 const LONG_LOG: usize = 1000;
 
 /// The day on which the vault is made.

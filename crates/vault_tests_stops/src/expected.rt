@@ -21,7 +21,7 @@ pub struct Progress {
     pub has_more: bool,
 }
 
-/// Carries out the lines behind the first so many, until the device fails.
+/// Carries out the lines after the first n, until the device fails.
 pub fn play<K: Keeper>(
     alloc: Global,
     keeper: &mut K,
@@ -44,7 +44,7 @@ pub fn play<K: Keeper>(
     })
 }
 
-/// The progress where the line behind so many got that reply. Fails where it says of no failure.
+/// The progress where the line after n got that reply. Fails where it says of no failure.
 fn failed_at(lines: usize, reply: &str) -> Result<Progress, Fail> {
     if !reply.contains("\"Device\"") {
         return Err(Fail::new("a failure isn't reported"));
@@ -103,28 +103,28 @@ fn add_played<K: Keeper>(
 }
 
 /// A vault over which lines were carried out.
-fn behind<K: Keeper + Drop>(alloc: Global, keeper: K, lines: &str) -> Result<K, Fail> {
+fn later<K: Keeper + Drop>(alloc: Global, keeper: K, lines: &str) -> Result<K, Fail> {
     let mut keeper = keeper;
     play(alloc, &mut keeper, lines, 0)?;
     Ok(keeper)
 }
 
-/// Adds what is said of the vault of earlier days, whose device fails behind so many changes of this one. Says
+/// Adds what is said of the vault of earlier days, whose device fails after n changes of this one. Says
 /// whether it failed.
-fn add_behind<K: Keeper + Drop>(
+fn add_after<K: Keeper + Drop>(
     alloc: Global,
     keeper: K,
     day: &Day,
     changes: u64,
     all: &mut Expected,
 ) -> Result<bool, Fail> {
-    let mut keeper = FuseKeeper::new(behind(alloc, keeper, day.before)?, changes);
+    let mut keeper = FuseKeeper::new(later(alloc, keeper, day.before)?, changes);
     let added = add_played(alloc, &mut keeper, day.lines, all);
     drop(keeper);
     added
 }
 
-/// The vault after each change of a day, kept as a list whose device fails behind that change. Fails where a change
+/// The vault after each change of a day, kept as a list whose device fails after that change. Fails where a change
 /// isn't reported.
 pub fn expect(alloc: Global, day: &Day) -> Result<Expected, Fail> {
     let mut all = Expected {
@@ -137,7 +137,7 @@ pub fn expect(alloc: Global, day: &Day) -> Result<Expected, Fail> {
 
 fn add_each(alloc: Global, day: &Day, all: &mut Expected) -> Result<(), Fail> {
     for changes in 0..MOST {
-        if !add_behind(alloc, ListKeeper::new(alloc)?, day, changes, all)? {
+        if !add_after(alloc, ListKeeper::new(alloc)?, day, changes, all)? {
             return all.lists_each_change();
         }
     }
@@ -155,7 +155,7 @@ impl Expected {
         before.saturating_add(progress.changes)
     }
 
-    /// Whether the text is what is said of the vault after so many changes.
+    /// Whether the text is what is said of the vault after n changes.
     fn is_after(&self, changes: usize, text: &str) -> bool {
         match self.states.get(changes) {
             Some(state) => state.as_str() == text,
@@ -163,7 +163,7 @@ impl Expected {
         }
     }
 
-    /// Whether the change that was being made is found, behind all that were acknowledged. Fails where
+    /// Whether the change that was being made is found, after all that were acknowledged. Fails where
     /// another vault is found than that with it or without it.
     pub fn finds_one_more(&self, progress: &Progress, text: &str) -> Result<bool, Fail> {
         let acknowledged = self.acknowledged(progress);

@@ -26,7 +26,7 @@ pub enum Phase {
 
 impl Phase {
     /// Whether the vault was there by then.
-    pub fn is_behind_entering(self) -> bool {
+    pub fn is_after_entering(self) -> bool {
         self != Phase::Opening && self != Phase::Entering
     }
 }
@@ -49,8 +49,8 @@ fn before_lines(phase: Phase) -> Stop {
     Stop { phase, progress }
 }
 
-/// A stop at a line, or behind the last one.
-fn behind_lines(progress: Progress) -> Stop {
+/// A stop at a line, or after the last one.
+fn after_lines(progress: Progress) -> Stop {
     let phase = if progress.has_failed {
         Phase::Asking
     } else {
@@ -68,7 +68,7 @@ fn is_over(worked: &Result<Stop, Fail>) -> bool {
 }
 
 /// Where the visit ended, if closing its files was sound, or else failed.
-fn behind_closing(worked: Result<Stop, Fail>, is_sound: bool) -> Result<Stop, Fail> {
+fn after_closing(worked: Result<Stop, Fail>, is_sound: bool) -> Result<Stop, Fail> {
     let stop = worked?;
     if is_sound {
         return Ok(stop);
@@ -124,7 +124,7 @@ fn worked_on<S: Alter>(
         Ok(keeper) => {
             let mut keeper = keeper;
             let worked = work(alloc, &mut keeper, visit);
-            (worked.map(behind_lines), keeper.into_connection())
+            (worked.map(after_lines), keeper.into_connection())
         }
         Err((Refusal::Device, conn)) => (Ok(before_lines(Phase::Entering)), conn),
         Err((refusal, conn)) => (Err(Fail::new(refusal.name())), conn),
@@ -135,7 +135,7 @@ fn let_go<D: Disk + Drop>(conn: Connection<FileStore<D>>) {
     drop(conn);
 }
 
-/// Closes the files behind a visit that wasn't stopped, and lets go of any others. Says whether no file failed then.
+/// Closes the files after a visit that wasn't stopped, and lets go of any others. Says whether no file failed then.
 fn close_or_leave<D: Disk + Drop>(conn: Connection<FileStore<D>>, is_over: bool) -> bool {
     if is_over {
         return conn.close().is_ok();
@@ -152,7 +152,7 @@ fn visited<D: Disk + Drop>(
 ) -> Result<Stop, Fail> {
     let (worked, conn) = worked_on(alloc, visit, conn);
     let is_sound = close_or_leave(conn, is_over(&worked));
-    behind_closing(worked, is_sound)
+    after_closing(worked, is_sound)
 }
 
 /// A visit to the vault in these files, up to its stop.
@@ -176,7 +176,7 @@ fn visited_from<S: Start>(
     stopped_in(alloc, visit, media.opened::<S>(calls)?)
 }
 
-/// A visit to the vault in these files, each of which fails behind so many calls, up to its stop.
+/// A visit to the vault in these files, each of which fails after n calls, up to its stop.
 pub fn visited_in(
     alloc: Global,
     media: &Media,

@@ -1,6 +1,6 @@
-//! Each of a vault's two files fails behind each number of calls in turn.
+//! Each of a vault's two files fails after each number of calls in turn.
 use crate::day::{Day, day_of_one_put_more, day_of_puts, first_day, later_day};
-use crate::trial::{Stops, prepare, stop_behind_each, syncs_on};
+use crate::trial::{Stops, prepare, stop_after_each, syncs_on};
 use std::alloc::Global;
 use std::test::Fail;
 use vault_failing::device::{TornWrites, Which};
@@ -8,13 +8,13 @@ use vault_failing::device::{TornWrites, Which};
 /// More calls than a day makes of a file.
 const MOST_CALLS: u64 = 10_000;
 
-/// About half of the calls that a later day makes of its log. Its stops behind fewer calls are one test, and those behind
+/// About half of the calls that a later day makes of its log. Its stops after fewer calls are one test, and those after
 /// as many and more are another, since a test of all of them takes longest.
 const HALF_OF_A_LATER_DAY: u64 = 170;
 
-/// Stops the day behind each number of calls of that file, from the first of these numbers up to below the second, or
+/// Stops the day after each number of calls of that file, from the first of these numbers up to below the second, or
 /// until it isn't stopped.
-fn stopped_behind(
+fn stopped_after(
     rt: &HostRuntime,
     day: Day,
     torn: TornWrites,
@@ -23,24 +23,24 @@ fn stopped_behind(
     to: u64,
 ) -> Result<Stops, Fail> {
     let trial = prepare(rt.alloc(), day, torn)?;
-    let stops = stop_behind_each(rt.alloc(), &trial, which, from, to)?;
+    let stops = stop_after_each(rt.alloc(), &trial, which, from, to)?;
     println!(rt; "{stops:?}")?;
     Ok(stops)
 }
 
-/// Stops the day behind each number of calls of that file, from none on until it isn't stopped. Fails where it has no
+/// Stops the day after each number of calls of that file, from none on until it isn't stopped. Fails where it has no
 /// stop in one of its phases.
 fn stopped(rt: &HostRuntime, day: Day, torn: TornWrites, which: Which) -> Result<Stops, Fail> {
-    let stops = stopped_behind(rt, day, torn, which, 0, MOST_CALLS)?;
+    let stops = stopped_after(rt, day, torn, which, 0, MOST_CALLS)?;
     if !stops.are_complete() {
         return Err(Fail::new("a day has a phase in which it isn't stopped"));
     }
     Ok(stops)
 }
 
-/// Stops a later day behind each number of calls of its log up to half of them. Fails where it isn't stopped behind each.
+/// Stops a later day after each number of calls of its log up to half of them. Fails where it isn't stopped after each.
 fn stopped_in_first_half(rt: &HostRuntime, torn: TornWrites) -> Result<Stops, Fail> {
-    let stops = stopped_behind(rt, later_day(), torn, Which::Log, 0, HALF_OF_A_LATER_DAY)?;
+    let stops = stopped_after(rt, later_day(), torn, Which::Log, 0, HALF_OF_A_LATER_DAY)?;
     if stops.is_over || stops.all() != HALF_OF_A_LATER_DAY {
         return Err(Fail::new("a later day has fewer stops than half of them"));
     }
@@ -50,10 +50,10 @@ fn stopped_in_first_half(rt: &HostRuntime, torn: TornWrites) -> Result<Stops, Fa
     Ok(stops)
 }
 
-/// Stops a later day behind each number of calls of its log from half of them on, until it isn't stopped. Fails where
+/// Stops a later day after each number of calls of its log from half of them on, until it isn't stopped. Fails where
 /// that is never reached.
 fn stopped_in_second_half(rt: &HostRuntime, torn: TornWrites) -> Result<Stops, Fail> {
-    let stops = stopped_behind(
+    let stops = stopped_after(
         rt,
         later_day(),
         torn,
@@ -94,30 +94,28 @@ fn a_first_day_is_stopped_in_a_database_file_that_tears(rt: HostRuntime) -> Resu
 }
 
 #[test]
-fn a_later_day_is_stopped_behind_few_calls_of_its_log(rt: HostRuntime) -> Result<(), Fail> {
+fn a_later_day_is_stopped_after_few_calls_of_its_log(rt: HostRuntime) -> Result<(), Fail> {
     let stops = stopped_in_first_half(&rt, TornWrites::Mixing)?;
     assert!(rt; stops.one_more != 0);
     Ok(())
 }
 
 #[test]
-fn a_later_day_is_stopped_behind_few_calls_of_a_log_that_tears(
-    rt: HostRuntime,
-) -> Result<(), Fail> {
+fn a_later_day_is_stopped_after_few_calls_of_a_log_that_tears(rt: HostRuntime) -> Result<(), Fail> {
     let stops = stopped_in_first_half(&rt, TornWrites::Tearing)?;
     assert!(rt; stops.one_more != 0);
     Ok(())
 }
 
 #[test]
-fn a_later_day_is_stopped_behind_many_calls_of_its_log(rt: HostRuntime) -> Result<(), Fail> {
+fn a_later_day_is_stopped_after_many_calls_of_its_log(rt: HostRuntime) -> Result<(), Fail> {
     let stops = stopped_in_second_half(&rt, TornWrites::Mixing)?;
     assert!(rt; stops.one_more != 0);
     Ok(())
 }
 
 #[test]
-fn a_later_day_is_stopped_behind_many_calls_of_a_log_that_tears(
+fn a_later_day_is_stopped_after_many_calls_of_a_log_that_tears(
     rt: HostRuntime,
 ) -> Result<(), Fail> {
     let stops = stopped_in_second_half(&rt, TornWrites::Tearing)?;

@@ -101,13 +101,13 @@ pub fn prepare(alloc: Global, day: Day, torn: TornWrites) -> Result<Trial, Fail>
 /// The files as the day begins.
 fn files_before(alloc: Global, day: &Day, torn: TornWrites) -> Result<Bytes, Fail> {
     if day.is_made {
-        return files_behind(alloc, day.earlier(), torn);
+        return files_after(alloc, day.earlier(), torn);
     }
     Ok(Bytes::none(alloc))
 }
 
 /// The files as the first day ends.
-fn files_behind(alloc: Global, day: Day, torn: TornWrites) -> Result<Bytes, Fail> {
+fn files_after(alloc: Global, day: Day, torn: TornWrites) -> Result<Bytes, Fail> {
     let media = Media::new(alloc, &Bytes::none(alloc), torn)?;
     visit_whole(alloc, &beginning(day), &media)?;
     Ok(media.left_by(Crash::Loses, Crash::Loses)?)
@@ -125,8 +125,8 @@ pub fn syncs_on(alloc: Global, day: Day, torn: TornWrites) -> Result<u64, Fail> 
     Ok(media.log_syncs())
 }
 
-/// Stops the day behind each of these numbers of calls of a file in turn, up to the first day that isn't stopped.
-pub fn stop_behind_each(
+/// Stops the day after each of these numbers of calls of a file in turn, up to the first day that isn't stopped.
+pub fn stop_after_each(
     alloc: Global,
     trial: &Trial,
     which: Which,
@@ -135,7 +135,7 @@ pub fn stop_behind_each(
 ) -> Result<Stops, Fail> {
     let mut stops = Stops::new();
     for passed in from..to {
-        stop_behind(alloc, trial, which.passing(passed), &mut stops)?;
+        stop_after(alloc, trial, which.passing(passed), &mut stops)?;
         if stops.is_over {
             return Ok(stops);
         }
@@ -143,8 +143,8 @@ pub fn stop_behind_each(
     Ok(stops)
 }
 
-/// The day, where a file fails behind so many calls; and what becomes of all that may be left then.
-fn stop_behind(alloc: Global, trial: &Trial, calls: Calls, stops: &mut Stops) -> Result<(), Fail> {
+/// The day, where a file fails after n calls; and what becomes of all that may be left then.
+fn stop_after(alloc: Global, trial: &Trial, calls: Calls, stops: &mut Stops) -> Result<(), Fail> {
     let media = Media::new(alloc, &trial.begins, trial.torn)?;
     let stop = visited_in(alloc, &media, &beginning(trial.day), calls)?;
     stops.count(stop.phase);
@@ -177,7 +177,7 @@ fn find_with(
 /// files were closed.
 fn find(alloc: Global, trial: &Trial, stop: &Stop, left: &Bytes) -> Result<bool, Fail> {
     let media = Media::new(alloc, left, trial.torn)?;
-    let is_made = trial.day.is_made || stop.phase.is_behind_entering();
+    let is_made = trial.day.is_made || stop.phase.is_after_entering();
     let visit = resumption(trial, is_made, stop.progress);
     let progress = visit_whole(alloc, &visit, &media)?;
     find_end(alloc, &resumption(trial, true, progress), &media)?;
@@ -191,7 +191,7 @@ fn find_end(alloc: Global, visit: &Visit<'_>, media: &Media) -> Result<(), Fail>
     Ok(())
 }
 
-/// The visit behind a stop there.
+/// The visit after a stop there.
 fn resumption(trial: &Trial, is_made: bool, progress: Progress) -> Visit<'_> {
     let expected = &trial.expected;
     Visit {

@@ -6,7 +6,7 @@ use std::alloc::Global;
 use std::test::Fail;
 use vault_core_model::keeper::Keeper;
 
-/// A day that is begun, or gone on with behind a stop.
+/// A day that is begun, or gone on with after a stop.
 #[derive(Clone, Copy)]
 pub struct Visit<'a> {
     pub day: Day,

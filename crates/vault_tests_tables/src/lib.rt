@@ -1,5 +1,5 @@
 //! Tests of vaults in tables: which stores are made and opened as a vault, commands, an intake and requests over tables,
-//! that what is read of one key doesn't grow, and copies of vaults of earlier editions.
+//! and that what is read, by steps of the tables and by reads of the files, doesn't grow with the vault.
 #![tactic(auto)]
 
 #[cfg(test)]
@@ -9,8 +9,6 @@ mod commands;
 #[cfg(test)]
 mod create;
 #[cfg(test)]
-mod editions;
-#[cfg(test)]
 mod exchange;
 #[cfg(test)]
 mod intake;
@@ -18,5 +16,7 @@ mod intake;
 mod lookups;
 #[cfg(test)]
 mod opens;
+#[cfg(test)]
+mod reads;
 #[cfg(test)]
 mod trials;

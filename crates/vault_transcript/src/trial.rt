@@ -12,7 +12,7 @@ pub trait Trial {
     fn carry_out<K: Keeper>(&self, alloc: Global, keeper: &mut K) -> Result<(), Fail>;
 }
 
-fn carry_out_behind<K: Keeper, T: Trial>(
+fn carry_out_after<K: Keeper, T: Trial>(
     alloc: Global,
     keeper: &mut K,
     transcript: &str,
@@ -23,16 +23,16 @@ fn carry_out_behind<K: Keeper, T: Trial>(
 }
 
 /// Carries a trial out on a vault in which a transcript was carried out.
-pub fn try_behind<T: Trial>(alloc: Global, transcript: &str, trial: &T) -> Result<(), Fail> {
+pub fn try_after<T: Trial>(alloc: Global, transcript: &str, trial: &T) -> Result<(), Fail> {
     let mut keeper = opened(alloc)?;
-    let tried = carry_out_behind(alloc, &mut keeper, transcript, trial);
+    let tried = carry_out_after(alloc, &mut keeper, transcript, trial);
     drop(keeper);
     tried
 }
 
 /// Carries a trial out on a new vault.
 pub fn try_on_new<T: Trial>(alloc: Global, trial: &T) -> Result<(), Fail> {
-    try_behind(alloc, "", trial)
+    try_after(alloc, "", trial)
 }
 
 /// Carries a trial out on a new vault whose device refuses the change after n.

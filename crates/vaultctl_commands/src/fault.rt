@@ -13,7 +13,7 @@ pub enum JobFault {
     /// Memory was refused.
     #[error("Memory")]
     Memory,
-    /// A device failed, or a port can't be had.
+    /// A device failed, or a port isn't free.
     #[error("Device")]
     Device,
 }

@@ -31,7 +31,7 @@ impl<W: Drop> ProgressWriter<W> {
     }
 }
 
-/// Counts the lines that end in these bytes behind those before, and says how many rows there were. The first line isn't
+/// Counts the lines that end in these bytes after those before, and says how many rows there were. The first line isn't
 /// one.
 pub fn count_lines<T: Write>(terminal: &mut T, before: u64, bytes: &[u8]) -> u64 {
     let mut lines = before;

@@ -40,15 +40,15 @@ split : (bytes : List ℕ) (cs : List Timed) (after : List ℕ) (more : List (Li
 split bytes [] after more rest e others =
     record { lines = more; splits = subst (λ b. Splits (b ++ after) more rest) (sym e) others; asked = refl }
 split bytes (c ∷ cs) after more rest (first, later, (text, no_lf, asks, is), whole, records) others =
-    let behind = split later cs after more rest records others in
+    let past = split later cs after more rest records others in
     record {
-      lines = text ∷ behind.lines;
+      lines = text ∷ past.lines;
       splits = record {
-        whole = ap (λ b. b ++ after) whole ∙ append_assoc first later after ∙ ap₂ (λ a b. a ++ b) is behind.splits.whole ∙ sym (append_assoc (ended text) (flat_map ended behind.lines) rest);
-        each = All-cons HasNoLf text behind.lines no_lf behind.splits.each;
-        last = behind.splits.last;
+        whole = ap (λ b. b ++ after) whole ∙ append_assoc first later after ∙ ap₂ (λ a b. a ++ b) is past.splits.whole ∙ sym (append_assoc (ended text) (flat_map ended past.lines) rest);
+        each = All-cons HasNoLf text past.lines no_lf past.splits.each;
+        last = past.splits.last;
       };
-      asked = ap₂ (λ a b. a ∷ b) asks behind.asked;
+      asked = ap₂ (λ a b. a ∷ b) asks past.asked;
     }
 
 abbrev pub OneReading : Type 0

@@ -45,7 +45,7 @@ abbrev pub ReportsFailure : OpenError → Type 0
 ReportsFailure (Seen seen refusal) = IsTrue (is_failure seen) → refusal ≡ Device
 ReportsFailure _ = ⊤
 
--- what another program has can't be had
+-- what another program has isn't free
 abbrev pub refusal_of : OpenError → Refusal
 refusal_of InUse = Device
 refusal_of (Seen seen refusal) = refusal

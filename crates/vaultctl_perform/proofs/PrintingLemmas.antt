@@ -9,7 +9,7 @@ use Rattle.vault_io.specs.Begins.{Begins}
 pub begins_sooner : (a b : Option (List ℕ)) (front back : List ℕ) → Begins a b front → Begins a b (front ++ back)
 begins_sooner a b front back h = (h.0, h.1 ++ back, ap (λ l. l ++ back) h.2 ∙ append_assoc h.0 h.1 back, h.3)
 
--- a beginning behind what was written whole
+-- a beginning after what was written whole
 pub begins_later : (a b c : Option (List ℕ)) (front back : List ℕ) → Appends a b front → Begins b c back → Begins a c (front ++ back)
 begins_later a b c front back w h = (front ++ h.0, h.1, ap (λ l. front ++ l) h.2 ∙ sym (append_assoc front h.0 h.1), Appends-trans a b c front h.0 w h.3)
 

@@ -36,9 +36,10 @@ use vaultctl_commands::outcome::Outcome;
 use vaultctl_commands::printing::print;
 use vaultctl_job::fault::WordsFault;
 use vaultctl_job::job::{Job, ReplayJob};
-use vaultctl_job::words::{hint, job_of, version_asked};
+use vaultctl_job::words::{job_of, version_asked};
 use vaultctl_machine::starts::Starts;
 use vaultctl_machine::vaults::FileMachine;
+use vaultctl_remedies::hint::hint;
 use vaultctl_work::intake;
 use vaultctl_work::saying::say;
 

@@ -17,7 +17,7 @@ use vaultctl_remedies::remedies::remedy;
 use vaultctl_remedies::slips::{Value, say_slip};
 use vaultctl_work::saying::say;
 
-/// Writes two texts, one behind the other.
+/// Writes two texts, one after the other.
 fn write_both<E: Write>(err: &mut E, first: &str, second: &str) -> io::Result<()>
     ensures ok { OnOk result (Appends (E.contents err.old) (E.contents err.new) (first.now ++ second.now)) }
     ensures err { OnErr result (Begins (E.contents err.old) (E.contents err.new) (first.now ++ second.now)) }

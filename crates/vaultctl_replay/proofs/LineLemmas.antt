@@ -138,8 +138,8 @@ first_line [] [] a b p q e = (refl, cc)
 first_line [] (y ∷ m) a b p q e = absurd (All-head (λ b. b ≢ 10) y m q (cc))
 first_line (x ∷ l) [] a b p q e = absurd (All-head (λ b. b ≢ 10) x l p (cc))
 first_line (x ∷ l) (y ∷ m) a b p q e =
-    let behind : l ++ 10 ∷ a ≡ m ++ 10 ∷ b = cc in
-    let r = first_line l m a b (All-tail (λ b. b ≢ 10) x l p) (All-tail (λ b. b ≢ 10) y m q) behind in
+    let after : l ++ 10 ∷ a ≡ m ++ 10 ∷ b = cc in
+    let r = first_line l m a b (All-tail (λ b. b ≢ 10) x l p) (All-tail (λ b. b ≢ 10) y m q) after in
     (cc (r.0, e), r.1)
 
 -- a rest without LF isn't a line that ends

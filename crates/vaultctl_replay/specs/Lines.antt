@@ -14,7 +14,7 @@ HasNoLf bytes = All (λ b. b ≢ 10) bytes
 abbrev pub ended : List ℕ → List ℕ
 ended line = line ++ 10 ∷ []
 
--- the bytes are these lines, with an LF behind each, and then a rest without LF
+-- the bytes are these lines, with an LF after each, and then a rest without LF
 pub record Splits (bytes : List ℕ) (lines : List (List ℕ)) (rest : List ℕ) : Type 0 where
   pub whole : bytes ≡ flat_map ended lines ++ rest
   pub each : All HasNoLf lines
@@ -44,7 +44,7 @@ EndedAskFor bytes asked = (lines : List (List ℕ)) × (rest : List ℕ) × Spli
 abbrev pub AskSoFar : Type 0 → List ℕ → List Line → Type 0
 AskSoFar AtEnd taken asked = EndedAskFor taken asked ⊎ (AtEnd × AskFor taken asked)
 
--- The lines that end in these bytes, where a part of the first was there before, and the part behind the last of them. Of each line no more than so many bytes are kept.
+-- The lines that end in these bytes, where a part of the first was there before, and the part after the last of them. Of each line no more than n bytes are kept.
 abbrev pub advance : ℕ → List ℕ → List ℕ → List (List ℕ) × List ℕ
 advance most part [] = ([], part)
 advance most part (b ∷ bytes) = if b == 10 then (part ∷ (advance most [] bytes).0, (advance most [] bytes).1) else advance most (take most (part ++ b ∷ [])) bytes

@@ -46,7 +46,7 @@ Runs Honest v n (asked ∷ later) replies v' n' =
 abbrev pub Finished : Type 0 → Vault → ℕ → Option (List ℕ) → List Line → Vault → ℕ → Option (List ℕ) → Type 0
 Finished Honest v n w asked v' n' w' = (replies : List Reply) × Runs Honest v n asked replies v' n' × Appends w w' (lines_of replies)
 
--- The first lines were carried out and their replies written; of one line more, or of none, a beginning of its reply. Those behind it weren't begun.
+-- The first lines were carried out and their replies written; of one line more, or of none, a beginning of its reply. Those after it weren't begun.
 abbrev pub Began : Type 0 → Vault → ℕ → Option (List ℕ) → List Line → Vault → ℕ → Option (List ℕ) → Type 0
 Began Honest v n w asked v' n' w' =
     (answered : List Line) × (begun : List Line) × (later : List Line) × (asked ≡ answered ++ begun ++ later) × (length begun ≤ 1)

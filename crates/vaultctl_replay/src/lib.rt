@@ -48,7 +48,7 @@ pub fn replay_observed<R: Read, W: Write, K: Keeper, O: Observer>(
         × IsAtEnd (R.remaining reader.new)
         × AnswersAll (K.is_honest keeper.new) (K.vault keeper.old) (K.count keeper.old) (W.contents writer.old) input (K.vault keeper.new) (K.count keeper.new) (W.contents writer.new)) }
     // The first lines were carried out and their replies written, and of at most one more a beginning of its reply.
-    // What is read behind the last LF is a line only where the reader is at its end.
+    // What is read after the last LF is a line only where the reader is at its end.
     ensures err { OnErr result ((taken : List ℕ) × Consumes (R.remaining reader.old) (R.remaining reader.new) taken
         × AnswersSome (K.is_honest keeper.new) (IsAtEnd (R.remaining reader.new)) (K.vault keeper.old) (K.count keeper.old) (W.contents writer.old) taken (K.vault keeper.new) (K.count keeper.new) (W.contents writer.new)) }
     // Where the reader failed, that beginning is each line whose LF was read, and all their replies are written.
@@ -95,7 +95,7 @@ pub fn replay<R: Read, W: Write, K: Keeper>(
         × IsAtEnd (R.remaining reader.new)
         × AnswersAll (K.is_honest keeper.new) (K.vault keeper.old) (K.count keeper.old) (W.contents writer.old) input (K.vault keeper.new) (K.count keeper.new) (W.contents writer.new)) }
     // The first lines were carried out and their replies written, and of at most one more a beginning of its reply.
-    // What is read behind the last LF is a line only where the reader is at its end.
+    // What is read after the last LF is a line only where the reader is at its end.
     ensures err { OnErr result ((taken : List ℕ) × Consumes (R.remaining reader.old) (R.remaining reader.new) taken
         × AnswersSome (K.is_honest keeper.new) (IsAtEnd (R.remaining reader.new)) (K.vault keeper.old) (K.count keeper.old) (W.contents writer.old) taken (K.vault keeper.new) (K.count keeper.new) (W.contents writer.new)) }
     // Where the reader failed, that beginning is each line whose LF was read, and all their replies are written.

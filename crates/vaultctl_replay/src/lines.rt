@@ -19,7 +19,7 @@ pub struct Room {
     pub most: usize,
 }
 
-/// Adds a byte to a line, of which so many bytes are kept.
+/// Adds a byte to a line, of which n bytes are kept.
 fn push_within(part: &mut Vec<u8>, byte: u8, most: usize) -> Result<(), ReplayFault>
     requires { vec_len part.old ≤ most }
     ensures ok { OnOk result (part.new.items ≡ take most (part.old.items ++ byte ∷ [])) }

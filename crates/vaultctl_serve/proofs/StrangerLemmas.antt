@@ -7,10 +7,10 @@ use Rattle.httparse.proofs.GrammarLemmas.{request_unique}
 use Rattle.vault_base.specs.declared.refusal.Refusal.TheVariants.{InvalidArgument}
 use Rattle.vault_core_model.specs.Vault.{Vault}
 use Rattle.vault_http.specs.Exchange.{Answered, Denied, HeadJudged, Said, ServedFor, head_asked, head_asked_for, is_shown}
-use Rattle.vault_http.specs.Head.{IsHead}
+use Rattle.vault_http_request.specs.Head.{IsHead}
 use Rattle.vault_http.specs.Left.{HeadLeft, LeftFor, Unanswered}
 use Rattle.vault_http.specs.declared.fault.ServeFault.{ServeFault}
-use Rattle.vault_http.proofs.Heads.{head_last}
+use Rattle.vault_http_request.proofs.Heads.{head_last}
 use Rattle.vaultctl_serve.specs.Strangers.{IsStranger, RefusesStrangers}
 use Rattle.vaultctl_serve.proofs.WholeLemmas.{denied-left-same, early-same}
 

@@ -5,6 +5,7 @@ use Rattle.vault_http.specs.Left.{AtMostOne}
 use Rattle.vault_http.specs.declared.fault.ServeFault.{ServeFault}
 use Rattle.vault_http.specs.declared.fault.ServeFault.TheVariants as faults
 use Rattle.vaultctl_log.specs.declared.entry.Door.{Door}
+use Rattle.vaultctl_log.specs.declared.entry.Door.TheVariants as door
 use Rattle.vaultctl_log.specs.declared.entry.Facts.{Facts}
 use Rattle.vaultctl_log.specs.declared.entry.Trouble.{Trouble}
 use Rattle.vaultctl_log.specs.declared.entry.Trouble.TheVariants as trouble
@@ -16,19 +17,19 @@ trouble_of (Err faults.Read) = Some trouble.Late
 trouble_of (Err faults.Write) = Some trouble.Untaken
 trouble_of (Err faults.Memory) = Some trouble.Memory
 
--- at most one command was carried out, at this moment, which is the one that is logged
-abbrev pub Accounts : Option ℕ → Facts → Vault → Vault → Type 0
-Accounts moment f old new = (f.moment ≡ moment) × AtMostOne moment old new
+-- at most one command was carried out, at this moment, which is the one that is logged, with the door
+abbrev pub Accounts : Door → Option ℕ → Facts → Vault → Vault → Type 0
+Accounts at moment f old new = (f.door ≡ at) × (f.moment ≡ moment) × AtMostOne moment old new
 
 -- between the two an entry was heard that accounts for what was done; and nothing was carried out of what it calls late
 abbrev pub IsAccounted : {D : Type 0} → (D → Facts → List ℕ → List ℕ → Bool → D → Type 0) → D → D → Option ℕ → Vault → Vault → Type 0
 IsAccounted logs before after moment old new =
-    (f : Facts) × (asked answered : List ℕ) × (whole : Bool) × logs before f asked answered whole after × Accounts moment f old new × (f.trouble ≡ Some trouble.Late → new ≡ old)
+    (f : Facts) × (asked answered : List ℕ) × (whole : Bool) × logs before f asked answered whole after × Accounts door.Requests moment f old new × (f.trouble ≡ Some trouble.Late → new ≡ old)
 
--- the same of a line, whose bytes are those that are logged
-abbrev pub IsLineAccounted : {D : Type 0} → (D → Facts → List ℕ → List ℕ → Bool → D → Type 0) → D → D → Option ℕ → List ℕ → Vault → Vault → Type 0
-IsLineAccounted logs before after moment line old new =
-    (f : Facts) × (answered : List ℕ) × (whole : Bool) × logs before f line answered whole after × Accounts moment f old new
+-- the same of a line, whose bytes are those that are logged, with how many they are and what kept the line from its end
+abbrev pub IsLineAccounted : {D : Type 0} → (D → Facts → List ℕ → List ℕ → Bool → D → Type 0) → D → D → Option ℕ → List ℕ → Option Trouble → Vault → Vault → Type 0
+IsLineAccounted logs before after moment line kept old new =
+    (f : Facts) × (answered : List ℕ) × (whole : Bool) × logs before f line answered whole after × Accounts door.Lines moment f old new × (f.came ≡ length line) × (f.trouble ≡ kept)
 
 -- What is heard of an entry is a relation, and so is that nothing is heard.
 module _ {D : Type 0} (silent : D → D → Type 0) (logs : D → Facts → List ℕ → List ℕ → Bool → D → Type 0) where

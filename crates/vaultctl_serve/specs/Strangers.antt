@@ -6,7 +6,7 @@ use Rattle.std.specs.Io.KnownBytes.{Appends}
 use Rattle.vault_base.specs.declared.refusal.Refusal.TheVariants.{InvalidArgument}
 use Rattle.vault_core_model.specs.Vault.{Vault}
 use Rattle.vault_http.specs.Exchange.{is_shown}
-use Rattle.vault_http.specs.Head.{IsHead}
+use Rattle.vault_http_request.specs.Head.{IsHead}
 use Rattle.vault_http_request.specs.Host.{is_for}
 use Rattle.vault_http.specs.Reply.{AnswersRefusal}
 use Rattle.vault_http.specs.declared.fault.ServeFault.{ServeFault}

@@ -5,7 +5,7 @@ use Rattle.vault_base.specs.declared.refusal.Refusal.{Refusal}
 use Rattle.vault_core_model.specs.Vault.{Vault}
 use Rattle.vault_http.specs.Command.{body_of}
 use Rattle.vault_http.specs.Exchange.{head_asked_for}
-use Rattle.vault_http.specs.Head.{IsHead}
+use Rattle.vault_http_request.specs.Head.{IsHead}
 use Rattle.vault_http_request.specs.declared.plan.Asked.{Asked}
 use Rattle.vault_http_request.specs.declared.plan.Asked.TheVariants as asked
 

@@ -4,7 +4,7 @@ use thiserror::Error;
 /// Why nothing was served.
 #[derive(Clone, Copy, Debug, PartialEq, Eq, Error)]
 pub enum PortFault {
-    /// The port can't be had.
+    /// The port isn't free.
     #[error("Device")]
     Device,
 }

@@ -136,8 +136,9 @@ fn serve_watched<C: Clock, A: Arrivals, K: Keeper, H: Hears, T: Reporter>(
 ///
 /// A connection that can't be taken, or whose request isn't served to its end, counts as any other, and
 /// the next one is taken. The head of a request has to come within 5 seconds from when its connection was taken,
-/// and all of it within 30; its client has to take the answer within 10 seconds of waiting for it. So no reading is
-/// older than 30 seconds when the request is carried out, and a silent client keeps the next one waiting for 5.
+/// and all of it within 30; its client has to take the answer within 10 seconds of waiting for it. So by a clock that
+/// stops while the machine sleeps, no reading is older than 30 seconds when the request is carried out, and a silent
+/// client keeps the next one waiting for 5.
 pub fn serve_arrivals<C: Clock, A: Arrivals, K: Keeper, H: Hears, T: Reporter>(
     means: &Means<'_, C>,
     arrivals: &mut A,
@@ -188,7 +189,7 @@ pub struct Port<'a> {
 /// command after which who hears lets no more be carried out.
 ///
 /// That it listens is reported first, and that the vault's device failed is reported once, when it first does. Where
-/// there is a log, it gets a line of what became of each connection. `Device` comes where the port can't be had. No fault
+/// there is a log, it gets a line of what became of each connection. `Device` comes where the port isn't free. No fault
 /// of a connection, of the device or of the log ends it.
 pub fn serve<R: Net<Stream = TcpStream> + Clock, K: Keeper, H: Hears, T: Reporter, W: Write + Drop>(
     rt: &R,

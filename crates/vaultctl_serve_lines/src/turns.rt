@@ -173,9 +173,9 @@ fn answer_heard<C: Clock, D: Doors, K: Keeper, H: Hears>(
     ensures timely { K.is_honest keeper.new → StepsAt (D.tries doors.old) (D.shown doors.old) (K.vault keeper.old) (K.vault keeper.new) }
     ensures heard { K.is_honest keeper.new → HearsSome H.hears hears.old hears.new (K.vault keeper.old) (K.vault keeper.new) }
     ensures end { result ≡ Ok Next.End → K.is_honest keeper.new → IsEnded (K.vault keeper.new) }
-    // What is logged is what happened: the line, the moment.
+    // What is logged is what happened: the line, the moment, and what kept the line from its end.
     ensures logged { K.is_honest keeper.new → (moment : Option ℕ) × ReadsAs (D.tries doors.old) (D.shown doors.old) moment
-        × IsLineAccounted D.logs doors.old doors.new moment heard.now.bytes.items (K.vault keeper.old) (K.vault keeper.new) }
+        × IsLineAccounted D.logs doors.old doors.new moment heard.now.bytes.items (line_trouble result) (K.vault keeper.old) (K.vault keeper.new) }
     ensures leaves { LeavesNoLess K.Kept keeper.old keeper.new }
 {
     let reading = doors.reading();

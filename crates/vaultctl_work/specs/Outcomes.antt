@@ -31,7 +31,7 @@ abbrev pub replayed : Result (Unit {0}) ReplayFault → Result Outcome JobFault
 replayed (Ok t) = Ok Done
 replayed (Err fault) = Err (replay_fault fault)
 
--- so many requests were served, or a port can't be had
+-- n requests were served, or a port isn't free
 abbrev pub served : Result (Unit {0}) PortFault → Result Outcome JobFault
 served (Ok t) = Ok Done
 served (Err port.Device) = Err fault.Device

@@ -81,7 +81,7 @@ fn take_in_read<K: Keeper, W: Write, E: Write>(
     out: &mut W,
     err: &mut E,
 ) -> Result<Outcome, JobFault>
-    // Done and refused are answered only behind the lines that say so.
+    // Done and refused are answered only after the lines that say so.
     ensures printed { IfOk result (λ stated. PrintsRows stated (W.contents out.old) (W.contents out.new)) }
     // That the vault's device failed is reported where it did.
     ensures leaves { LeavesSteady K.Kept keeper.old keeper.new (IsIntakeSteady (K.count keeper.old) (K.count keeper.new) result (W.contents out.old) (W.contents out.new)) }

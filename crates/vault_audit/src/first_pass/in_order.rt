@@ -90,7 +90,7 @@ pub fn look_at_tables<S: Alter>(
     meta: &MetaRow,
 ) -> Result<Option<Table>, Error>
     requires difference { HasCleanDisk (state S.Store conn.old) → Differs edition (state S.Store conn.old).now.schema difference }
-    requires behind { difference ≢ Some table.Meta }
+    requires after { difference ≢ Some table.Meta }
     requires meta { HasCleanDisk (state S.Store conn.old) → IsMetaOf edition (state S.Store conn.old).now (Some meta.now) }
     requires open { HasCleanDisk (state S.Store conn.old) → IsTrue (state S.Store conn.old).is_open }
     ensures reported { HasCleanDisk (state S.Store conn.new) → IfOk result (ReportedInOrder edition (state S.Store conn.new).now) }

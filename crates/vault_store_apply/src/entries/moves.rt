@@ -26,7 +26,7 @@ use vault_store_reads::meta::read_moves;
 use vault_store_walks::held::read_bucket_held;
 use vault_tally::row::Row;
 
-/// The number behind so many moves. `TooBig` beyond 32 bits.
+/// The number after n moves. `TooBig` beyond 32 bits.
 fn next_number(moves: u32) -> Result<u32, Error>
     ensures { IfOk result (λ number. number ≡ moves + 1) }
 {

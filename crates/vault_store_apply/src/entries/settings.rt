@@ -16,7 +16,7 @@ use vault_base::name::VersionId;
 use vault_core_model::records::{LastSetting, Setting};
 use vault_store_reads::rows_in_order::reads::read_setting;
 
-/// The place behind the last setting, counted from 1. `TooBig` beyond 32 bits.
+/// The place after the last setting, counted from 1. `TooBig` beyond 32 bits.
 fn next_place(last: Option<LastSetting>) -> Result<u32, Error>
     ensures { IfOk result (λ place. place ≡ count_of_settings last + 1) }
 {

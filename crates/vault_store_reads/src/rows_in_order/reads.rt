@@ -102,7 +102,7 @@ pub fn read_rules<S: Alter>(
     decode_rules(alloc, &rows)
 }
 
-/// The first of a bucket's keys behind `after` that have a held entry, by their bytes: at most `most`.
+/// The first of a bucket's keys after `after` that have a held entry, by their bytes: at most `most`.
 pub fn read_keys<S: Alter>(
     conn: &mut Connection<S>,
     alloc: Global,

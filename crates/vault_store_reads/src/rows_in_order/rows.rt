@@ -124,7 +124,7 @@ pub fn entry_rows<S: Alter>(
     )
 }
 
-/// The rows of the first keys of a bucket behind one.
+/// The rows of the first keys of a bucket after one.
 pub fn key_rows<S: Alter>(
     conn: &mut Connection<S>,
     bucket: &BucketName,

@@ -1,7 +1,7 @@
 //! An intake with ample memory, and with a growth refused.
 use crate::batch::Batch;
 use crate::faults::intakes::answers_as_after;
-use crate::faults::taking::{folder, list_of, resumed, stopped_behind, take};
+use crate::faults::taking::{folder, list_of, resumed, stopped_after, take};
 use std::alloc::Global;
 use std::io::Write;
 use std::test::Fail;
@@ -51,9 +51,9 @@ impl Given {
     }
 }
 
-/// Fails unless so many rows are said of the list, and what stopped the intake behind them.
+/// Fails unless n rows are said of the list, and what stopped the intake after them.
 fn lists_rows(alloc: Global, report: &IntakeReport, count: usize, stop: &str) -> Result<(), Fail> {
-    let wanted = stopped_behind(alloc, count, stop)?;
+    let wanted = stopped_after(alloc, count, stop)?;
     compare(
         "the list",
         intake_lines(alloc, report)?.as_str(),

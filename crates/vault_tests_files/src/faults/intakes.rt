@@ -1,27 +1,27 @@
 //! Intakes that a folder, a device or a list stops.
-use crate::faults::taking::{list_of, resumed, stopped_behind, take, take_first, take_list};
+use crate::faults::taking::{list_of, resumed, stopped_after, take, take_first, take_list};
 use std::alloc::Global;
 use std::test::Fail;
 use vault_core_model::keeper::Keeper;
 use vault_transcript::replies_of::{answers_still, stated};
 use vault_transcript::trial::{Trial, compare, try_on_failing, try_on_new};
 
-/// What is to be said of a vault that has taken in the first so many rows.
+/// What is to be said of a vault that has taken in the first n rows.
 #[derive(Clone, Copy)]
-struct Behind<'a> {
+struct After<'a> {
     count: usize,
     stated: &'a str,
 }
 
-impl Trial for Behind<'_> {
+impl Trial for After<'_> {
     fn carry_out<K: Keeper>(&self, alloc: Global, keeper: &mut K) -> Result<(), Fail> {
         take_first(alloc, keeper, self.count)?;
         let wanted = stated(alloc, keeper)?;
-        compare("the vault behind its intake", self.stated, wanted.as_str())
+        compare("the vault after its intake", self.stated, wanted.as_str())
     }
 }
 
-/// Fails unless replies say of the vault what they say of one that has taken in the first so many rows.
+/// Fails unless replies say of the vault what they say of one that has taken in the first n rows.
 pub fn answers_as_after<K: Keeper>(
     alloc: Global,
     keeper: &mut K,
@@ -30,21 +30,21 @@ pub fn answers_as_after<K: Keeper>(
     let stated = stated(alloc, keeper)?;
     try_on_new(
         alloc,
-        &Behind {
+        &After {
             count,
             stated: stated.as_str(),
         },
     )
 }
 
-/// The device stopped an intake behind so many rows. They stand, and the list given again is taken in to its end.
+/// The device stopped an intake after n rows. They stand, and the list given again is taken in to its end.
 fn resume<K: Keeper>(alloc: Global, keeper: &mut K, count: usize) -> Result<(), Fail> {
     answers_as_after(alloc, keeper, count)?;
     take(alloc, keeper, None, resumed(alloc, count)?.as_str())?;
     answers_as_after(alloc, keeper, 3)
 }
 
-/// A device stops an intake behind so many rows, that of the folder, which takes so many reads, or the vault's.
+/// A device stops an intake after n rows, that of the folder, which takes n reads, or the vault's.
 #[derive(Clone, Copy)]
 struct Stopped {
     left: Option<u64>,
@@ -53,7 +53,7 @@ struct Stopped {
 
 impl Trial for Stopped {
     fn carry_out<K: Keeper>(&self, alloc: Global, keeper: &mut K) -> Result<(), Fail> {
-        let wanted = stopped_behind(alloc, self.count, "stopped Device\n")?;
+        let wanted = stopped_after(alloc, self.count, "stopped Device\n")?;
         take(alloc, keeper, self.left, wanted.as_str())?;
         resume(alloc, keeper, self.count)
     }
@@ -65,7 +65,7 @@ struct NotStopped;
 
 impl Trial for NotStopped {
     fn carry_out<K: Keeper>(&self, alloc: Global, keeper: &mut K) -> Result<(), Fail> {
-        let wanted = stopped_behind(alloc, 3, "")?;
+        let wanted = stopped_after(alloc, 3, "")?;
         take(alloc, keeper, Some(3), wanted.as_str())
     }
 }
@@ -93,7 +93,7 @@ fn a_device_that_fails_stops_an_intake(rt: HostRuntime) -> Result<(), Fail> {
     stopped_by_device(alloc, 1, 2)
 }
 
-/// A list of so many bytes: the rows, and blank lines behind them.
+/// A list of n bytes: the rows, and blank lines after them.
 fn take_long<K: Keeper>(
     alloc: Global,
     keeper: &mut K,
@@ -120,7 +120,7 @@ struct TooLong;
 impl Trial for TooLong {
     fn carry_out<K: Keeper>(&self, alloc: Global, keeper: &mut K) -> Result<(), Fail> {
         refuse_too_long(alloc, keeper)?;
-        let wanted = stopped_behind(alloc, 3, "")?;
+        let wanted = stopped_after(alloc, 3, "")?;
         take_long(alloc, keeper, 16_777_216, wanted.as_str())
     }
 }

@@ -10,11 +10,11 @@ use vault_transcript::trial::{Trial, compare, try_on_new};
 const NEXT: &str =
     "\n{\"at\":\"2014-01-01T00:00:00Z\",\"as\":\"registrar\",\"do\":\"report\",\"dept\":\"records\"}\n";
 
-/// What a bad line is answered, and the line behind it.
+/// What a bad line is answered, and the line after it.
 const ANSWERS: &str =
     "{\"error\":{\"code\":\"MalformedBody\",\"n\":12}}\n{\"ok\":{\"admitted\":0,\"at\":\"2014-01-01T00:00:00Z\",\"byte_days\":0,\"dept\":\"records\",\"handed\":0,\"held\":0,\"received\":0,\"removed\":0}}\n";
 
-/// What stands in front of the text of a put, and what behind it.
+/// What stands in front of the text of a put, and what after it.
 const FRONT: &str =
     "{\"at\":\"2024-01-15T10:30:00Z\",\"as\":\"ann\",\"do\":\"put\",\"bucket\":\"docs\",\"key\":\"a\",\"text\":";
 
@@ -25,11 +25,11 @@ const BACK: &str = "\"text\":\"x\"}";
 enum Line<'a> {
     /// A put of that text, which stands in the line as it is.
     Put(&'a [u8]),
-    /// A put behind which blanks stand, so that the line has that many bytes.
+    /// A put after which blanks stand, so that the line has that many bytes.
     Padded(usize),
-    /// A put of so many brackets, and of a text that would count in their place.
+    /// A put of n brackets, and of a text that would count in their place.
     Nested(usize),
-    /// So many brackets alone.
+    /// This many brackets alone.
     Brackets(usize),
 }
 
@@ -40,7 +40,7 @@ fn put_of(alloc: Global, text: &[u8]) -> Result<Vec<u8>, Fail> {
     Ok(line)
 }
 
-/// A put behind which blanks stand, so that the line has that many bytes.
+/// A put after which blanks stand, so that the line has that many bytes.
 fn padded(alloc: Global, length: usize) -> Result<Vec<u8>, Fail> {
     let mut line = put_of(alloc, b"\"y\",")?;
     line.extend_from_slice(BACK.as_bytes())?;
@@ -48,7 +48,7 @@ fn padded(alloc: Global, length: usize) -> Result<Vec<u8>, Fail> {
     Ok(line)
 }
 
-/// A put of so many brackets, and of a text that would count in their place.
+/// A put of n brackets, and of a text that would count in their place.
 fn nested(alloc: Global, levels: usize) -> Result<Vec<u8>, Fail> {
     let mut line = put_of(alloc, b"")?;
     line.extend_from_slice(b"[".repeat(alloc, levels)?.as_slice())?;
@@ -67,22 +67,22 @@ fn bytes_of(alloc: Global, line: Line<'_>) -> Result<Vec<u8>, Fail> {
     }
 }
 
-/// Carries a line out, and a good one behind it, and fails unless those are the replies.
+/// Carries a line out, and a good one after it, and fails unless those are the replies.
 fn answered<K: Keeper>(
     alloc: Global,
     keeper: &mut K,
     name: &str,
     line: Line<'_>,
     wanted: &str,
-    behind: &str,
+    after: &str,
 ) -> Result<(), Fail> {
     let mut input = bytes_of(alloc, line)?;
-    input.extend_from_slice(behind.as_bytes())?;
+    input.extend_from_slice(after.as_bytes())?;
     let given = replies(alloc, keeper, input.as_slice())?;
     compare(name, given.as_str(), wanted)
 }
 
-/// Carries a bad line out, and a good one behind it.
+/// Carries a bad line out, and a good one after it.
 fn refused<K: Keeper>(
     alloc: Global,
     keeper: &mut K,

@@ -27,7 +27,7 @@ const FIRST: [&str; 3] = [
 
 const AGAIN: [&str; 3] = ["1 again 1\n", "2 refused InvalidArgument\n", "3 again 2\n"];
 
-/// The list with so many of its rows.
+/// The list with n of its rows.
 pub fn list_of(alloc: Global, count: usize) -> Result<String, Fail> {
     let mut list = String::from_str(alloc, HEADER)?;
     for row in ROWS.iter().take(count) {
@@ -36,8 +36,8 @@ pub fn list_of(alloc: Global, count: usize) -> Result<String, Fail> {
     Ok(list)
 }
 
-/// What is printed of so many rows, and of what stops the intake behind them.
-pub fn stopped_behind(alloc: Global, count: usize, stop: &str) -> Result<String, Fail> {
+/// What is printed of n rows, and of what stops the intake after them.
+pub fn stopped_after(alloc: Global, count: usize, stop: &str) -> Result<String, Fail> {
     let mut lines = String::new(alloc);
     for line in FIRST.iter().take(count) {
         lines.push_str(*line)?;
@@ -46,7 +46,7 @@ pub fn stopped_behind(alloc: Global, count: usize, stop: &str) -> Result<String,
     Ok(lines)
 }
 
-/// What is printed of the whole list, so many rows of which were taken in before.
+/// What is printed of the whole list, n rows of which were taken in before.
 pub fn resumed(alloc: Global, count: usize) -> Result<String, Fail> {
     let mut lines = String::new(alloc);
     for line in AGAIN.iter().take(count).chain(FIRST.iter().skip(count)) {
@@ -55,7 +55,7 @@ pub fn resumed(alloc: Global, count: usize) -> Result<String, Fail> {
     Ok(lines)
 }
 
-/// With a number the folder refuses the read behind so many.
+/// With a number the folder refuses the read after n.
 pub fn folder(alloc: Global, left: Option<u64>) -> Result<ListFolder, Fail> {
     batch::folder(alloc, &FILES, left)
 }
@@ -88,9 +88,9 @@ pub fn take<K: Keeper>(
     take_list(alloc, keeper, list.as_bytes(), left, wanted)
 }
 
-/// The same of so many rows, with no fault.
+/// The same of n rows, with no fault.
 pub fn take_first<K: Keeper>(alloc: Global, keeper: &mut K, count: usize) -> Result<(), Fail> {
     let list = list_of(alloc, count)?;
-    let wanted = stopped_behind(alloc, count, "")?;
+    let wanted = stopped_after(alloc, count, "")?;
     take_list(alloc, keeper, list.as_bytes(), None, wanted.as_str())
 }

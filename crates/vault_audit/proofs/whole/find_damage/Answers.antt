@@ -42,8 +42,8 @@ look_at_tables-requires-clause-difference g c clean =
     let d = c.check_schema-difference.result in
     subst (λ (db : Database). Differs n db.schema d) (sym (c.in_ok-meta.ensures.look.same clean).0.now_is) (differs_as n s d c.check_schema-difference.ensures.found c.check_schema-difference.ensures.reported)
 
-pub look_at_tables-requires-clause-behind : goal.look_at_tables-requires-clause-behind
-look_at_tables-requires-clause-behind g c = is_not c.is_at.result c.if-is_at.false c.is_at.ensures
+pub look_at_tables-requires-clause-after : goal.look_at_tables-requires-clause-after
+look_at_tables-requires-clause-after g c = is_not c.is_at.result c.if-is_at.false c.is_at.ensures
 
 pub look_at_tables-requires-clause-meta : goal.look_at_tables-requires-clause-meta
 look_at_tables-requires-clause-meta g c clean = rw c.in-Some.is at (c.in_ok-meta.ensures.reported clean)

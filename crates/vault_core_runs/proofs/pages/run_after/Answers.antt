@@ -5,9 +5,9 @@ use Rattle.vault_core_model.specs.declared.halt.Fault.TheVariants as fault
 use Rattle.vault_core_model.specs.declared.halt.Halt.TheVariants as halt
 use Rattle.vault_core_model.specs.Vault.{Vault}
 use Rattle.vault_core_model.specs.Plan.{rules_in}
+use Rattle.vault_core_model.specs.Reads.{later_keys}
 use Rattle.vault_core_run_laws.specs.KeyRuns.{MayRun, plans_at}
 use Rattle.vault_core_runs.specs.Making.{IsLastKey, MakesAll, MakesUpTo}
-use Rattle.vault_core_runs.specs.Ranges.{later_keys}
 use Rattle.vault_core_runs.proofs.Making.{MakesUpTo-fault}
 use Rattle.vault_core_runs.proofs.OverRanges.{GoesOn-err, goes_by_page, page_rises, stops_after_page, stops_in_page}
 use Rattle.vault_core_runs.proofs.pages.run_after.Goals as goal

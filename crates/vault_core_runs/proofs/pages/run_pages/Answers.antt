@@ -2,8 +2,9 @@ use Rattle.std.proofs.Common.{ℕ, List, [], Option, Some, None, Ok, Err, refl, 
 use Rattle.vault_core_model.specs.declared.halt.Fault.TheVariants as fault
 use Rattle.vault_core_model.specs.declared.halt.Halt.TheVariants as halt
 use Rattle.vault_core_model.specs.Plan.{plan}
+use Rattle.vault_core_model.specs.Reads.{later_keys}
 use Rattle.vault_core_run_laws.specs.KeyRuns.{plans_at}
-use Rattle.vault_core_runs.specs.Ranges.{GoesOn, later_keys}
+use Rattle.vault_core_runs.specs.Ranges.{GoesOn}
 use Rattle.vault_core_runs.proofs.Making.{MakesSteps-err, MakesUpTo-fault}
 use Rattle.vault_core_runs.proofs.OverRanges.{all_made, go_then, goes_nowhere, may_from, up_to_halt}
 use Rattle.vault_core_runs.proofs.pages.run_pages.Goals as goal

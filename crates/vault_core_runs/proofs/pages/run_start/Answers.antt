@@ -1,8 +1,8 @@
 use Rattle.std.proofs.Common.{refl, sym, ◌∙◌}
 use Rattle.vault_core_model.specs.declared.halt.Fault.TheVariants as fault
 use Rattle.vault_core_model.specs.declared.halt.Halt.TheVariants as halt
+use Rattle.vault_core_model.specs.Reads.{later_keys}
 use Rattle.vault_core_run_laws.specs.KeyRuns.{plans_at}
-use Rattle.vault_core_runs.specs.Ranges.{later_keys}
 use Rattle.vault_core_runs.proofs.Making.{MakesUpTo-fault}
 use Rattle.vault_core_runs.proofs.Nearest.{found_byte}
 use Rattle.vault_core_runs.proofs.OverRanges.{GoesOn-err, goes_nowhere, goes_to_end, goes_to_prefix, stops_at_prefix}

@@ -1,4 +1,4 @@
-use Rattle.std.proofs.Common.{◌≡◌, ◌∙◌, ℕ, ℤ, List, FitsSigned, rules, subst, to_z, to_z-of_z, of_z, w64}
+use Rattle.std.proofs.Common.{◌≡◌, ◌∙◌, ℕ, ℤ, List, FitsSigned, ap, length, rules, subst, to_z, to_z-of_z, of_z, w64}
 use Rattle.std.specs.Prelude.{is_ok}
 use Rattle.vault_base.specs.Days.{moment_at}
 use Rattle.vault_http.specs.Left.{AtMostOne}
@@ -34,7 +34,9 @@ returns-clause-logged g c =
         entry.answered.now,
         is_ok c.log.result,
         subst Logs (c.line.ensures.bytes.0 ∙ c.as_slice.ensures.value) c.log.ensures.logs,
-        (rw same at c.line.ensures.moment, subst P same (c.answer_talker-answering.ensures.once h)),
+        (c.line.ensures.door, rw same at c.line.ensures.moment, subst P same (c.answer_talker-answering.ensures.once h)),
+        c.line.ensures.counts.0 ∙ ap length c.as_slice.ensures.value,
+        c.line.ensures.trouble ∙ c.trouble_in-trouble.ensures,
       ),
     )
 

@@ -36,7 +36,7 @@ returns-clause-logged g c =
         entry.answered.now,
         _,
         c.log.ensures.logs,
-        (rw same at c.request.ensures.moment, subst P shown (c.serve_connection-served.ensures.once h)),
+        (c.request.ensures.door, rw same at c.request.ensures.moment, subst P shown (c.serve_connection-served.ensures.once h)),
         λ late. c.serve_connection-served.ensures.unread (late-unread c.serve_connection-served.result (sym c.trouble_of.ensures ∙ sym c.request.ensures.trouble ∙ late)),
       ),
     )

@@ -7,7 +7,7 @@ use Rattle.vault_base.specs.declared.refusal.Table.TheVariants.{Meta}
 use Rattle.vault_audit_model.specs.Order.{place_of}
 use Rattle.vault_audit_walk.proofs.ScanLemmas.{still}
 use Rattle.vault_audit.specs.Looks.{Differs}
-use Rattle.vault_audit.proofs.OrderLemmas.{AreRightTo, IsFrom, all_right, at_table, begin_at, begin_meta, behind_meta, from_behind, from_next, is_not, meta_right, no_difference, place_behind, right_more, right_row, survives_itself, survives_more, stated_by_form, stated_by_rows}
+use Rattle.vault_audit.proofs.OrderLemmas.{AreRightTo, IsFrom, all_right, at_table, begin_at, begin_meta, after_meta, from_after, from_next, is_not, meta_right, no_difference, place_after, right_more, right_row, survives_itself, survives_more, stated_by_form, stated_by_rows}
 use Rattle.vault_audit.proofs.first_pass.in_order.look_at_tables.Goals as goal
 
 pub loop-table-init : goal.loop-table-init
@@ -15,8 +15,8 @@ loop-table-init g c =
     let old = state g.S.Store c.args.conn.now in
     let n = c.args.edition in (
       survives_itself old,
-      from_behind c.args.difference c.requires.behind,
-      λ clean. (still old (c.requires.open clean), meta_right n old.now c.args.meta.now (begin_meta n old.now.schema c.args.difference (c.requires.difference clean) c.requires.behind) (c.requires.meta clean)),
+      from_after c.args.difference c.requires.after,
+      λ clean. (still old (c.requires.open clean), meta_right n old.now c.args.meta.now (begin_meta n old.now.schema c.args.difference (c.requires.difference clean) c.requires.after) (c.requires.meta clean)),
     )
 
 pub loop-table-preserved : goal.loop-table-preserved
@@ -27,8 +27,8 @@ loop-table-preserved g c =
     let n = c.args.edition in
     let d = c.args.difference in
     let place = c.loop-table.table-index + 1 in
-    let t = get_or behind_meta c.loop-table.table-index Meta in
-    let here : place_of t ≡ place = place_behind c.loop-table.table-index c.loop-table-test.true in
+    let t = get_or after_meta c.loop-table.table-index Meta in
+    let here : place_of t ≡ place = place_after c.loop-table.table-index c.loop-table-test.true in
     let was = c.loop-table.invariant in
     let other : d ≢ Some t = is_not c.is_at.result c.if-is_at.false c.is_at.ensures in
     let from = from_next d t place here was.1 other in (
@@ -54,8 +54,8 @@ check_rows_of-requires-clause-begin g c clean =
     let n = c.args.edition in
     let d = c.args.difference in
     let place = c.loop-table.table-index + 1 in
-    let t = get_or behind_meta c.loop-table.table-index Meta in
-    let here : place_of t ≡ place = place_behind c.loop-table.table-index c.loop-table-test.true in
+    let t = get_or after_meta c.loop-table.table-index Meta in
+    let here : place_of t ≡ place = place_after c.loop-table.table-index c.loop-table-test.true in
     let was = c.loop-table.invariant in
     let other : d ≢ Some t = is_not c.is_at.result c.if-is_at.false c.is_at.ensures in
     let start : HasCleanDisk old = omega (arith, was.0.clean) in
@@ -68,8 +68,8 @@ returns-then-is_at-clause-reported g c clean =
     let mid = state g.S.Store c.loop-table.conn in
     let n = c.args.edition in
     let d = c.args.difference in
-    let t = get_or behind_meta c.loop-table.table-index Meta in
-    let here : place_of t ≡ c.loop-table.table-index + 1 = place_behind c.loop-table.table-index c.loop-table-test.true in
+    let t = get_or after_meta c.loop-table.table-index Meta in
+    let here : place_of t ≡ c.loop-table.table-index + 1 = place_after c.loop-table.table-index c.loop-table-test.true in
     let was = c.loop-table.invariant in
     let start : HasCleanDisk old = omega (arith, was.0.clean) in
     let before = was.2 clean in
@@ -82,8 +82,8 @@ returns-then-not-right-clause-reported g c clean =
     let new = state g.S.Store c.check_rows_of.new.conn in
     let n = c.args.edition in
     let place = c.loop-table.table-index + 1 in
-    let t = get_or behind_meta c.loop-table.table-index Meta in
-    let here : place_of t ≡ place = place_behind c.loop-table.table-index c.loop-table-test.true in
+    let t = get_or after_meta c.loop-table.table-index Meta in
+    let here : place_of t ≡ place = place_after c.loop-table.table-index c.loop-table-test.true in
     let early : HasCleanDisk mid = omega (arith, c.in_ok-right.ensures.look.crash.clean) in
     let one = c.in_ok-right.ensures.look.same clean in
     let wrong : c.in_ok-right.right ≡ false = c.if-not-right.true in
