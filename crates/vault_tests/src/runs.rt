@@ -30,29 +30,45 @@ fn carry_out<K: Keeper>(
     run(alloc, keeper, commands)
 }
 
-/// The device fails at the second of three changes: the second reply says so, and no other does.
-#[test]
-fn a_failure_is_reported_by_its_own_reply(rt: HostRuntime) -> Result<(), Fail> {
-    let alloc = rt.alloc();
-    let commands = [
-        add_dept(alloc, "a")?,
-        add_dept(alloc, "b")?,
-        add_dept(alloc, "c")?,
-    ];
-    let mut keeper = FuseKeeper::new(ListKeeper::new(alloc)?, 1);
-    let replies = carry_out(alloc, &mut keeper, &commands)?;
-    let is_wanted = matches!(
-        replies.as_slice(),
+/// The commands that add three departments.
+fn commands(alloc: Global) -> Result<Vec<Timed>, Fail> {
+    let mut commands = Vec::new(alloc);
+    for name in ["a", "b", "c"] {
+        commands.push(add_dept(alloc, name)?)?;
+    }
+    Ok(commands)
+}
+
+/// Whether the second of three replies reports that the device failed, and the others that a change was made.
+fn is_wanted(replies: &[Reply]) -> bool {
+    matches!(
+        replies,
         [
             Reply::Done(Answer::Nothing),
             Reply::Refused(Refusal::Device),
             Reply::Done(Answer::Nothing),
         ]
-    );
+    )
+}
+
+/// Fails unless the replies are those.
+fn try_commands<K: Keeper>(alloc: Global, keeper: &mut K, commands: &[Timed]) -> Result<(), Fail> {
+    let replies = carry_out(alloc, keeper, commands)?;
+    let is_wanted = is_wanted(replies.as_slice());
     drop(replies);
-    drop(keeper);
     if is_wanted {
         return Ok(());
     }
     Err(Fail::new("another reply reports the failure"))
+}
+
+/// The device fails at the second of three changes: the second reply says so, and no other does.
+#[test]
+fn a_failure_is_reported_by_its_own_reply(rt: HostRuntime) -> Result<(), Fail> {
+    let commands = commands(rt.alloc())?;
+    let mut keeper = FuseKeeper::new(ListKeeper::new(rt.alloc())?, 1);
+    let tried = try_commands(rt.alloc(), &mut keeper, commands.as_slice());
+    drop(keeper);
+    drop(commands);
+    tried
 }
