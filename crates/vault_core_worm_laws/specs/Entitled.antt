@@ -48,7 +48,7 @@ IsCausedByRight v (cause.Request name) = HasRight v name right.DeleteVersion
 IsCausedByRight v (cause.Bypass name) = HasRight v name right.DeleteVersion
 IsCausedByRight v (cause.Rule rule) = Unit {0}
 
--- the rights after the change
+-- an admission, a setting and a removal were made by somebody with the right to them
 abbrev pub IsEntitled : Vault → ℕ → Change → Type 0
 IsEntitled v t (Admit a) = IsAdmitter v a.history.entry.marker a.history.entry.by × IsFirstBy v a.history.entry.by a.history.settings
 IsEntitled v t (AddSetting id s) = IsSetByRight v t (lock_of v id) s

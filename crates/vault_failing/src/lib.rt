@@ -1,4 +1,4 @@
-//! A reader, a writer and files that fail, for tests of what a fault or a crash leaves after.
+//! A reader, a writer and files that fail, for tests of what a fault or a crash leaves.
 #![tactic(auto)]
 
 pub mod device;

@@ -1,4 +1,4 @@
-//! A reader and a writer that fail, for tests of what a fault leaves after.
+//! A reader and a writer that fail, for tests of what a fault leaves.
 
 ghost use Rattle.std.specs.Prelude.{◌≡◌, ◌↔◌, ◌+◌, [], length, Some, IsErr, IfErr, IfOk, OnOk};
 ghost use Rattle.std.specs.IoError.{error_kind};

@@ -1,4 +1,4 @@
-//! What a fault of the reader, the writer or the device leaves after.
+//! What a fault of the reader, the writer or the device leaves.
 use std::alloc::Global;
 use std::io::{self, BufWriter, ErrorKind, Read, Write};
 use std::test::Fail;
