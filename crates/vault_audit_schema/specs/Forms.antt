@@ -1,4 +1,4 @@
--- What the forms stand for.
+-- What the forms mean.
 use Rattle.std.specs.Prelude.{ℕ, List, [], ◌∷◌, Option, Some, None, map}
 use Rattle.vault_base.specs.Refusal.{table_name}
 use Rattle.sqlite_value.specs.Keys.{plain}

@@ -50,7 +50,7 @@ fn regular_file(metadata: &Metadata) -> Option<Node>
     })
 }
 
-/// The regular file that stands at a path itself; a link stands for nothing.
+/// The regular file at a path itself; a link isn't one.
 fn file_at<R: Files>(files: &R, path: &str) -> Result<Option<Node>, Fault> {
     match fs::symlink_metadata(files, path) {
         Ok(metadata) => Ok(regular_file(&metadata)),

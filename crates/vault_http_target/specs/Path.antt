@@ -1,4 +1,4 @@
--- The parts of a path, and the texts that they stand for.
+-- The parts of a path, and the texts that they mean.
 use Rattle.std.specs.Prelude.{ℕ, ◌+◌, ◌==◌, not, List, take, drop, Option, Some, None, Result, Ok, Err, if◌then◌else◌}
 use Rattle.std.specs.List.{prefix_len}
 use Rattle.std.specs.Str.{is_utf8}
@@ -25,6 +25,6 @@ abbrev pub or_refusal : {A : Type 0} → Refusal → Option A → Result A Refus
 or_refusal refusal None = Err refusal
 or_refusal refusal (Some x) = Ok x
 
--- the text that a part of a path stands for
+-- the text that a part of a path means
 unfoldable pub decoded : Refusal → List ℕ → Result (List ℕ) Refusal
 decoded refusal part = or_refusal refusal (as_text (percent_decode part))

@@ -5,7 +5,7 @@ use Rattle.matchit.specs.Rows.{RowsOf}
 use Rattle.matchit.specs.Router.{RouteOf}
 use Rattle.matchit.specs.Seek.{first}
 
--- 256 stands for a name up to the next slash, 257 for all that is left
+-- 256 is a name up to the next slash, 257 for all that is left
 abbrev pub bucket : RouteOf ℕ
 bucket = record { pattern = 47 ∷ 256 ∷ []; text = codes "/{bucket}"; names = (2, 8) ∷ []; value = 0 }
 

@@ -1,4 +1,4 @@
-//! The parts of a path, and the texts that they stand for.
+//! The parts of a path, and the texts that they mean.
 ghost use Rattle.std.specs.Prelude.{◌≡◌, ◌≤◌, drop, length};
 ghost use Rattle.std.specs.Option.{option_copied};
 ghost use Rattle.vault_values.specs.Fault.{Gives};
@@ -55,8 +55,8 @@ pub fn as_text(bytes: &[u8]) -> Option<&str>
     }
 }
 
-/// The text that a part of a path stands for once it is percent-decoded (RFC 3986, section 2.1), or
-/// that refusal where it isn't UTF-8. A `%` without two digits stands for itself.
+/// The text that a part of a path means once it is percent-decoded (RFC 3986, section 2.1), or
+/// that refusal where it isn't UTF-8. A `%` without two digits is itself.
 #[tactic(auto, unfolding(crate::specs::Path::decoded))]
 pub fn decoded(alloc: Global, part: &[u8], refusal: Refusal) -> Result<Text, LineFault>
     ensures { Gives (λ x. x) result (spec.decoded refusal part.now) }

@@ -1,4 +1,4 @@
--- Names and items of the code's lists, and those of the values that they stand for.
+-- Names and items of the code's lists, and those of the values that they name.
 use Rattle.std.proofs.Common.{◌≡◌, ℕ, Bool, List, [], ◌∷◌, ap, refl, map, Bor, ◌∙◌}
 use Rattle.std.specs.Prelude.{String, string_bytes, ◌&&◌, ◌||◌}
 use Rattle.std.specs.List.{list_all, list_any}

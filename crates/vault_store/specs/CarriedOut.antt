@@ -12,7 +12,7 @@ use Rattle.vault_store.specs.Left.{LeavesOneOf}
 use Rattle.vault_store.specs.VaultOf.{vault_of}
 use Rattle.vault_store.specs.declared.sql_keeper.SqlKeeper.{SqlKeeper}
 
--- A keeper of this connection stands for the vault that these commands lead to from v, with these replies. While the connection is open, its tables spell that vault, and a crash leaves it alone;
+-- A keeper of this connection keeps the vault that these commands lead to from v, with these replies. While the connection is open, its tables spell that vault, and a crash leaves it alone;
 -- where a failure has shut the connection, a crash leaves it, or it with one of the changes that the keeper was refused after all that it made.
 pub record AreCarriedOut {S : Type 0} (g : Ghosts S) (conn : Held S) (v : Vault) (commands : List Timed) (replies : List Reply) : Type 0 where
   pub keeper : SqlKeeper S g

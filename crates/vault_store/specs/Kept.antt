@@ -25,7 +25,7 @@ pub record IsSettled (s : State) : Type 0 where
   pub sound : (v : Vault) × AreSound s.now v
   pub committed : s.committed ≡ s.now
 
--- a connection stands for a sound vault: while it is open, its tables spell that
+-- a connection keeps a sound vault: while it is open, its tables spell that
 pub record StandsFor (s : State) (v : Vault) : Type 0 where
   pub sound : Sound v
   pub keeps : Keeps s v

@@ -25,7 +25,7 @@ IsOneFoundIn v (c ∷ cs) trees = IsFoundWith v c trees ⊎ IsOneFoundIn v cs tr
 abbrev pub LeavesOneOf : State → Vault → List (ℕ × Change) → Type 0
 LeavesOneOf s v refused = (trees : Trees) → s.may_leave trees → IsOneFoundIn v refused trees
 
--- a connection stands for a sound vault, which its tables spell while it is open, and a crash leaves that, or it with one of these changes
+-- a connection keeps a sound vault, which its tables spell while it is open, and a crash leaves that, or it with one of these changes
 pub record IsKept (s : State) (v : Vault) (refused : List (ℕ × Change)) : Type 0 where
   pub sound : Sound v
   pub keeps : Keeps s v

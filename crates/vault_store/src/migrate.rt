@@ -222,7 +222,7 @@ impl<S: Alter> SqlKeeper<S> {
         edition: Edition,
         mut new: Connection<S>,
     ) -> Result<SqlKeeper<S>, (Refusal, Connection<S>)>
-        // The old tables spell a vault, and it is the one that the keeper stands for,
+        // The old tables spell a vault, and it is the keeper's,
         ensures spelled { IfOk result (λ k. HasCleanDisk (state O.Store old.new) → (v : Vault) × AreSoundAs edition (state O.Store old.old).now v) }
         ensures vault { IfOk result (λ k. HasCleanDisk (state O.Store old.new) → HasCleanDisk (state S.Store k.conn)
             → (v : Vault) → AreSoundAs edition (state O.Store old.old).now v → vault_of S.Store k ≡ v) }

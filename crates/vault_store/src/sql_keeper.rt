@@ -58,7 +58,7 @@ use vault_tally::row::Row;
 
 /// A vault in tables.
 ///
-/// Which vault it stands for is what its tables stated when it was opened, with the changes made since;
+/// Which vault it keeps is what its tables stated when it was opened, with the changes made since;
 /// only proofs read that. While its disk returns what was written and no failure has shut the
 /// connection, the tables are sound and spell that vault. A crash leaves that vault, or that with one more
 /// change, which was refused after the last one that was made; only proofs read which ones these are.
@@ -139,7 +139,7 @@ impl<S: Alter> SqlKeeper<S> {
         alloc: Global,
         mut conn: Connection<S>,
     ) -> Result<SqlKeeper<S>, (Refusal, Connection<S>)>
-        // The vault that the keeper stands for is the one that the tables spell, and they are as they were.
+        // The vault of the keeper is the one that the tables spell, and they are as they were.
         ensures sound { IfOk result (λ k. HasCleanDisk (state S.Store k.conn) → AreSound (state S.Store k.conn).now (vault_of S.Store k)) }
         ensures same { IfOk result (λ k. HasCleanDisk (state S.Store k.conn) → IsUnchanged (state S.Store conn) (state S.Store k.conn)) }
         ensures crash { IfOk result (λ k. Survives (state S.Store conn) (state S.Store k.conn) (λ _. ⊥)) }

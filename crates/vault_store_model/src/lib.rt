@@ -1,4 +1,4 @@
-//! Which vault the tables of a connection stand for, what edits of single tables make of the rows of all
+//! Which vault the tables of a connection spell, what edits of single tables make of the rows of all
 //! of them, and what is known of a vault from what was read last.
 #![tactic(auto)]
 

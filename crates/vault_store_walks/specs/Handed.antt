@@ -12,7 +12,7 @@ use Rattle.vault_audit_model.specs.Rows.{entry_row}
 abbrev pub Takes : {T : Type 0} → Taking T → T → Row → T → Type 0
 Takes takes s row t = (e : Entry) × (row ≡ entry_row e) × takes s e true t
 
--- the answer of a walk, where each failure stands for one fault
+-- the answer of a walk, where each failure is one fault
 abbrev pub as_fault : Result Bool Error → Result Bool Fault
 as_fault (Ok done) = Ok done
 as_fault (Err e) = Err Device

@@ -86,7 +86,7 @@ fn a_list_is_taken_in_once(rt: HostRuntime) -> Result<(), Fail> {
     try_in_new(rt.alloc(), &Intake, &[])
 }
 
-/// Requests and their answers; `|` stands for CR LF.
+/// Requests and their answers; `|` means CR LF.
 const REQUESTS: [(&str, &str); 4] = [
     (
         "PUT /docs/a HTTP/1.1|host: x|x-vault-caller: ann|content-length: 5|expect: 100-continue||hello",

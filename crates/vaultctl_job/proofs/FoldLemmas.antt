@@ -1,4 +1,4 @@
--- A loop that adds what each item of a list stands for.
+-- A loop that adds what each item of a list means.
 use Rattle.std.proofs.Common.{◌≡◌, ◌+◌, ◌<◌, ◌∷◌, [], ℕ, List, length, map, take, get_or, ap, ◌∙◌}
 use Rattle.std.specs.Prelude.{fold}
 use Rattle.std.proofs.lemmas.List.{map_more}

@@ -93,7 +93,7 @@ memory e [] (inl m) none = m
 memory e [] (inr among) none = absurd among
 memory e (k ∷ ks) has none = cc
 
--- the same of a command that stands for it
+-- the same of a command that means it
 module _ (a : App) (words : List Text) (is : a ≡ vaultctl) where
   pub job_met : (rows : Option (Text × List Row)) → rows ≡ subcommand_of a words → job_in rows ≡ job_for words
   job_met rows met = ap job_in (met ∙ ap (λ (b : App). subcommand_of b words) is)

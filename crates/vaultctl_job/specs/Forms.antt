@@ -1,4 +1,4 @@
--- What the forms of subcommands and of their words stand for.
+-- What the forms of subcommands and of their words mean.
 use Rattle.std.specs.Prelude.{map, fold}
 use Rattle.clap.specs.Words.{App, Rule, Shape, new_app, with_rule}
 use Rattle.vaultctl_job.specs.Arguments as arg

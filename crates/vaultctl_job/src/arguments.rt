@@ -96,7 +96,7 @@ fn count<'a>(alloc: Global) -> Arg<'a>
         .value_name("N")
         .default_value("1000000")
         .value_parser(value_parser!(u32).range(1..=1_000_000))
-        .help("Ends after so many requests, 1 to 1000000")
+        .help("Ends after N requests, 1 to 1000000")
 }
 
 fn lines<'a>(alloc: Global) -> Arg<'a>

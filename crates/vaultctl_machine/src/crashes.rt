@@ -37,7 +37,7 @@ pub fn openings_follow<D: Disk + Drop, E: Disk>(vault: SqlKeeper<FileStore<D>>) 
     store_of(vault)
 }
 
-/// Lets go of a vault in files as a crash does, and opens the vault at a path. `start` stands for what the files there
+/// Lets go of a vault in files as a crash does, and opens the vault at a path. `start` is what the files there
 /// hold. The answer is the store that was let go of, and the vault that was opened.
 ///
 /// The errors are those of `Machine::open`.

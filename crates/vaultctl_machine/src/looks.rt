@@ -112,7 +112,7 @@ fn look_at_found(rt: &HostRuntime, path: &str, found: Metadata) -> Option<Cause>
 fn look_at(rt: &HostRuntime, path: &str) -> Option<Cause> {
     match fs::metadata(rt, path) {
         Ok(found) => look_at_found(rt, path, found),
-        // A name that stands for something else than a file, or a link that leads nowhere.
+        // A name of something other than a file, or a link that leads nowhere.
         Err(error) if error.kind() == ErrorKind::NotFound => None,
         Err(error) => cause_of_kind(error.kind()),
     }

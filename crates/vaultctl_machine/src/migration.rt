@@ -62,7 +62,7 @@ fn copy<O: Alter, S: Alter>(
     ensures clean { HasCleanDisk (state O.Store result.source) → HasCleanDisk (state O.Store source) }
     ensures clean_new { IfErr result.outcome (λ e. HasCleanDisk (state S.Store e.1) → HasCleanDisk (state S.Store new)) }
     ensures reported { IfErr result.outcome (λ e. IsUncopied e.0) }
-    // The tables that were found spell the vault that the keeper stands for, and so do the new ones.
+    // The tables that were found spell the vault of the keeper, and so do the new ones.
     ensures found { IfOk result.outcome (λ k. HasCleanDisk (state O.Store result.source) → HasCleanDisk (state S.Store k.conn)
         → AreSoundAs edition (state O.Store source).now (vault_of S.Store k)) }
     ensures sound { IfOk result.outcome (λ k. HasCleanDisk (state S.Store k.conn) → AreSound (state S.Store k.conn).now (vault_of S.Store k)) }
@@ -253,7 +253,7 @@ fn copy_at<A: Start, B: Start>(
 
 impl<'a, A: Start, B: Start> Machine<'a, VaultStore<A>, VaultStore<B>> {
     /// Copies the vault in a file of the first or the second edition, at `old`, into a file at `new` that isn't there, is
-    /// empty, or is a store without a table. `starts` stands for what the two files and their logs hold.
+    /// empty, or is a store without a table. `starts` is what the two files and their logs hold.
     ///
     /// `Damaged` with the first table at `old` that isn't sound; with `meta` where no file is there, or where it is empty, of the
     /// newest edition, or no store of tables whose rows keep its own schema. `NameTaken` where something is in the file at

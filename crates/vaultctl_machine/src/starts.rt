@@ -2,7 +2,7 @@
 use sqlite::Start;
 
 /// A value for each opening of files that a job may make. What is proved of an opening holds for any contents that
-/// its type stands for; two openings of one type could be shown to disagree, so each takes a type of its own.
+/// its type allows; two openings of one type could be shown to disagree, so each takes a type of its own.
 #[derive(Drop)]
 pub struct Starts<A: Start, B: Start> {
     /// Of the vault that the job names.

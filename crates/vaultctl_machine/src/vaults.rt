@@ -451,7 +451,7 @@ impl<'a, A: Start, B: Start> Machine<'a, VaultStore<A>, VaultStore<B>> {
         self.rt
     }
 
-    /// Opens the vault in a file: its tables have to be sound. `start` stands for what the file and its log hold.
+    /// Opens the vault in a file: its tables have to be sound. `start` is what the file and its log hold.
     ///
     /// `Damaged` with the first table that isn't; with `meta` where the file isn't there or is empty, or is no store
     /// of tables whose rows keep its own schema. With each of the errors the file and its log are as they were,
@@ -488,7 +488,7 @@ impl<'a, A: Start, B: Start> Machine<'a, VaultStore<A>, VaultStore<B>> {
         }
     }
 
-    /// Makes a new vault in a file that isn't there or is empty. `start` stands for what the file and its log hold.
+    /// Makes a new vault in a file that isn't there or is empty. `start` is what the file and its log hold.
     ///
     /// `NameTaken` where something is in it, or changes may be in the log beside it, and both are left as they are.
     /// `Memory` where memory was refused, `Device` where the file can't be made, and `InUse` where another program
@@ -524,7 +524,7 @@ impl<'a, A: Start, B: Start> Machine<'a, VaultStore<A>, VaultStore<B>> {
     ///
     /// None where that fails: then what was committed is in the log beside the file, and the next opening finds it there.
     pub fn close(&mut self, vault: FileVault<A>) -> Option<Files<ProgressFile<A>>>
-        // Its connection is remembered, which stands for the vault.
+        // Its connection is remembered, which keeps the vault.
         ensures closed { self.new.closed.items ≡ self.old.closed.items ++ (vault.conn, true) ∷ [] }
         ensures stands { ∥ (HasCleanDisk (file_state vault.conn) → StandsFor (file_state vault.conn) (vault_of over_files vault)) ∥₁ }
         ensures looked { self.new.looked ≡ self.old.looked }

@@ -10,7 +10,7 @@ use Rattle.sqlite_store.specs.declared.error.OpenError.TheVariants as opening
 use Rattle.sqlite_wal.specs.declared.error.Error.{Error as LogError}
 use Rattle.sqlite_wal.specs.declared.error.Error.TheVariants as log
 
--- a path that stands for something else than a file
+-- a path that names something other than a file
 abbrev pub is_no_path : List ℕ → Bool
 is_no_path path = bytes_eq path (codes ":memory:") || starts_with nat_eq path (codes "file:")
 

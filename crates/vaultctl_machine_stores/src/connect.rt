@@ -30,7 +30,7 @@ const NO_MEMORY: Error = Error::SqliteFailure(ErrorCode::OutOfMemory);
 
 const CANNOT_OPEN: Error = Error::SqliteFailure(ErrorCode::CannotOpen);
 
-/// The files at a path, where those that are missing are made. No name that stands for something else is a path, as in
+/// The files at a path, where those that are missing are made. No name of something other than a file is a path, as in
 /// `Connection::open_from`.
 fn open_pair<S: Start>(rt: &HostRuntime, path: &str, start: S) -> Result<Files<FileFrom<S>>, Error>
     ensures usable { IfOk result (λ files. IsTrue (file_is_usable S.Start files.log) × IsTrue (file_is_usable S.Start files.db)) }
@@ -176,7 +176,7 @@ fn untouched(error: io::Error) -> Error
 }
 
 /// A connection to the files at a path, which are made if they are missing, with pages of `PAGE_BYTES` if they hold
-/// nothing yet. `start` stands for what they hold.
+/// nothing yet. `start` is what they hold.
 ///
 /// The errors are those of `Connection::open_from`, and with each the files are as they were.
 pub fn connect_new<S: Start>(

@@ -30,7 +30,7 @@ struct Names {
     log: String,
 }
 
-/// Whether a path stands for something else than a file, as `Connection::open_from` reads it.
+/// Whether a path names something other than a file, as `Connection::open_from` reads it.
 pub fn is_no_path(path: &str) -> bool
     ensures { result ≡ spec.is_no_path path.now }
 {
