@@ -6,22 +6,27 @@ import pathlib
 import subprocess
 from collections.abc import Iterator
 
-SOURCE = pathlib.Path(__file__).resolve().parent / "refused_allocation.c"
+TOOLS = pathlib.Path(__file__).resolve().parent
 
 
 class Loaded:
-    """A proved program that has one of its allocations refused, by a library that is loaded into it.
+    """A proved program of which one call fails, by a library that is loaded into it: `refused_allocation` refuses an
+    allocation, and `failed_reading` has the program not read the clock by which it waits.
 
-    The program isn't altered: the library answers its calls of `malloc` and `realloc`. It is compiled with `CC` or `cc`
-    into the folder."""
+    The program isn't altered: the library answers its calls. It is compiled with `CC` or `cc` into the folder."""
 
-    def __init__(self, program: str | pathlib.Path, folder: str | pathlib.Path) -> None:
+    def __init__(self, program: str | pathlib.Path, folder: str | pathlib.Path, what: str = "refused_allocation") -> None:
         self.program = pathlib.Path(program).resolve()
-        self.library = pathlib.Path(folder) / "refused_allocation.so"
+        self.what, self.library = what, pathlib.Path(folder) / f"{what}.so"
         compiler = os.environ.get("CC", "cc")
-        subprocess.run([compiler, "-O2", "-shared", "-fPIC", "-o", str(self.library), str(SOURCE)], check=True)
+        words = [compiler, "-O2", "-shared", "-fPIC", "-o", str(self.library), str(TOOLS / f"{what}.c")]
+        subprocess.run(words, check=True)
+
+    def front(self, number: int) -> list[str]:
+        """The words in front of the program by which the call of that number fails; by 0 none does."""
+        return ["/usr/bin/env", f"LD_PRELOAD={self.library}", f"{self.what.upper()}={number}"]
 
     @contextlib.contextmanager
     def refusing(self, number: int) -> Iterator[list[str]]:
         """The words that run it with that allocation refused; with a number that no run comes to none is."""
-        yield ["/usr/bin/env", f"LD_PRELOAD={self.library}", f"REFUSED_ALLOCATION={number}", str(self.program)]
+        yield [*self.front(number), str(self.program)]

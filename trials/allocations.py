@@ -1,4 +1,4 @@
-"""Allocations: each of a script's is refused in turn, and want of memory loses nothing.
+"""Allocations: each of a script's or a job's is refused in turn, and want of memory loses nothing.
 
 The script is examples/every-command.jsonl, given to `replay`. In each run one allocation of the program is refused,
 from its first one on, by a library that is loaded into it. The run is right where one of these holds:
@@ -16,16 +16,25 @@ some. After the last one the search ends with some runs in which nothing is refu
 
 Every right outcome is altered, in ways that would be faults of the vault, and the trial fails where it
 lets one through.
+
+Then jobs over a file have their allocations refused, one a run: some of those of `init`, `verify` and `migrate`, and of the
+others some of those after the vault is open; by `--long` each of them. A job is refused by `Memory` and by no other name, and has changed nothing; or it says that it couldn't answer for want of
+memory, and is done or not; or nothing differs.
 """
 
 import collections
+import contextlib
 import itertools
 import json
 import os
+import pathlib
 import re
+import shutil
+import sqlite3
+import sys
 from concurrent.futures import ThreadPoolExecutor
 
-from trials.program import EXAMPLES, PROGRAM, Case, check, needs, ran_words
+from trials.program import EXAMPLES, IS_LONG, PROGRAM, Case, Ran, check, make_office, needs, printed, ran_words
 from proved import Loaded
 
 SCRIPT = EXAMPLES / "every-command.jsonl"
@@ -246,3 +255,129 @@ class Allocations(Case):
             outcomes = dict(zip(cases, pool.map(program.run, cases.values())))
         reference = check_references(lines, outcomes, SCRIPT.with_suffix(".out").read_text().splitlines())
         print("allocations:", dict(sweep(program, lines, reference)))
+
+
+AT = ["--at", "2024-02-15T09:00:00Z"]
+ANN, REGISTRAR = ["--as", "ann", *AT], ["--as", "registrar", *AT]
+MADE = """{"at":"2024-01-15T09:00:00Z","as":"ann","do":"put","bucket":"docs","key":"a","text":"of a"}
+{"at":"2024-01-15T09:00:00Z","as":"ann","do":"delete-version","bucket":"docs","key":"a","id":1}
+{"at":"2024-01-15T09:00:00Z","as":"ann","do":"put","bucket":"docs","key":"b","text":"of b"}
+{"at":"2024-01-15T09:00:00Z","as":"ann","do":"set-rules","bucket":"docs","rules":[{"ID":"r","Status":"Enabled","Expiration":{"Days":9}}]}
+"""
+# The words of jobs over the vault `v`, one of an earlier edition, and a file that isn't there.
+WORDS_OF = {
+    "init": ["new"],
+    "dept": ["v", "maps", *REGISTRAR],
+    "caller": ["v", "bob", "get", "--dept", "records", *REGISTRAR],
+    "bucket": ["v", "more", "records", *REGISTRAR],
+    "move": ["v", "docs", "court", *REGISTRAR],
+    "intake": ["v", "docs", "batch", "list.csv", ".", *ANN],
+    "run": ["v", "docs", *ANN],
+    "report": ["v", "records", *ANN],
+    "certificate": ["v", "docs", "1", *ANN],
+    "register": ["v"],
+    "verify": ["v"],
+    "events": ["v"],
+    "seal": ["v"],
+    "lawful": ["v"],
+    "migrate": ["early", "new"],
+}
+# The jobs of which any allocation is refused; of the others those after the vault is open.
+WHOLE = ("init", "verify", "migrate")
+# One of how many allocations is refused, of these and of the others; and how many runs that nothing troubles end a search.
+STEPS = (1, 1) if IS_LONG else (97, 5)
+UNTROUBLED = 20
+# An opening makes more allocations than this, so that one of these which makes no difference comes before it is over.
+EARLIEST = 1_000
+EARLIER = EXAMPLES / "earlier" / "schema2" / "rows.sql"
+Tables = dict[str, list[str]]
+
+
+def tables_in(folder: pathlib.Path) -> Tables:
+    """What the vaults of a folder hold; nothing of one that isn't there, or of a file without a table, in which the same
+    words make a vault."""
+    found: Tables = {}
+    for name in ("v", "new"):
+        with contextlib.closing(sqlite3.connect(folder / name)) as base:
+            found[name] = list(base.iterdump())
+    return found
+
+
+def judge_job(name: str, before: Tables, whole: tuple[Ran, Tables], here: tuple[Ran, Tables]) -> str:
+    """How a job ended of which an allocation was refused; `none` where nothing differs from the whole one."""
+    if here == whole:
+        return "none"
+    (ran, left), (done, after) = here, whole
+    said = ran.err.partition("\n")[0]
+    check(ran.status == 1, "its status")
+    if ran.out in (f"{MEMORY}\n", "stopped Memory\n"):
+        check(left == before, "it was refused, and changed something")
+        return "refused"
+    if STOPPED.fullmatch(ran.out.strip()):
+        return "stopped"
+    check(said in (NO_WORDS, "open: Memory", f"{name}: Memory"), "what is said of it")
+    check(done.out.startswith(ran.out) and left in (before, after), "what was done of it")
+    return said
+
+
+@needs(os.environ.get("CC", "cc"))
+class Jobs(Case):
+    def setUp(self) -> None:
+        super().setUp()
+        self.loaded, self.made = Loaded(PROGRAM, self.folder), self.folder / "made"
+        self.made.mkdir()
+        make_office(self.made / "v", "put", "config", "delete-version", "run", "report", at=["--at", "2024-01-15T09:00:00Z"])
+        printed("dept", self.made / "v", "court", "--as", "registrar", "--at", "2024-01-15T09:00:00Z")
+        printed("replay", self.made / "v", given=MADE)
+        (self.made / "list.csv").write_text("file,key,mode,until,hold\nlist.csv,c,,,\n")
+        with contextlib.closing(sqlite3.connect(self.made / "early")) as base:
+            base.executescript(EARLIER.read_text())
+
+    def carried_out(self, name: str, number: int) -> tuple[Ran, Tables]:
+        """What a job comes to with that allocation refused, and what the vaults hold then."""
+        place = self.folder / f"{name}-{number}"
+        shutil.copytree(self.made, place)
+        with self.loaded.refusing(number) as words:
+            ran = ran_words(*words, name, *WORDS_OF[name], cwd=place, env={}, timeout=LIMIT)
+        found = ran, tables_in(place)
+        shutil.rmtree(place)
+        return found
+
+    def first(self, name: str) -> int:
+        """The first allocation of a job after its words are read and its vault is open."""
+        below, number = 0, EARLIEST
+        while self.is_early(name, number):
+            below, number = number, 2 * number
+        while number - below > 1:
+            middle = (below + number) // 2
+            below, number = (middle, number) if self.is_early(name, middle) else (below, middle)
+        return number
+
+    def is_early(self, name: str, number: int) -> bool:
+        return number < EARLIEST or self.carried_out(name, number)[0].err.startswith("open: Memory")
+
+    def look_at(self, name: str, numbers: range, pool: ThreadPoolExecutor) -> collections.Counter[str]:
+        """Judges a run for each of these allocations, up to the last that the job makes."""
+        before, whole = tables_in(self.made), self.carried_out(name, NEVER)
+        check(whole[0].status == 0, f"{name}: {whole[0]}")
+        ways, untroubled = collections.Counter[str](), 0
+        for some in (numbers[at:at + UNTROUBLED] for at in itertools.count(0, UNTROUBLED)):
+            for number, here in zip(some, pool.map(lambda it: self.carried_out(name, it), some)):
+                try:
+                    way = judge_job(name, before, whole, here)
+                except AssertionError as wrong:
+                    raise AssertionError(f"{name}, allocation {number}: {wrong}: {here[0]}") from None
+                untroubled = untroubled + 1 if way == "none" else 0
+                ways[way] += 1
+            if untroubled >= UNTROUBLED:
+                break
+        return ways
+
+    def test_jobs(self) -> None:
+        with ThreadPoolExecutor(JOBS) as pool:
+            for name in WORDS_OF:
+                is_whole = name in WHOLE
+                numbers = range(1 if is_whole else self.first(name), sys.maxsize, STEPS[not is_whole])
+                ways = self.look_at(name, numbers, pool)
+                check(len(ways) > 1, f"no allocation of {name} was refused")
+                print(f"allocations of {name}:", dict(ways))

@@ -227,6 +227,48 @@ class WithoutVault(Meeting):
         self.fails(ran, f"init: Device\n{WORDS['failed']}\n")
         self.assertEqual(kept_of(self.folder, "roomless"), [None, None], "init without room leaves a file")
 
+    @needs_strace
+    def test_links(self):
+        """By a link the file where it leads is made a vault, opened or left as it was, with its log beside it."""
+        (self.folder / "far").mkdir()
+        os.symlink("far/real", self.folder / "link")
+        self.refuses(["init", "link"], "init: Device", "unseen")
+        self.assertEqual(os.listdir(self.folder / "far"), [], "a link that leads nowhere")
+        (self.folder / "far" / "real").touch()
+        before, words = kept_of(self.folder / "far", "real"), ["init", f"{self.folder}/link"]
+        ran, has_failed = injected(self.folder, ["far/real"], {"pwrite64": "error=ENOSPC:when=1+"}, *words)
+        self.assertTrue(has_failed, "no write of the vault that a link leads to failed")
+        self.fails(ran, f"init: Device\n{WORDS['failed']}\n")
+        self.assertEqual(kept_of(self.folder / "far", "real"), before, "init without room leaves something")
+        self.answers(self.ran("init", "link"), "")
+        self.is_sound("far/real")
+        (self.folder / "far" / "real").write_bytes(b"")
+        (self.folder / "far" / "real-wal").write_bytes(bytes(LEAST_LOG))
+        self.refuses(["register", "link"], "open: Damaged meta", "lost")
+        self.refuses(["init", "link"], "init: NameTaken", "lost")
+        self.assertFalse((self.folder / "link-wal").exists(), "a log is made beside a link")
+
+    @needs_strace
+    def test_short_log(self):
+        """A log without a change beside no file is taken over; where no vault can be made it is left as it was."""
+        log = self.folder / "short-wal"
+        log.write_bytes(bytes(LEAST_LOG - 1))
+        before = kept_of(self.folder, "short")
+        ran, _ = injected(self.folder, ["short"], {"pwrite64": "error=ENOSPC:when=1+"}, "init", f"{self.folder}/short")
+        self.fails(ran, f"init: Device\n{WORDS['failed']}\n")
+        self.assertEqual(kept_of(self.folder, "short"), before, "init without room doesn't leave a log as it was")
+        self.answers(self.ran("init", "short"), "")
+        self.is_sound("short")
+
+    @needs_strace
+    def test_made_meanwhile(self):
+        """A file that another program made, empty, after it was looked for is made a vault."""
+        words = ["init", f"{self.folder}/meanwhile"]
+        ran, has_failed = injected(self.folder, ["meanwhile"], {"openat": "error=EEXIST:when=1"}, *words)
+        self.assertTrue(has_failed, "no file is made")
+        self.answers(ran, "")
+        self.is_sound("meanwhile")
+
     def clear(self):
         for end in ("", "-wal"):
             (self.folder / f"killed{end}").unlink(missing_ok=True)
@@ -313,6 +355,42 @@ class WithVault(Vaulted):
         log = self.folder / "v-wal"
         self.assertGreater(log.stat().st_size, LEAST_LOG, "the log of a server that was killed has no change")
         return log
+
+    def read_fails(self, command, before, number):
+        """Whether that read of a command on the vault fails, which then leaves the vault's files as they were."""
+        for end, content in before.items():
+            (self.folder / f"v{end}").write_bytes(content)
+        kept = kept_of(self.folder, "v")
+        ran, has_failed = injected(self.folder, ["v"], {"pread64": f"error=EIO:when={number}"}, command, f"{self.folder}/v")
+        if ran.status == 0:
+            # It failed, if it did, as the vault was closed.
+            self.assertEqual(ran, Ran(0, "sound\n", ""))
+            return has_failed
+        if has_failed:
+            self.assertIn("Device", ran.err, f"where read {number} of {command} fails")
+        self.assertEqual(kept_of(self.folder, "v"), kept, f"{command} changes files, and then read {number} fails")
+        return has_failed
+
+    @needs_strace
+    def test_failed_reads(self):
+        """Each read of an opening fails once, where the log has a change, and where nothing can be read of it: the file
+        and its log are left as they were."""
+        log = self.put_in_log()
+        whole = {end: (self.folder / f"v{end}").read_bytes() for end in ("", "-wal")}
+        for command, spoil in itertools.product(("init", "verify"), (True, False)):
+            before = {**whole, "-wal": b"x" + whole["-wal"][1:]} if spoil else whole
+            count = sum(1 for _ in itertools.takewhile(lambda it: self.read_fails(command, before, it), itertools.count(1)))
+            self.assertGreater(count, 5, f"{command} reads little, {spoil=}")
+        log.write_bytes(whole["-wal"])
+
+    def test_salts(self):
+        """The logs of two copies of a vault have other numbers, by which what another log left is told apart."""
+        shutil.copy(self.folder / "v", self.folder / "copy")
+        salts = [self.put_in_log().read_bytes()[16:24]]
+        self.is_sound("v")
+        shutil.copy(self.folder / "copy", self.folder / "v")
+        salts.append(self.put_in_log().read_bytes()[16:24])
+        self.assertNotEqual(*salts)
 
     def test_input(self):
         """An input that can't be read to its end."""

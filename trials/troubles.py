@@ -1,0 +1,209 @@
+"""Troubles: a server with a log whose clients take no reply, or one of whose calls fails.
+
+A client is gone before its line is answered: the log says so, and the line that ends the server ends it all the same. Then
+a server answers a line and a request, and one of its allocations is refused, or one reading of the clock by which it
+waits fails, one a run: what was answered is what was done, the log says of each what became of it, by that trouble
+and no other, and the vault is sound.
+"""
+
+import collections
+import contextlib
+import itertools
+import json
+import os
+import shutil
+import signal
+import subprocess
+from concurrent.futures import ThreadPoolExecutor
+from typing import Any, Callable, Iterable
+
+from trials.door import LIMIT, Server, get, line, put
+from trials.program import IS_LONG, PROGRAM, Case, check, make_office, needs, printed
+from proved import Loaded
+
+FILE = "records.vault"
+JOBS = len(os.sched_getaffinity(0))
+# How many runs in a row that nothing troubles end a search.
+ENOUGH = 20
+OK, MEMORY = b'{"ok":{"version_id":1}}', b'{"error":{"code":"Memory","n":22}}'
+ROOMLESS = {"result": "memory"}
+END = line("registrar", "close")
+
+
+def entries(said: str) -> list[dict[str, Any]]:
+    return [json.loads(it) for it in said.splitlines()]
+
+
+def send_and_go(server: Server, sent: bytes) -> None:
+    """Sends a line, and is gone before the server can answer it."""
+    server.serving.send_signal(signal.SIGSTOP)
+    with server.connect() as peer:
+        peer.sendall(sent)
+    server.serving.send_signal(signal.SIGCONT)
+
+
+class Untaken(Case):
+    def test_line(self) -> None:
+        make_office(self.folder / FILE, "put", "get")
+        server = Server(self.folder)
+        server.start("--log")
+        try:
+            for it in (put("a"), get("a"), line("registrar", "status")):
+                send_and_go(server, it)
+            check(server.lines(get("a")) != [], "the next line isn't answered")
+            send_and_go(server, END)
+            check(server.serving.wait(LIMIT) == 0, "the line that ends the server doesn't end it where its reply isn't taken")
+            assert server.serving.stderr is not None
+            found = entries(server.serving.stderr.read())
+        finally:
+            server.end()
+        results = [(it["do"], it["result"]) for it in found]
+        wanted = [("put", "untaken"), ("get", "untaken"), ("status", "untaken"), ("get", "ok")]
+        check(results[:4] == wanted, f"the log has {found}")
+        check([it["do"] for it in found[4:]] == ["close"], f"the log has {found}")
+
+
+class Run:
+    """What became of a line and a request, of a server that may not have begun."""
+
+    def __init__(self, server: Server, front: Iterable[str]) -> None:
+        server.start("--log", front=front)
+        assert server.serving.stderr is not None
+        try:
+            self.listens = server.said.startswith("serving ")
+            if self.listens:
+                self.replies, self.answer = [], b""
+                with contextlib.suppress(ConnectionError):
+                    self.replies = server.lines(put("a"))
+                with contextlib.suppress(ConnectionError):
+                    self.answer = server.http_get("b")
+                check(any(is_ended(server) for _ in range(3)), "it doesn't end")
+            self.said = server.serving.stderr.read() if self.listens else server.said
+            self.status = server.serving.wait(LIMIT)
+        finally:
+            server.end()
+
+    def entries(self) -> tuple[list[dict[str, Any]], list[dict[str, Any]]]:
+        """The log's entries of the line, which comes first, and those of the request. Between them one may say that a
+        connection without a line is late."""
+        found = entries(self.said)
+        by_line = [found.pop(0)] if found and found[0].get("door") != "http" else []
+        return by_line, [it for it in found if it.get("door") == "http"] or [it for it in found[:1] if it == ROOMLESS]
+
+
+def is_ended(server: Server) -> bool:
+    """Asks a server to end; whether it does. It may end and not say so."""
+    with contextlib.suppress(ConnectionError):
+        server.lines(END)
+    with contextlib.suppress(subprocess.TimeoutExpired):
+        server.serving.wait(1)
+    return server.serving.poll() is not None
+
+
+def of_allocation(run: Run, is_there: bool) -> str:
+    """What a refused allocation came to. Fails where that isn't what was answered, done and logged."""
+    by_line, by_request = run.entries()
+    check(len(by_line) == len(by_request) == 1, "an entry is lost")
+    others = {it["result"] for it in entries(run.said)} - {"ok", "NoSuchKey", "Memory", "memory", "nothing"}
+    check(not others, f"{others} in the log")
+    of_line, of_request = by_line[0]["result"], by_request[0]["result"]
+    if ROOMLESS in by_line + by_request:
+        check(run.replies == [OK] and is_there and b"NoSuchKey" in run.answer, "what was done without an entry")
+        return "no room for an entry"
+    if "nothing" in (of_line, of_request):
+        check(run.replies == [OK] and is_there and b"NoSuchKey" in run.answer, "what was done without a note of it")
+        check(all(it["out"] for it in by_line + by_request), "the bytes that were written")
+        return "no room for what was answered"
+    if of_line != "ok":
+        check((run.replies, of_line) in (([MEMORY], "Memory"), ([], "memory")), "the line's entry")
+        check(not (is_there and run.replies), "a refused line is carried out")
+        check(of_request == "NoSuchKey" and b"NoSuchKey" in run.answer, "the request after it")
+        return f"the line: {of_line}"
+    check(run.replies == [OK] and is_there, "what the line came to")
+    if of_request == "NoSuchKey":
+        check(b"NoSuchKey" in run.answer, "what the request came to")
+        return "none"
+    check(of_request == ("Memory" if b'"Memory"' in run.answer else "memory"), "the request's entry")
+    check(b'"Memory"' in run.answer or not run.answer, "what is answered")
+    return f"the request: {of_request}"
+
+
+# What the entry of a line says that had no time, each with whether the line is carried out. A line that hasn't begun has none.
+UNANSWERED = {("late",): False, ("untaken",): True, (): False}
+
+
+def of_reading(run: Run, is_there: bool) -> str:
+    """The same of a reading that failed: a line of which no time is known isn't carried out, or its reply isn't taken."""
+    by_line, by_request = ([it["result"] for it in found] for found in run.entries())
+    if run.replies:
+        check(run.replies == [OK] and by_line == ["ok"] and is_there, "what the line came to")
+    else:
+        check(UNANSWERED.get(tuple(by_line)) == is_there, "the line's entry")
+    if run.answer:
+        check(b"NoSuchKey" in run.answer and by_request == ["NoSuchKey"], "what the request came to")
+        return "none" if run.replies else f"the line: {by_line}"
+    check(run.replies and by_request in (["late"], ["untaken"]), "the request's entry")
+    return f"the request: {by_request}"
+
+
+@needs(os.environ.get("CC", "cc"))
+class Failing(Case):
+    def setUp(self) -> None:
+        super().setUp()
+        make_office(self.folder / "made", "put", "get")
+
+    def run_once(self, loaded: Loaded, number: int) -> tuple[Run, bool]:
+        """A run with that call failing, and whether the version is in the vault then."""
+        place = self.folder / f"run-{loaded.what}-{number}"
+        place.mkdir()
+        shutil.copy(self.folder / "made", place / FILE)
+        run = Run(Server(place), loaded.front(number))
+        self.is_sound(place / FILE)
+        is_there = printed("events", place / FILE).count("\n") > 1
+        shutil.rmtree(place)
+        return run, is_there
+
+    def first(self, loaded: Loaded) -> int:
+        """The first call that fails of a server which listens; a server before it ends, and says why."""
+        below, number = 0, 1
+        while not self.listens(loaded, number):
+            below, number = number, 2 * number
+        while number - below > 1:
+            middle = (below + number) // 2
+            below, number = (below, middle) if self.listens(loaded, middle) else (middle, number)
+        return number
+
+    def listens(self, loaded: Loaded, number: int) -> bool:
+        run, is_there = self.run_once(loaded, number)
+        said = run.said.splitlines()[:1]
+        check(run.listens or (run.status == 1 and said and said[0].endswith(": Memory") and not is_there), vars(run))
+        return run.listens
+
+    def sweep(self, what: str, step: int, judge: Callable[[Run, bool], str]) -> set[str]:
+        """Judges a run for each call that can fail, or for one of `step` of them; what these came to."""
+        loaded, ways, untroubled = Loaded(PROGRAM, self.folder, what), collections.Counter[str](), 0
+        with ThreadPoolExecutor(JOBS) as pool:
+            for begin in itertools.count(self.first(loaded), step * ENOUGH):
+                numbers = range(begin, begin + step * ENOUGH, step)
+                for number, (run, is_there) in zip(numbers, pool.map(lambda it: self.run_once(loaded, it), numbers)):
+                    try:
+                        check(run.status == 0, "its status")
+                        way = judge(run, is_there)
+                    except AssertionError as wrong:
+                        raise AssertionError(f"{what} {number}: {wrong}: {vars(run)}") from None
+                    untroubled = untroubled + 1 if way == "none" else 0
+                    ways[way] += 1
+                if untroubled >= ENOUGH:
+                    print(f"{what}:", dict(ways))
+                    return set(ways)
+        raise AssertionError("no end")
+
+    def test_allocations(self) -> None:
+        found = self.sweep("refused_allocation", 1 if IS_LONG else 13, of_allocation)
+        wanted = {"the line: Memory", "the request: Memory"}
+        check(found >= wanted, f"an allocation that is refused comes to {found}")
+
+    def test_readings(self) -> None:
+        found = self.sweep("failed_reading", 1, of_reading)
+        wanted = {f"the {it}: ['{why}']" for it in ("line", "request") for why in ("late", "untaken")}
+        check(found >= wanted, f"a reading that fails comes to {found}")
