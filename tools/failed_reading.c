@@ -1,5 +1,5 @@
-// Loaded into a program before its other libraries, this has one of its readings of a clock fail: that whose number, from 1
-// on, FAILED_READING has, of the clock by which it waits; those of the clock that shows moments don't count.
+// Loaded into a program before its other libraries, this makes one call of clock_gettime for CLOCK_MONOTONIC fail: the one
+// whose number, counted from 1, is FAILED_READING. Calls for other clocks aren't counted.
 #define _GNU_SOURCE
 #include <errno.h>
 #include <stdlib.h>

@@ -4,14 +4,26 @@ import contextlib
 import os
 import pathlib
 import subprocess
-from collections.abc import Iterator
+from collections.abc import Callable, Iterator
 
 TOOLS = pathlib.Path(__file__).resolve().parent
 
 
+def first_number(holds: Callable[[int], bool], below: int = 0) -> int:
+    """The least number above `below` for which that holds. It has to hold for all larger ones too."""
+    step = 1
+    while not holds(below + step):
+        step *= 2
+    low, high = below + step // 2, below + step
+    while high - low > 1:
+        middle = (low + high) // 2
+        low, high = (low, middle) if holds(middle) else (middle, high)
+    return high
+
+
 class Loaded:
     """A proved program of which one call fails, by a library that is loaded into it: `refused_allocation` refuses an
-    allocation, and `failed_reading` has the program not read the clock by which it waits.
+    allocation, and `failed_reading` makes a reading of the monotonic clock fail.
 
     The program isn't altered: the library answers its calls. It is compiled with `CC` or `cc` into the folder."""
 

@@ -17,9 +17,14 @@ some. After the last one the search ends with some runs in which nothing is refu
 Every right outcome is altered, in ways that would be faults of the vault, and the trial fails where it
 lets one through.
 
-Then jobs over a file have their allocations refused, one a run: some of those of `init`, `verify` and `migrate`, and of the
-others some of those after the vault is open; by `--long` each of them. A job is refused by `Memory` and by no other name, and has changed nothing; or it says that it couldn't answer for want of
-memory, and is done or not; or nothing differs.
+Then jobs over a file have an allocation refused in each run: some of those of `init`, `verify` and `migrate`, and of other
+jobs some of those after the vault is open; with `--long` each of them. A run is right where one of these holds:
+
+  - The reply is the refusal `Memory`, and the vault is unchanged.
+  - A lifecycle run was stopped by `Memory`.
+  - The program ended with status 1 and `words: Memory`, `open: Memory`, or its own name with `Memory`, and the job is done or
+    not. An `init` or a `migrate` that isn't done is done by the same words given again.
+  - Nothing differs from the untroubled run.
 """
 
 import collections
@@ -35,7 +40,7 @@ import sys
 from concurrent.futures import ThreadPoolExecutor
 
 from trials.program import EXAMPLES, IS_LONG, PROGRAM, Case, Ran, check, make_office, needs, printed, ran_words
-from proved import Loaded
+from proved import Loaded, first_number
 
 SCRIPT = EXAMPLES / "every-command.jsonl"
 JOBS = len(os.sched_getaffinity(0))
@@ -282,20 +287,22 @@ WORDS_OF = {
     "lawful": ["v"],
     "migrate": ["early", "new"],
 }
-# The jobs of which any allocation is refused; of the others those after the vault is open.
+# The jobs whose allocations are refused from the first one on; those of other jobs once the vault is open.
 WHOLE = ("init", "verify", "migrate")
-# One of how many allocations is refused, of these and of the others; and how many runs that nothing troubles end a search.
+# The jobs that make a vault in a file.
+MAKING = ("init", "migrate")
+# The distance between two allocations that are refused, of these jobs and of the others; and after how many untroubled runs
+# in a row a search ends.
 STEPS = (1, 1) if IS_LONG else (97, 5)
 UNTROUBLED = 20
-# An opening makes more allocations than this, so that one of these which makes no difference comes before it is over.
+# Fewer allocations than an opening makes.
 EARLIEST = 1_000
 EARLIER = EXAMPLES / "earlier" / "schema2" / "rows.sql"
 Tables = dict[str, list[str]]
 
 
 def tables_in(folder: pathlib.Path) -> Tables:
-    """What the vaults of a folder hold; nothing of one that isn't there, or of a file without a table, in which the same
-    words make a vault."""
+    """What the vaults of a folder hold. A file without a table holds what a missing one does."""
     found: Tables = {}
     for name in ("v", "new"):
         with contextlib.closing(sqlite3.connect(folder / name)) as base:
@@ -304,7 +311,7 @@ def tables_in(folder: pathlib.Path) -> Tables:
 
 
 def judge_job(name: str, before: Tables, whole: tuple[Ran, Tables], here: tuple[Ran, Tables]) -> str:
-    """How a job ended of which an allocation was refused; `none` where nothing differs from the whole one."""
+    """How a job ended of which an allocation was refused; `none` where nothing differs from the untroubled run."""
     if here == whole:
         return "none"
     (ran, left), (done, after) = here, whole
@@ -340,24 +347,18 @@ class Jobs(Case):
         with self.loaded.refusing(number) as words:
             ran = ran_words(*words, name, *WORDS_OF[name], cwd=place, env={}, timeout=LIMIT)
         found = ran, tables_in(place)
+        if name in MAKING and ran.status == 1 and not any("CREATE TABLE" in it for it in found[1]["new"]):
+            again = ran_words(PROGRAM, name, *WORDS_OF[name], cwd=place, timeout=LIMIT)
+            check(again.status == 0, f"{name} after the refusal of allocation {number}: {again}")
         shutil.rmtree(place)
         return found
 
     def first(self, name: str) -> int:
-        """The first allocation of a job after its words are read and its vault is open."""
-        below, number = 0, EARLIEST
-        while self.is_early(name, number):
-            below, number = number, 2 * number
-        while number - below > 1:
-            middle = (below + number) // 2
-            below, number = (middle, number) if self.is_early(name, middle) else (below, middle)
-        return number
-
-    def is_early(self, name: str, number: int) -> bool:
-        return number < EARLIEST or self.carried_out(name, number)[0].err.startswith("open: Memory")
+        """The first allocation of a job after its vault is open."""
+        return first_number(lambda it: not self.carried_out(name, it)[0].err.startswith("open: Memory"), EARLIEST)
 
     def look_at(self, name: str, numbers: range, pool: ThreadPoolExecutor) -> collections.Counter[str]:
-        """Judges a run for each of these allocations, up to the last that the job makes."""
+        """Judges a run for each of these allocations, up to the last one of the job; how often each ending came."""
         before, whole = tables_in(self.made), self.carried_out(name, NEVER)
         check(whole[0].status == 0, f"{name}: {whole[0]}")
         ways, untroubled = collections.Counter[str](), 0

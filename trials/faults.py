@@ -229,7 +229,8 @@ class WithoutVault(Meeting):
 
     @needs_strace
     def test_links(self):
-        """By a link the file where it leads is made a vault, opened or left as it was, with its log beside it."""
+        """A path may be a link: the file that it leads to is made a vault, is opened or stays as it was, and the log is
+        beside that file."""
         (self.folder / "far").mkdir()
         os.symlink("far/real", self.folder / "link")
         self.refuses(["init", "link"], "init: Device", "unseen")
@@ -250,7 +251,8 @@ class WithoutVault(Meeting):
 
     @needs_strace
     def test_short_log(self):
-        """A log without a change beside no file is taken over; where no vault can be made it is left as it was."""
+        """A log that is too short for a change, with no file beside it, is used for a new vault. Where no vault can be made,
+        the log stays as it was."""
         log = self.folder / "short-wal"
         log.write_bytes(bytes(LEAST_LOG - 1))
         before = kept_of(self.folder, "short")
@@ -262,7 +264,7 @@ class WithoutVault(Meeting):
 
     @needs_strace
     def test_made_meanwhile(self):
-        """A file that another program made, empty, after it was looked for is made a vault."""
+        """Another program makes an empty file after `init` looked for it: a vault is made in that file."""
         words = ["init", f"{self.folder}/meanwhile"]
         ran, has_failed = injected(self.folder, ["meanwhile"], {"openat": "error=EEXIST:when=1"}, *words)
         self.assertTrue(has_failed, "no file is made")
@@ -357,7 +359,8 @@ class WithVault(Vaulted):
         return log
 
     def read_fails(self, command, before, number):
-        """Whether that read of a command on the vault fails, which then leaves the vault's files as they were."""
+        """Makes that read of a command fail, and looks whether the vault's files stay as they were. Returns whether there was
+        such a read."""
         for end, content in before.items():
             (self.folder / f"v{end}").write_bytes(content)
         kept = kept_of(self.folder, "v")
@@ -373,8 +376,8 @@ class WithVault(Vaulted):
 
     @needs_strace
     def test_failed_reads(self):
-        """Each read of an opening fails once, where the log has a change, and where nothing can be read of it: the file
-        and its log are left as they were."""
+        """Each read of an opening fails once, with a log that has a change and with one whose header is spoiled: the file and
+        its log stay as they were."""
         log = self.put_in_log()
         whole = {end: (self.folder / f"v{end}").read_bytes() for end in ("", "-wal")}
         for command, spoil in itertools.product(("init", "verify"), (True, False)):
@@ -384,7 +387,7 @@ class WithVault(Vaulted):
         log.write_bytes(whole["-wal"])
 
     def test_salts(self):
-        """The logs of two copies of a vault have other numbers, by which what another log left is told apart."""
+        """Two copies of a vault write logs with different salts, so that no frame of one is taken for one of the other."""
         shutil.copy(self.folder / "v", self.folder / "copy")
         salts = [self.put_in_log().read_bytes()[16:24]]
         self.is_sound("v")

@@ -1,9 +1,9 @@
 """Troubles: a server with a log whose clients take no reply, or one of whose calls fails.
 
-A client is gone before its line is answered: the log says so, and the line that ends the server ends it all the same. Then
-a server answers a line and a request, and one of its allocations is refused, or one reading of the clock by which it
-waits fails, one a run: what was answered is what was done, the log says of each what became of it, by that trouble
-and no other, and the vault is sound.
+A client closes its connection before its line is answered: the log has the result `untaken`, and the line that ends the
+server ends it. Then a server answers a line and a request, and in each run one of its allocations is refused, or one
+reading of its monotonic clock fails: the answers say what was done, the log has an entry with the right result for each,
+and the vault is sound.
 """
 
 import collections
@@ -19,13 +19,14 @@ from typing import Any, Callable, Iterable
 
 from trials.door import LIMIT, Server, get, line, put
 from trials.program import IS_LONG, PROGRAM, Case, check, make_office, needs, printed
-from proved import Loaded
+from proved import Loaded, first_number
 
 FILE = "records.vault"
 JOBS = len(os.sched_getaffinity(0))
-# How many runs in a row that nothing troubles end a search.
+# After how many untroubled runs in a row a search ends.
 ENOUGH = 20
 OK, MEMORY = b'{"ok":{"version_id":1}}', b'{"error":{"code":"Memory","n":22}}'
+# What the log has where there is no memory for an entry.
 ROOMLESS = {"result": "memory"}
 END = line("registrar", "close")
 
@@ -35,7 +36,7 @@ def entries(said: str) -> list[dict[str, Any]]:
 
 
 def send_and_go(server: Server, sent: bytes) -> None:
-    """Sends a line, and is gone before the server can answer it."""
+    """Sends a line, and closes the connection before the server can answer."""
     server.serving.send_signal(signal.SIGSTOP)
     with server.connect() as peer:
         peer.sendall(sent)
@@ -64,7 +65,7 @@ class Untaken(Case):
 
 
 class Run:
-    """What became of a line and a request, of a server that may not have begun."""
+    """A run of a server that is asked a line and a request, if it listens: what it answered and wrote, and its status."""
 
     def __init__(self, server: Server, front: Iterable[str]) -> None:
         server.start("--log", front=front)
@@ -84,15 +85,15 @@ class Run:
             server.end()
 
     def entries(self) -> tuple[list[dict[str, Any]], list[dict[str, Any]]]:
-        """The log's entries of the line, which comes first, and those of the request. Between them one may say that a
-        connection without a line is late."""
+        """The log's entries of the line, which comes first, and those of the request. Between them there may be one of a
+        connection on which no line came."""
         found = entries(self.said)
         by_line = [found.pop(0)] if found and found[0].get("door") != "http" else []
         return by_line, [it for it in found if it.get("door") == "http"] or [it for it in found[:1] if it == ROOMLESS]
 
 
 def is_ended(server: Server) -> bool:
-    """Asks a server to end; whether it does. It may end and not say so."""
+    """Asks a server to end. Returns whether it ends, with a reply or without."""
     with contextlib.suppress(ConnectionError):
         server.lines(END)
     with contextlib.suppress(subprocess.TimeoutExpired):
@@ -128,12 +129,13 @@ def of_allocation(run: Run, is_there: bool) -> str:
     return f"the request: {of_request}"
 
 
-# What the entry of a line says that had no time, each with whether the line is carried out. A line that hasn't begun has none.
+# The results that the log has of a line without a reply, and whether the line was carried out. A connection that is closed
+# before its line is read has no entry.
 UNANSWERED = {("late",): False, ("untaken",): True, (): False}
 
 
 def of_reading(run: Run, is_there: bool) -> str:
-    """The same of a reading that failed: a line of which no time is known isn't carried out, or its reply isn't taken."""
+    """What a failed reading of the clock came to. Fails where that isn't what was answered, done and logged."""
     by_line, by_request = ([it["result"] for it in found] for found in run.entries())
     if run.replies:
         check(run.replies == [OK] and by_line == ["ok"] and is_there, "what the line came to")
@@ -164,23 +166,18 @@ class Failing(Case):
         return run, is_there
 
     def first(self, loaded: Loaded) -> int:
-        """The first call that fails of a server which listens; a server before it ends, and says why."""
-        below, number = 0, 1
-        while not self.listens(loaded, number):
-            below, number = number, 2 * number
-        while number - below > 1:
-            middle = (below + number) // 2
-            below, number = (below, middle) if self.listens(loaded, middle) else (middle, number)
-        return number
+        """The number of the first call that may fail while the server listens."""
+        return first_number(lambda it: self.listens(loaded, it))
 
     def listens(self, loaded: Loaded, number: int) -> bool:
+        """Whether a server listens of which that call fails. One that doesn't says that it wanted memory."""
         run, is_there = self.run_once(loaded, number)
         said = run.said.splitlines()[:1]
         check(run.listens or (run.status == 1 and said and said[0].endswith(": Memory") and not is_there), vars(run))
         return run.listens
 
     def sweep(self, what: str, step: int, judge: Callable[[Run, bool], str]) -> set[str]:
-        """Judges a run for each call that can fail, or for one of `step` of them; what these came to."""
+        """Judges a run for every call, or every `step`th, after the server listens. Returns what the runs came to."""
         loaded, ways, untroubled = Loaded(PROGRAM, self.folder, what), collections.Counter[str](), 0
         with ThreadPoolExecutor(JOBS) as pool:
             for begin in itertools.count(self.first(loaded), step * ENOUGH):
