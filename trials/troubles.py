@@ -105,16 +105,15 @@ def of_allocation(run: Run, is_there: bool) -> str:
     """What a refused allocation came to. Fails where that isn't what was answered, done and logged."""
     by_line, by_request = run.entries()
     check(len(by_line) == len(by_request) == 1, "an entry is lost")
-    others = {it["result"] for it in entries(run.said)} - {"ok", "NoSuchKey", "Memory", "memory", "nothing"}
+    others = {it["result"] for it in entries(run.said)} - {"ok", "NoSuchKey", "Memory", "memory"}
     check(not others, f"{others} in the log")
     of_line, of_request = by_line[0]["result"], by_request[0]["result"]
     if ROOMLESS in by_line + by_request:
         check(run.replies == [OK] and is_there and b"NoSuchKey" in run.answer, "what was done without an entry")
         return "no room for an entry"
-    if "nothing" in (of_line, of_request):
+    if any(it["result"] == "memory" and it["out"] for it in by_line + by_request):
         check(run.replies == [OK] and is_there and b"NoSuchKey" in run.answer, "what was done without a note of it")
-        check(all(it["out"] for it in by_line + by_request), "the bytes that were written")
-        return "no room for what was answered"
+        return "no room for what was asked or answered"
     if of_line != "ok":
         check((run.replies, of_line) in (([MEMORY], "Memory"), ([], "memory")), "the line's entry")
         check(not (is_there and run.replies), "a refused line is carried out")

@@ -158,7 +158,7 @@ head_row h = Text h.bucket ∷ Text h.key ∷ number h.head.newest ∷ number h.
 abbrev pub tenure_row : TenureRow → Row
 tenure_row t = number t.id ∷ number t.tenure.number ∷ Text t.tenure.dept ∷ number t.tenure.from ∷ []
 
--- ---- the columns of a row as it is stored: its number in the file and then each column, where the number is the key of a table by numbers
+-- ---- the columns of a row as it is stored: its number in the file and then each column, where the number is the key of a table whose key is a number
 
 -- in an edition without a column for it, no bucket was moved
 abbrev pub moves_in : Edition → Row → Row

@@ -11,7 +11,7 @@ pub enum Deed {
     Left,
 }
 
-/// A request and its answer, as texts: `|` means CR LF, `~` for the headers `date` and `connection`.
+/// A request and its answer, as texts: `|` means CR LF, `~` the headers `date` and `connection`.
 #[derive(Clone, Copy)]
 pub struct Row {
     pub request: &'static str,

@@ -1,5 +1,5 @@
 -- The line of an entry of the log.
-use Rattle.std.specs.Prelude.{ℕ, ◌≡◌, ◌⊎◌, List, [], ◌++◌, codes, Bool, false, not, if◌then◌else◌, Option, Some, None}
+use Rattle.std.specs.Prelude.{ℕ, ◌≡◌, ◌⊎◌, ◌==◌, ◌&&◌, List, [], ◌++◌, length, min, codes, Bool, true, false, not, if◌then◌else◌, Option, Some, None}
 use Rattle.std.specs.Str.{bytes_eq}
 use Rattle.vault_base.specs.Moment.{moment_text}
 use Rattle.vaultctl_log.specs.Answered.{answer_members, reply_members, status_of}
@@ -44,6 +44,21 @@ abbrev pub answered_members : Door → List ℕ → List ℕ
 answered_members door.Requests answered = answer_members answered
 answered_members door.Lines answered = reply_members answered
 
+-- all of `count` bytes; or the first of them, as many as are noted
+abbrev pub is_front : ℕ → ℕ → List ℕ → Bool
+is_front most count front = length front == min count most
+
+-- what came and what was written is noted: a line whole, of a request at most 16,384 bytes, of an answer 1,024
+abbrev pub is_noted : Door → Facts → List ℕ → List ℕ → Bool
+is_noted door.Requests f asked answered = is_front 16384 f.came asked && is_front 1024 f.went answered
+is_noted door.Lines f asked answered = is_front 1024 f.went answered
+
+-- what kept it from its end; or, where it isn't all noted, that memory was refused
+abbrev pub trouble_of : Option Trouble → Bool → Option Trouble
+trouble_of (Some t) noted = Some t
+trouble_of None true = None
+trouble_of None false = Some trouble.Memory
+
 -- what kept it from its end; or else what was answered
 abbrev pub result_members : Option Trouble → Door → List ℕ → List ℕ
 result_members None door answered = answered_members door answered
@@ -57,7 +72,7 @@ counted f = number_member (codes "in") f.came ++ number_member (codes "out") f.w
 abbrev pub IsLine : Facts → List ℕ → List ℕ → List ℕ → Type 0
 IsLine f asked answered text =
     (shown : List ℕ) × ShowsAsked f.door asked answered shown
-    × (text ≡ ((begun f ++ shown) ++ result_members f.trouble f.door answered) ++ counted f)
+    × (text ≡ ((begun f ++ shown) ++ result_members (trouble_of f.trouble (is_noted f.door f asked answered)) f.door answered) ++ counted f)
 
 -- where there is no room for the line, it is said that memory was refused
 abbrev pub no_room : List ℕ

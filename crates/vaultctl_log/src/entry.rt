@@ -32,7 +32,7 @@ pub enum Trouble {
     Late,
     /// The answer wasn't taken in time.
     Untaken,
-    /// Memory was refused.
+    /// Memory was refused, for what was asked or for a note of it.
     Memory,
 }
 
@@ -60,6 +60,12 @@ pub struct Entry<'a> {
     /// The front of what was written.
     pub answered: &'a [u8],
 }
+
+/// How many bytes of a request are noted: as many as a head may have.
+pub const ASKED: usize = 16_384;
+
+/// How many bytes of an answer are noted: more than a refusal has.
+pub const ANSWERED: usize = 1_024;
 
 /// What is written where there is no room for an entry.
 pub const NO_ROOM: &[u8] = b"{\"result\":\"memory\"}\n";
@@ -148,18 +154,49 @@ fn push_answered(
     }
 }
 
+/// Whether these are all of `count` bytes, or the first `most` of them.
+fn is_front(front: &[u8], count: u64, most: usize) -> bool
+    ensures { result ≡ spec.is_front most count front.now }
+{
+    let noted = usize::try_from(count).unwrap_or(usize::MAX).min(most);
+    front.len() == noted
+}
+
+/// Whether all is noted of what came and of what was written. A line was there whole before it was answered.
+fn is_noted(entry: &Entry<'_>) -> bool
+    ensures { result ≡ spec.is_noted entry.now.facts.door entry.now.facts entry.now.asked.now entry.now.answered.now }
+{
+    let is_answer_noted = is_front(entry.answered, entry.facts.went, ANSWERED);
+    match entry.facts.door {
+        Door::Requests => is_front(entry.asked, entry.facts.came, ASKED) && is_answer_noted,
+        Door::Lines => is_answer_noted,
+    }
+}
+
+/// What kept it from its end, or, where it isn't all noted, that memory was refused.
+fn trouble_of(entry: &Entry<'_>) -> Option<Trouble>
+    ensures { result ≡ spec.trouble_of entry.now.facts.trouble (spec.is_noted entry.now.facts.door entry.now.facts entry.now.asked.now entry.now.answered.now) }
+{
+    match entry.facts.trouble {
+        Some(trouble) => Some(trouble),
+        None if is_noted(entry) => None,
+        None => Some(Trouble::Memory),
+    }
+}
+
 /// Appends what kept it from its end, or else what was answered. The error is want of memory.
 fn push_result(
     alloc: Global,
     out: &mut String,
-    facts: &Facts,
+    trouble: Option<Trouble>,
+    door: Door,
     answered: &[u8],
 ) -> Result<(), AllocError>
-    ensures { OnOk result (string_bytes out.new ≡ string_bytes out.old ++ spec.result_members facts.now.trouble facts.now.door answered.now) }
+    ensures { OnOk result (string_bytes out.new ≡ string_bytes out.old ++ spec.result_members trouble door answered.now) }
 {
-    match facts.trouble {
+    match trouble {
         Some(trouble) => push_text(alloc, out, "result", trouble_name(trouble)),
-        None => push_answered(alloc, out, facts.door, answered),
+        None => push_answered(alloc, out, door, answered),
     }
 }
 
@@ -178,16 +215,12 @@ fn push_counted(alloc: Global, out: &mut String, facts: &Facts) -> Result<(), Al
 pub fn line_of(alloc: Global, entry: &Entry<'_>) -> Result<String, AllocError>
     ensures { IfOk result (λ text. spec.IsLine entry.now.facts entry.now.asked.now entry.now.answered.now (string_bytes text)) }
 {
-    let mut line = begun(alloc, &entry.facts)?;
-    push_asked(
-        alloc,
-        &mut line,
-        entry.facts.door,
-        entry.asked,
-        entry.answered,
-    )?;
-    push_result(alloc, &mut line, &entry.facts, entry.answered)?;
-    push_counted(alloc, &mut line, &entry.facts)?;
+    let facts = &entry.facts;
+    let mut line = begun(alloc, facts)?;
+    push_asked(alloc, &mut line, facts.door, entry.asked, entry.answered)?;
+    let trouble = trouble_of(entry);
+    push_result(alloc, &mut line, trouble, facts.door, entry.answered)?;
+    push_counted(alloc, &mut line, facts)?;
     Ok(line)
 }
 

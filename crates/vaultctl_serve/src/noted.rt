@@ -13,14 +13,8 @@ use std::io::{self, Write};
 use std::mem;
 use std::time::Duration;
 use vault_base::moment::Moment;
-use vaultctl_log::entry::{Door, Entry, Facts, Trouble};
+use vaultctl_log::entry::{ANSWERED, ASKED, Door, Entry, Facts, Trouble};
 use vaultctl_log::seen::Seen;
-
-/// How many bytes of a request are kept for the log: as many as a head may have.
-const ASKED: usize = 16_384;
-
-/// How many bytes of an answer are kept for the log: more than a refusal has.
-const ANSWERED: usize = 1_024;
 
 /// What is read on a connection is noted.
 #[derive(Drop)]
