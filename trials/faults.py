@@ -249,6 +249,13 @@ class WithoutVault(Meeting):
         self.refuses(["init", "link"], "init: NameTaken", "lost")
         self.assertFalse((self.folder / "link-wal").exists(), "a log is made beside a link")
 
+    def test_no_paths(self):
+        """Names by which no file is opened: a vault is refused there, and nothing is made."""
+        before = sorted(os.listdir(self.folder))
+        for name in (":memory:", "file:v", "file::memory:?cache=shared"):
+            self.refuses(["init", name], "init: Device", "unseen")
+            self.assertEqual(sorted(os.listdir(self.folder)), before, name)
+
     @needs_strace
     def test_short_log(self):
         """A log that is too short for a change, with no file beside it, is used for a new vault. Where no vault can be made,
@@ -290,6 +297,25 @@ class WithoutVault(Meeting):
         self.assertEqual(sound.out, "sound\n", f"after {when} and another init: {sound}")
         size = (self.folder / "killed").read_bytes()[16:18]
         self.assertEqual(size, (1024).to_bytes(2, "big"), f"the bytes of a page, after {when}")
+
+    def look_fails(self, call, number):
+        """Makes that call of an `init` fail. Returns whether there was such a call. The vault is made, or nothing is left but
+        what couldn't be removed, and the next `init` makes it."""
+        self.clear()
+        ran, has_failed = injected(self.folder, ["killed"], {call: f"error=EIO:when={number}"}, "init", f"{self.folder}/killed")
+        where = f"{call} {number} fails"
+        if ran.status and call != "unlink":
+            self.assertIn("Device", ran.err, where)
+            self.assertEqual(kept_of(self.folder, "killed"), [None, None], f"{where}, and something is left: {ran}")
+        self.is_made_after(where)
+        return has_failed
+
+    @needs_strace
+    def test_each_look(self):
+        """Each call by which an `init` looks at its files, opens, reads, writes or removes them fails once."""
+        for call in LOOKING:
+            count = sum(1 for _ in itertools.takewhile(lambda it: self.look_fails(call, it), itertools.count(1)))
+            self.assertTrue(count or call in SELDOM, f"an init makes no call of {call}")
 
     def init_where(self, what):
         """The status of an `init` where this happens to calls on its files."""
