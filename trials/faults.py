@@ -260,16 +260,16 @@ class WithoutVault(Meeting):
 
     @needs_strace
     def test_short_log(self):
-        """A log that is too short for a change, with no file beside it, is used for a new vault. Where no vault can be made,
-        the log stays as it was."""
-        log = self.folder / "short-wal"
-        log.write_bytes(bytes(LEAST_LOG - 1))
-        before = kept_of(self.folder, "short")
-        ran, _ = injected(self.folder, ["short"], {"pwrite64": "error=ENOSPC:when=1+"}, "init", f"{self.folder}/short")
-        self.fails(ran, f"init: Device\n{WORDS['failed']}\n")
-        self.assertEqual(kept_of(self.folder, "short"), before, "init without room doesn't leave a log as it was")
-        self.answers(self.ran("init", "short"), "")
-        self.is_sound("short")
+        """A log that is empty, or too short for a change, with no file beside it, is used for a new vault. Where no vault can be
+        made, the log stays as it was."""
+        for size in (0, LEAST_LOG - 1):
+            (self.folder / f"short{size}-wal").write_bytes(bytes(size))
+            before, words = kept_of(self.folder, f"short{size}"), ["init", f"{self.folder}/short{size}"]
+            ran, _ = injected(self.folder, [f"short{size}"], {"pwrite64": "error=ENOSPC:when=1+"}, *words)
+            self.fails(ran, f"init: Device\n{WORDS['failed']}\n")
+            self.assertEqual(kept_of(self.folder, f"short{size}"), before, "init without room doesn't leave a log as it was")
+            self.answers(self.ran(*words), "")
+            self.is_sound(f"short{size}")
 
     @needs_strace
     def test_made_meanwhile(self):
