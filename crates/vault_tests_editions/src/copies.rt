@@ -1,14 +1,12 @@
 //! A copy of a vault into files, what may be left of these, and the same copy given again.
+use crate::calls::{differing, migrate, open};
+use crate::disks::{InFiles, Left, VaultFiles, connected, leave, let_go, opened, sound};
+use crate::earlier::COPIED;
 use sqlite::{Alter, Connection, Files, Options};
 use std::alloc::{AllocError, Global};
 use std::test::Fail;
 use vault_audit_model::schema::Edition;
 use vault_base::refusal::Refusal;
-use vault_tests_tables_stores::calls::{differing, migrate, open};
-use vault_tests_tables_stores::disks::{
-    InFiles, Left, VaultFiles, connected, leave, let_go, opened, sound,
-};
-use vault_tests_tables_stores::earlier::COPIED;
 
 /// Few pages in memory, and a short log, so that there are many calls on both files.
 pub const OPTIONS: Options = Options {

@@ -1,12 +1,12 @@
 //! A copy with ample memory, and with a growth refused.
 use crate::copies::{copy_into, judge};
+use crate::disks::sound;
+use crate::earlier::make_first;
+use crate::stores::{StoreTrial, try_in_files};
 use sqlite::{Alter, Connection};
 use std::alloc::Global;
 use std::test::Fail;
 use vault_base::refusal::Refusal;
-use vault_tests_tables_stores::disks::sound;
-use vault_tests_tables_stores::earlier::make_first;
-use vault_tests_tables_stores::stores::{StoreTrial, try_in_files};
 
 /// Says how a copy ended.
 fn compare_ending(rt: &HostRuntime, refusal: Option<Refusal>) -> Result<(), Fail> {

@@ -1,15 +1,13 @@
 //! A copy that is stopped at each call of one of the new files, or of one of the old: the new files hold no tables then, or
 //! the whole vault, and the old ones are as they were. Given again the copy is made, or is there.
 use crate::copies::{OPTIONS, copy_into, judge, left_of};
+use crate::disks::{InFiles, Left, VaultFiles, Which, connected, failing, opened, sound};
+use crate::earlier::make_first;
+use crate::stores::{StoreTrial, try_in_files};
 use sqlite::{Alter, Connection, Error};
 use std::alloc::Global;
 use std::test::Fail;
 use vault_base::refusal::Refusal;
-use vault_tests_tables_stores::disks::{
-    InFiles, Left, VaultFiles, Which, connected, failing, opened, sound,
-};
-use vault_tests_tables_stores::earlier::make_first;
-use vault_tests_tables_stores::stores::{StoreTrial, try_in_files};
 
 /// The bytes of the files that hold the vault.
 #[derive(Drop)]

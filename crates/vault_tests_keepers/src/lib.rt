@@ -1,17 +1,10 @@
-//! Tests over both kinds of keeper, the list and tables in memory: rows, runs that a device stops, and what is said of
-//! buckets that were moved, of removed entries and of what happened to each, of ids and of buckets in order.
+//! Tests over tables in memory: rows, runs and moves that a device stops, over the list too, and how many steps a read takes.
 #![tactic(auto)]
 
 #[cfg(test)]
-mod evidence;
-#[cfg(test)]
-mod in_order;
-#[cfg(test)]
-mod moves;
+mod lookups;
 #[cfg(test)]
 mod over_keepers;
-#[cfg(test)]
-mod removed;
 #[cfg(test)]
 mod rows;
 #[cfg(test)]

@@ -5,8 +5,7 @@ use std::alloc::Global;
 use std::test::Fail;
 use vault_core::fuse_keeper::FuseKeeper;
 use vault_core_model::keeper::Keeper;
-use vault_tests_keepers_rows::texts::OPENING;
-use vault_transcript::transcript::play;
+use vault_transcript::transcript::{OPENING, play};
 
 /// A run over a device that refuses the change after n.
 #[derive(Clone, Copy)]

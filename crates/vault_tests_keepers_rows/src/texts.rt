@@ -2,18 +2,6 @@
 //!
 //! Written by `tools/rows-to-test` from `examples/rows`.
 
-/// The lines that open a vault.
-pub const OPENING: &str = r#"
-{"at":"2014-01-01T00:00:00Z","as":"registrar","do":"add-dept","dept":"records"}
-  {"ok":{}}
-{"at":"2014-01-01T00:00:00Z","as":"registrar","do":"add-caller","caller":"ann","dept":"records","rights":["put","get","list","delete","delete-version","retain","hold","config","run","report"]}
-  {"ok":{}}
-{"at":"2014-01-01T00:00:00Z","as":"registrar","do":"add-caller","caller":"gov","dept":"records","rights":["delete-version","retain","bypass"]}
-  {"ok":{}}
-{"at":"2014-01-01T00:00:00Z","as":"registrar","do":"add-bucket","bucket":"docs","dept":"records"}
-  {"ok":{}}
-"#;
-
 pub const LOCKS: [&str; 6] = [
     // retention-compliance-ends
     r#"

@@ -1,10 +1,13 @@
-//! Tests over files whose calls are counted: one of a vault's two files fails from some call on, for each call in turn.
+//! Tests over files whose calls are counted: one of a vault's two files fails from some call on, for each call in turn; and
+//! how often the files are read for an answer.
 #![tactic(auto)]
 
 #[cfg(test)]
 mod day;
 #[cfg(test)]
 mod expected;
+#[cfg(test)]
+mod reads;
 #[cfg(test)]
 mod seen;
 #[cfg(test)]

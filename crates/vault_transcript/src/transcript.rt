@@ -8,7 +8,7 @@ use vault_core_model::keeper::Keeper;
 use vaultctl_replay::replay;
 
 /// A department `records` with bucket `docs` and two callers: ann, who works there, and gov, who may bypass.
-const OPENING: &str = r#"
+pub const OPENING: &str = r#"
 {"at":"2014-01-01T00:00:00Z","as":"registrar","do":"add-dept","dept":"records"}
   {"ok":{}}
 {"at":"2014-01-01T00:00:00Z","as":"registrar","do":"add-caller","caller":"ann","dept":"records","rights":["put","get","list","delete","delete-version","retain","hold","config","run","report"]}

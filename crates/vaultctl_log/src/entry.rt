@@ -155,7 +155,7 @@ fn push_answered(
 }
 
 /// Whether these are all of `count` bytes, or the first `most` of them.
-fn is_front(front: &[u8], count: u64, most: usize) -> bool
+fn is_front(most: usize, count: u64, front: &[u8]) -> bool
     ensures { result ≡ spec.is_front most count front.now }
 {
     let noted = usize::try_from(count).unwrap_or(usize::MAX).min(most);
@@ -166,9 +166,9 @@ fn is_front(front: &[u8], count: u64, most: usize) -> bool
 fn is_noted(entry: &Entry<'_>) -> bool
     ensures { result ≡ spec.is_noted entry.now.facts.door entry.now.facts entry.now.asked.now entry.now.answered.now }
 {
-    let is_answer_noted = is_front(entry.answered, entry.facts.went, ANSWERED);
+    let is_answer_noted = is_front(ANSWERED, entry.facts.went, entry.answered);
     match entry.facts.door {
-        Door::Requests => is_front(entry.asked, entry.facts.came, ASKED) && is_answer_noted,
+        Door::Requests => is_front(ASKED, entry.facts.came, entry.asked) && is_answer_noted,
         Door::Lines => is_answer_noted,
     }
 }

@@ -183,7 +183,8 @@ pub(crate) fn connect_there<S: Start>(
 /// Opens the files at a path where a vault is to be made, and makes those that are missing.
 ///
 /// `NameTaken` where something is in the file that is no store of tables, `Memory` where memory was refused, `Device` where
-/// the file can't be made, and `InUse` where another program has it. With each of them the files are as they were.
+/// the file can't be made, and `InUse` where another program has it. With each of them what was there is as it was. Files
+/// that were made stay, empty, where they can't be opened.
 pub(crate) fn connect_new<S: Start>(
     site: &Site<'_>,
     start: S,

@@ -86,8 +86,11 @@ pub struct Noted {
 }
 
 impl Noted {
-    /// Nothing went by.
-    pub fn new(alloc: Global) -> Noted {
+    /// Nothing went by. Of what is read the first `ASKED` bytes are kept, of what is written the first `ANSWERED`.
+    pub fn new(alloc: Global) -> Noted
+        ensures asked { (result.asked.front.items ≡ []) × (result.asked.most ≡ 16384) × (result.asked.count ≡ 0) }
+        ensures answered { (result.answered.front.items ≡ []) × (result.answered.most ≡ 1024) × (result.answered.count ≡ 0) }
+    {
         Noted {
             alloc,
             asked: Seen::new(alloc, ASKED),

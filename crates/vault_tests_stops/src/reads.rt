@@ -10,17 +10,7 @@ use vault_core_model::keeper::{Keeper, Sink};
 use vault_core_model::records::Entry;
 use vault_failing::device::{ALL_CALLS, Bytes, Media, TornWrites};
 use vault_store::sql_keeper::SqlKeeper;
-use vault_transcript::transcript::{play, replies};
-
-/// The lines that open a vault.
-const OPENING: &str = r#"
-{"at":"2014-01-01T00:00:00Z","as":"registrar","do":"add-dept","dept":"records"}
-  {"ok":{}}
-{"at":"2014-01-01T00:00:00Z","as":"registrar","do":"add-caller","caller":"ann","dept":"records","rights":["put","delete-version"]}
-  {"ok":{}}
-{"at":"2014-01-01T00:00:00Z","as":"registrar","do":"add-bucket","bucket":"docs","dept":"records"}
-  {"ok":{}}
-"#;
+use vault_transcript::transcript::{OPENING, play, replies};
 
 /// With keys so long a page has four of them, or four entries.
 const KEY_LENGTH: usize = 900;

@@ -16,7 +16,6 @@ use vault_store_reads::meta::read_last;
 use vault_store_reads::names::{has_department, read_totals};
 use vault_store_reads::rows_in_order::reads::{read_entries, read_ids, read_keys, read_newest_but};
 use vault_store_walks::held::read_bucket_held;
-use vault_tests_tables_stores::disks::{let_go, opened_empty};
 
 /// A department, its bucket, a key of it, where the bucket's keys begin, and a place between them.
 #[derive(Drop)]
@@ -225,9 +224,9 @@ fn enough_for_each<S: Alter>(conn: &mut Connection<S>, alloc: Global, names: &Na
 
 #[test]
 fn what_a_command_reads_does_not_grow_with_the_vault(rt: HostRuntime) -> Result<(), Fail> {
-    let mut conn = opened_empty(rt.alloc())?;
+    let mut conn = Connection::open_in_memory(rt.alloc())?;
     let judged = read_in_small_and_large(&rt, rt.alloc(), &mut conn);
-    let_go(conn);
+    drop(conn);
     judged
 }
 
@@ -307,9 +306,9 @@ fn enough_of_many<S: Alter>(conn: &mut Connection<S>, alloc: Global, names: &Nam
 
 #[test]
 fn a_few_ids_of_a_key_take_as_much_of_many_versions_as_of_ten(rt: HostRuntime) -> Result<(), Fail> {
-    let mut conn = opened_empty(rt.alloc())?;
+    let mut conn = Connection::open_in_memory(rt.alloc())?;
     let judged = read_of_few_and_many(&rt, rt.alloc(), &mut conn);
-    let_go(conn);
+    drop(conn);
     judged
 }
 
@@ -390,9 +389,9 @@ fn gives_within<S: Alter>(conn: &mut Connection<S>, names: &Names, steps: u64) -
 
 #[test]
 fn what_a_bucket_holds_is_summed_by_one_statement(rt: HostRuntime) -> Result<(), Fail> {
-    let mut conn = opened_empty(rt.alloc())?;
+    let mut conn = Connection::open_in_memory(rt.alloc())?;
     let judged = summed_in_one_pass(&rt, rt.alloc(), &mut conn);
-    let_go(conn);
+    drop(conn);
     judged
 }
 

@@ -1,16 +1,8 @@
-//! Vaults that are made in stores in files in memory, and what is tried over these.
+//! A store in files in memory, and what is tried over it.
 use crate::disks::{let_go, opened_empty};
-use crate::earlier::{make_first, make_second};
-use sqlite::{Alter, Connection, Error};
+use sqlite::{Alter, Connection};
 use std::alloc::Global;
 use std::test::Fail;
-
-/// A vault of an earlier edition.
-#[derive(Clone, Copy)]
-pub enum Vault {
-    First,
-    Second,
-}
 
 /// What is tried over a store, which it hands back. It is over any store, as a proof over one would go through all
 /// parts of that store wherever a trial may end.
@@ -27,12 +19,4 @@ pub fn try_in_files<T: StoreTrial>(alloc: Global, trial: &T) -> Result<(), Fail>
     let (tried, conn) = trial.carry_out_in(alloc, opened_empty(alloc)?);
     let_go(conn);
     tried
-}
-
-/// Makes that vault in an empty store.
-pub fn make<S: Alter>(conn: &mut Connection<S>, vault: Vault) -> Result<(), Error> {
-    match vault {
-        Vault::First => make_first(conn),
-        Vault::Second => make_second(conn),
-    }
 }

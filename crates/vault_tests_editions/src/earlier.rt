@@ -1,4 +1,4 @@
-//! A vault of an earlier edition, by statements of the tests' own.
+//! A vault of the first edition, by statements of the tests' own.
 use crate::calls::batches;
 use sqlite::{Alter, Connection, Error};
 
@@ -14,11 +14,6 @@ const TABLES: &[&str] = &[
 const FIRST_RULES: &[&str] = &[
     "CREATE TABLE rules (bucket TEXT NOT NULL REFERENCES buckets (name), n INTEGER NOT NULL, id TEXT NOT NULL, prefix TEXT NOT NULL, enabled INTEGER NOT NULL, days INTEGER, lone INTEGER NOT NULL, nc_days INTEGER, nc_keep INTEGER, PRIMARY KEY (bucket, n)) STRICT",
     "INSERT INTO meta VALUES (1, 1, 2592000, 5)",
-];
-
-const SECOND_RULES: &[&str] = &[
-    "CREATE TABLE rules (bucket TEXT NOT NULL REFERENCES buckets (name), n INTEGER NOT NULL, id TEXT NOT NULL, prefix TEXT NOT NULL, enabled INTEGER NOT NULL, days INTEGER, lone INTEGER NOT NULL, nc_days INTEGER, nc_keep INTEGER, larger INTEGER, smaller INTEGER, PRIMARY KEY (bucket, n)) STRICT",
-    "INSERT INTO meta VALUES (1, 2, 2592000, 5)",
 ];
 
 /// The tables after it.
@@ -75,13 +70,4 @@ pub fn make_first<S: Alter>(conn: &mut Connection<S>) -> Result<(), Error> {
     batches(conn, FIRST_RULES)?;
     batches(conn, LATER_TABLES)?;
     batches(conn, ROWS)
-}
-
-/// The same of the second. One of its rules has a bound.
-pub fn make_second<S: Alter>(conn: &mut Connection<S>) -> Result<(), Error> {
-    batches(conn, TABLES)?;
-    batches(conn, SECOND_RULES)?;
-    batches(conn, LATER_TABLES)?;
-    batches(conn, ROWS)?;
-    batches(conn, &["UPDATE rules SET larger = 5 WHERE n = 1"])
 }
