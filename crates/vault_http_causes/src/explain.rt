@@ -69,7 +69,7 @@ fn refusal_of(asked: &Line) -> Option<Refusal>
 {
     match asked {
         Line::Refused(refusal) => Some(*refusal),
-        _ => None,
+        Line::Skip | Line::Command(_) => None,
     }
 }
 
