@@ -1,5 +1,5 @@
 -- What a job that was done did to the files that it named.
-use Rattle.std.specs.Prelude.{◌≡◌, ℕ, Bool, List, Option, None, Some, Result, IsOkAnd, ⊤}
+use Rattle.std.specs.Prelude.{◌≡◌, ℕ, Bool, List, Option, None, Some, Result, IsOkAnd}
 use Rattle.sqlite_disk.specs.declared.Disk.{Ghosts}
 use Rattle.sqlite_store.specs.declared.store.FileStore.{FileStore}
 use Rattle.sqlite_wal.specs.Recovery.{Image}
@@ -20,6 +20,7 @@ use Rattle.vaultctl_machine.specs.Given.{with_copied, with_made, with_opened}
 use Rattle.vaultctl_machine.specs.declared.given.Given.{Given}
 use Rattle.vaultctl_work.specs.Done.{IsAnswered, IsIntakeDone, IsJudgedDone, IsSealDone, IsServed, IsStepDone}
 use Rattle.vaultctl_work.specs.Scene.{scene}
+use Rattle.vaultctl_perform.specs.Replay.{AnswersFromNew}
 
 -- a script without a file has a vault in memory
 abbrev pub given_for : Option (List ℕ) → Given → Given
@@ -38,11 +39,11 @@ module _ {D : Type 0} {g : Ghosts D} (image : Image) where
   abbrev pub IsAskedDone : Result Asked Refusal → List (Held (FileStore D g) × Bool) → List (Held (FileStore D g) × Bool) → Option (List ℕ) → Option (List ℕ) → Type 0
   IsAskedDone said old new before after = IsOkAnd said (λ asked. Carries image old new (λ v w. IsStepDone asked Done v w before after))
 
+  -- a script without a file is answered from a new vault on
   abbrev pub IsScriptDone : Option (List ℕ) → List (Held (FileStore D g) × Bool) → List (Held (FileStore D g) × Bool) → Option (List ℕ) → Option (List ℕ) → Option (List ℕ) → Option (List ℕ) → Type 0
-  IsScriptDone None old new input left before after = ⊤
+  IsScriptDone None old new input left before after = AnswersFromNew input left before after
   IsScriptDone (Some file) old new input left before after = Carries image old new (λ v w. IsAnswered (scene v input before) (scene w left after))
 
-  -- of a script without a file another clause speaks
   abbrev pub IsReplayed : ReplayJob → List (Held (FileStore D g) × Bool) → List (Held (FileStore D g) × Bool) → Option (List ℕ) → Option (List ℕ) → Option (List ℕ) → Option (List ℕ) → Type 0
   IsReplayed j = IsScriptDone j.file
 

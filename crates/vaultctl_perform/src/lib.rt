@@ -8,7 +8,6 @@ ghost use Rattle.vaultctl_job.specs.declared.job.Job.{Job as AnyJob};
 ghost use Rattle.vault_base.specs.declared.refusal.Refusal.{Refusal};
 ghost use Rattle.sqlite_wal.specs.Files.{image_at};
 ghost use Rattle.vaultctl_perform.specs.Done.{IsDoneInFiles, IsReplayed, given_by};
-ghost use Rattle.vaultctl_perform.specs.Replay.{AnswersFromNew};
 ghost use Rattle.vaultctl_perform.specs.Printed.{IsPrinted};
 ghost use Rattle.vaultctl_perform.specs.Values.{IsValueFault};
 
@@ -51,7 +50,6 @@ fn replay_script<A: Start, B: Start, R: Read, W: Write, E: Write>(
     out: &mut W,
     err: &mut E,
 ) -> u8
-    ensures replayed { task.entry.work.now.file ≡ None → result ≡ 0 → AnswersFromNew (R.remaining reader.old) (R.remaining reader.new) (W.contents out.old) (W.contents out.new) }
     ensures given { result ≡ 0 → machine.new.given ≡ given_by (Job.Replay task.entry.work.now) machine.old.given }
     ensures done { result ≡ 0 → IsReplayed (image_at A.Start) task.entry.work.now machine.old.closed.items machine.new.closed.items
         (R.remaining reader.old) (R.remaining reader.new) (W.contents out.old) (W.contents out.new) }
@@ -78,8 +76,6 @@ pub fn perform<A: Start, B: Start, R: Read, W: Write, E: Write>(
     out: &mut W,
     err: &mut E,
 ) -> u8
-    // Status 0 says that all lines of the input were answered, one after another, from a new vault on.
-    ensures replayed { job.now ≡ Job.Replay (record { file = None }) → result ≡ 0 → AnswersFromNew (R.remaining reader.old) (R.remaining reader.new) (W.contents out.old) (W.contents out.new) }
     // A value that isn't allowed is never reported as done, and no file is looked for.
     ensures values { (r : Refusal) → IsValueFault job.now r → (machine.new ≡ machine.old) × (result ≡ 1) }
     // Status 0 says that what the job prints when it is done was printed.
@@ -87,7 +83,8 @@ pub fn perform<A: Start, B: Start, R: Read, W: Write, E: Write>(
     // It says that one vault was opened, made or copied, as the job asks, and no other.
     ensures given { result ≡ 0 → machine.new.given ≡ given_by job.now machine.old.given }
     // It says that what the job asks was done with the vault that was found in the file, and that the connection which was
-    // closed then stood for the vault that this left.
+    // closed then stood for the vault that this left; of a script without a file, that its lines were answered from a new
+    // vault on.
     ensures done { result ≡ 0 → IsDoneInFiles (image_at A.Start) job.now machine.old.closed.items machine.new.closed.items machine.old.copies.items machine.new.copies.items
         (R.remaining reader.old) (R.remaining reader.new) (W.contents out.old) (W.contents out.new) }
     ensures status { result ≢ 2 }
@@ -159,8 +156,6 @@ fn answer_job<A: Start, B: Start, R: Read, W: Write, E: Write>(
     out: &mut W,
     err: &mut E,
 ) -> u8
-    ensures replayed { job_for (map string_bytes words.now) ≡ Some (Job.Replay (record { file = None })) → result ≡ 0
-        → AnswersFromNew (R.remaining reader.old) (R.remaining reader.new) (W.contents out.old) (W.contents out.new) }
     ensures refused { result ≡ 2 → fault_of vaultctl (map string_bytes words.now) ≢ [] }
     // Words that ask for nothing, and values that aren't such, are never reported as done.
     ensures words { job_for (map string_bytes words.now) ≡ None → result ≢ 0 }
@@ -191,8 +186,6 @@ pub fn answer_words<A: Start, B: Start, R: Read, W: Write, E: Write>(
     out: &mut W,
     err: &mut E,
 ) -> u8
-    ensures replayed { job_for (map string_bytes words.now) ≡ Some (Job.Replay (record { file = None })) → result ≡ 0
-        → AnswersFromNew (R.remaining reader.old) (R.remaining reader.new) (W.contents out.old) (W.contents out.new) }
     ensures refused { result ≡ 2 → fault_of vaultctl (map string_bytes words.now) ≢ [] }
     // Words that ask for nothing, and values that aren't such, are never reported as done; words that ask for the version
     // are no job.
