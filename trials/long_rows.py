@@ -8,9 +8,12 @@ import json
 OPENING_AT = "2014-01-01T00:00:00Z"
 # What a version or a line may have.
 MOST_CONTENT, MOST_LINE = 1_048_576, 4_194_304
+# How many lists may lie one in another in a member of a line.
+MOST_NESTED = 126
 # A listing's entries.
 MOST_LISTED = 1_000
 DONE = {"ok": {}}
+MALFORMED = {"error": {"code": "MalformedBody", "n": 12}}
 
 
 def text_of(asked_or_told):
@@ -130,18 +133,36 @@ def bounds():
 
 
 def long_line(length, replies):
-    """A line of that many bytes, blanks behind its object, and one that is answered in any case."""
+    """A line of that many bytes, blanks after its object, and one that is answered in any case."""
     add = text_of(line(OPENING_AT, "registrar", "add-dept", dept="d"))
     return add[:-1].ljust(length) + "\n" + add, "".join(map(text_of, replies))
+
+
+def deep_lines():
+    """Puts with two members `text`, of which the last counts: the first is lists within lists, up to what a line may have and
+    deeper. And a line of brackets alone. What is refused changes nothing."""
+    at = "2024-01-15T10:30:00Z"
+    put = text_of(line(at, "ann", "put", bucket="docs", key="a", text="x"))
+    asked = [(text_of(it), reply) for it, reply in opening()]
+    asked += [
+        (put.replace('"text"', f'"text":{"[" * MOST_NESTED}{"]" * MOST_NESTED},"text"'), {"ok": {"version_id": 1}}),
+        (put.replace('"text"', f'"text":{"[" * (MOST_NESTED + 1)}{"]" * (MOST_NESTED + 1)},"text"'), MALFORMED),
+        (put.replace('"text"', f'"text":{"[" * 1_000_000}{"]" * 1_000_000},"text"'), MALFORMED),
+        ("[" * MOST_LINE + "\n", MALFORMED),
+        (put, {"ok": {"version_id": 2}}),
+    ]
+    sums = {"admitted": 2, "at": at, "byte_days": 0, "dept": "records", "handed": 0, "held": 2, "received": 0, "removed": 0}
+    asked.append((text_of(line(at, "ann", "report", dept="records")), {"ok": sums}))
+    return "".join(it for it, _ in asked), "".join(text_of(reply) for _, reply in asked)
 
 
 def long_rows():
     """The name, the script and the replies of each."""
     taken = {"error": {"code": "NameTaken", "n": 9}}
-    malformed = {"error": {"code": "MalformedBody", "n": 12}}
     of_lines = {
         "lines-longest": long_line(MOST_LINE, [DONE, taken]),
-        "lines-too-long": long_line(MOST_LINE + 1, [malformed, DONE]),
+        "lines-too-long": long_line(MOST_LINE + 1, [MALFORMED, DONE]),
+        "lines-deep": deep_lines(),
     }
     of_pairs = {"content-longest": content(), "run-by-bounds-of-longest": bounds()}
     for count, (name, made) in itertools.product((3, 256, 257, 600), (("marked", marked), ("removed", removed))):

@@ -4,11 +4,10 @@ use std::test::Fail;
 use vault_base::content::Content;
 use vault_base::moment::Moment;
 use vault_base::name::{BucketName, CallerName, NameFault, ObjectKey};
-use vault_base::refusal::Refusal;
 use vault_core::run::run;
 use vault_core_model::command::{Command, Put, Timed};
 use vault_core_model::keeper::Keeper;
-use vault_core_model::reply::{Answer, Reply};
+use vault_core_model::reply::Reply;
 use vault_tests_doubles::rigged_keeper::RiggedKeeper;
 use vault_transcript::transcript::play;
 use vault_transcript::trial::{Trial, try_after, try_on_new};
@@ -63,53 +62,6 @@ fn ran<K: Keeper>(
     commands: &[Timed],
 ) -> Result<Vec<Reply>, AllocError> {
     run(alloc, keeper, commands)
-}
-
-fn is_admitted(reply: Option<&Reply>, number: u32) -> bool {
-    matches!(reply, Some(Reply::Done(Answer::Admitted(id))) if id.number() == number)
-}
-
-fn is_too_large(reply: Option<&Reply>) -> bool {
-    matches!(reply, Some(Reply::Refused(Refusal::EntityTooLarge)))
-}
-
-/// Whether the second of three puts alone is refused, as too large.
-fn is_second_too_large(replies: &[Reply]) -> bool {
-    replies.len() == 3
-        && is_admitted(replies.get(0), 1)
-        && is_too_large(replies.get(1))
-        && is_admitted(replies.get(2), 2)
-}
-
-/// Puts of the greatest size, of one byte more, and of one byte.
-struct LargestPuts;
-
-impl LargestPuts {
-    fn are_as_wanted<K: Keeper>(alloc: Global, keeper: &mut K) -> Result<bool, Fail> {
-        let commands = puts(alloc, &[1_048_576, 1_048_577, 1])?;
-        Ok(is_second_too_large(ran(alloc, keeper, commands.as_slice())?.as_slice()))
-    }
-}
-
-impl Trial for LargestPuts {
-    fn carry_out<K: Keeper>(&self, alloc: Global, keeper: &mut K) -> Result<(), Fail> {
-        if !LargestPuts::are_as_wanted(alloc, keeper)? {
-            return Err(Fail::new("the second put alone is to be too large"));
-        }
-        play(
-            alloc,
-            keeper,
-            r#"
-{"at":"2024-01-15T10:30:00Z","as":"ann","do":"report","dept":"records"}
-  {"ok":{"admitted":1048577,"at":"2024-01-15T10:30:00Z","byte_days":0,"dept":"records","handed":0,"held":1048577,"received":0,"removed":0}}
-"#,
-        )
-    }
-}
-
-#[test]
-fn a_version_has_up_to_1048576_bytes(rt: HostRuntime) -> Result<(), Fail> {
-    try_on_new(rt.alloc(), &LargestPuts)
 }
 
 fn is_done(reply: &Reply) -> bool {

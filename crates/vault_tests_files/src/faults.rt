@@ -1,6 +1,5 @@
-//! Bad lines, intakes whose folder, device or memory fails, and texts whose writer fails.
+//! Intakes whose folder, device or memory fails, and texts whose writer fails.
 mod growths;
 mod intakes;
-mod lines;
 mod printed;
 mod taking;

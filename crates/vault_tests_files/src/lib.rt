@@ -1,6 +1,6 @@
-//! Tests of what is read from files and written into them: lines that are no command; intakes over a folder in memory,
-//! also where that folder, a device, a writer or memory fails; folders on a disk, and what a terminal is said of a long
-//! job; registers of removals and events whose writer fails.
+//! Tests of what is read from files and written into them: intakes over a folder in memory, also where that folder, a
+//! device, a writer or memory fails; folders on a disk, and what a terminal is said of a long job; registers of removals
+//! and events whose writer fails.
 #![tactic(auto)]
 
 #[cfg(test)]
