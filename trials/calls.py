@@ -14,6 +14,8 @@ from trials.program import Ran, check, ran
 CHANGING = ("pwrite64", "ftruncate", "fsync", "fdatasync")
 # The same, and those that make, name or remove one.
 TOUCHING = (*CHANGING, "openat", "fchmod", "fchown", "unlink")
+# The calls by which the program looks at its files, makes them its own, reads or keeps them.
+LOOKING = ("readlink", "statx", "openat", "fcntl", "fchmod", "fsync", "pread64", "fdatasync")
 # The statuses of a program that was killed: of itself, and where a shell says so.
 KILLED = (-signal.SIGKILL, 128 + signal.SIGKILL)
 

@@ -26,7 +26,7 @@ import sqlite3
 import stat
 import unittest
 
-from trials.calls import CHANGING, KILLED, injected, kills, needs_strace
+from trials.calls import CHANGING, KILLED, LOOKING, injected, kills, needs_strace
 from trials.program import EXAMPLES, NOBODY, OPENED_AT, PROGRAM, Case, Ran, check, make_office, ran_words
 from trials.servers import serving
 
@@ -73,8 +73,6 @@ MEANT = {
 }
 # The write of the last byte of a first page, among those of an `init`.
 LAST_BYTE = 6
-# The calls by which an `init` looks at its files, makes them its own, reads, writes or keeps them.
-LOOKING = ("readlink", "statx", "openat", "fcntl", "fchmod", "fsync", "pread64", "pwrite64", "fdatasync")
 # The shortest log that has a change: its header and a frame's.
 LEAST_LOG = 56
 
@@ -317,7 +315,7 @@ class WithoutVault(Meeting):
     @needs_strace
     def test_each_look(self):
         """Each call by which an `init` looks at its files, opens, reads or writes them fails once."""
-        for call in LOOKING:
+        for call in (*LOOKING, "pwrite64"):
             count = sum(1 for _ in itertools.takewhile(lambda it: self.look_fails(call, it), itertools.count(1)))
             self.assertTrue(count, f"an init makes no call of {call}")
 

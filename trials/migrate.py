@@ -6,8 +6,9 @@ byte for byte what the earlier program said, but that reports have what was rece
 so is that of tables of some thousand rows. Then what is refused: damaged tables, each by its name, one file for both,
 files that are there or that another program has, two of these at once, a device with too little room, output that
 can't be written, a kill at any moment; and where there is `strace`, a kill before each call that changes a file of
-the copy, a failure of each read of the earlier file, and a kill before each removal of what was begun on a device
-that fails. The earlier file and its log keep each byte, no file is left of a copy that was refused, none that was
+the copy, a failure of each read of the earlier file, of reads of one that doesn't fit into memory, and of each call
+by which the files of a copy are looked at, opened, read or kept, and a kill before each removal of what was begun on
+a device that fails. The earlier file and its log keep each byte, no file is left of a copy that was refused, none that was
 there before is removed or changed, and the same words given again make it. The commands of `docs/UPGRADING.md` are
 tried too.
 """
@@ -23,7 +24,7 @@ import stat
 import subprocess
 import time
 
-from trials.calls import KILLED, injected, kills, needs_strace
+from trials.calls import KILLED, LOOKING, injected, kills, needs_strace
 from trials.pages import printed_as_shown
 from trials.program import EXAMPLES, PROGRAM, Case, Ran, check
 
@@ -65,14 +66,22 @@ DAMAGES = {
 }
 # The number of callers more, and of delete markers, each the only entry of its key: without tenures, and in no sum.
 MORE = 3000
-MANY = f"""
-WITH RECURSIVE n(i) AS (SELECT 1 UNION ALL SELECT i + 1 FROM n WHERE i < {MORE})
+# The same with long keys, which take more pages of the least size than the program keeps in memory.
+LARGE, KEY_DIGITS, LEAST_PAGE, PAGES_IN_MEMORY = 350, 1_000, 512, 2_000
+# How many reads of such a file fail, one in each copy.
+LATE_READS = 12
+
+
+def many(more, digits=5):
+    """The statements that make n rows more, with keys of a letter and some digits."""
+    return f"""
+WITH RECURSIVE n(i) AS (SELECT 1 UNION ALL SELECT i + 1 FROM n WHERE i < {more})
 INSERT INTO callers SELECT printf('c%05d', i), NULL, 0, 0 FROM n;
-WITH RECURSIVE n(i) AS (SELECT 0 UNION ALL SELECT i + 1 FROM n WHERE i < {MORE} - 1)
+WITH RECURSIVE n(i) AS (SELECT 0 UNION ALL SELECT i + 1 FROM n WHERE i < {more} - 1)
 INSERT INTO entries
-SELECT next + i, 'docs', printf('m%05d', i), 1, 0, NULL, last, 0, 'ann', NULL, NULL, NULL FROM n, meta;
+SELECT next + i, 'docs', printf('m%0{digits}d', i), 1, 0, NULL, last, 0, 'ann', NULL, NULL, NULL FROM n, meta;
 INSERT INTO heads SELECT bucket, key, id, 1 FROM entries, meta WHERE id >= next;
-UPDATE meta SET next = next + {MORE};
+UPDATE meta SET next = next + {more};
 """
 
 
@@ -242,7 +251,7 @@ class Copies:
         """Each row of a table is copied, also of one of some thousand rows."""
         self.make("many")
         with contextlib.closing(sqlite3.connect(self.folder / "many")) as base:
-            base.executescript(MANY)
+            base.executescript(many(MORE))
         self.answers(["migrate", "many", "new"], "migrated\n")
         self.answers(["verify", "new"], "sound\n")
         look_at_tenures(self.folder / "new")
@@ -401,13 +410,57 @@ class Copies:
                     break
                 failures += 1
                 where = f"where {call} {number} of the earlier file fails"
-                is_refused = done[:2] == (1, "") and done.err.startswith("migrate: Device\n")
-                self.assertTrue(is_refused and not self.has("new") and not self.has("new-wal"), f"{where}: {done}")
+                self.look_at_failure(done, where)
                 self.keeps_old(where)
                 self.answers(["migrate", "old", "new"], "migrated\n")
                 self.assertEqual(self.read("new"), whole, f"{where}, the same words make another copy")
                 self.remove()
         self.assertGreater(failures, 20, "few reads of the earlier file failed")
+
+    @needs_strace
+    def test_late_reads(self):
+        """Of a file with more pages than are kept in memory, reads fail after it was opened: each is reported as a failed
+        device, and no file is left of the copy."""
+        with contextlib.closing(sqlite3.connect(self.folder / "large")) as base:
+            base.execute(f"PRAGMA page_size = {LEAST_PAGE}")
+            base.executescript(self.statements() + many(LARGE, KEY_DIGITS))
+            pages = base.execute("PRAGMA page_count").fetchone()[0]
+        self.assertGreater(pages, PAGES_IN_MEMORY, "the file fits into memory")
+        before, words = self.read("large"), ["migrate", f"{self.folder}/large", f"{self.folder}/new"]
+        made, _ = injected(self.folder, ["large"], {"pread64": ""}, *words)
+        self.assertEqual(made, Ran(0, "migrated\n", ""))
+        self.remove()
+        reads = (self.folder / "trace").read_text().count("pread64(")
+        for number in range(reads, 0, -(reads // LATE_READS)):
+            done, has_failed = injected(self.folder, ["large"], {"pread64": f"error=EIO:when={number}"}, *words)
+            self.look_at_failure(done, f"where read {number} of {reads} fails")
+            self.assertTrue(has_failed, "no read fails")
+            self.assertEqual(self.read("large"), before, "the earlier file was changed")
+
+    def look_at_failure(self, done, where):
+        """A call failed: that is reported as a failed device, and no file is left of the copy."""
+        is_refused = done[:2] == (1, "") and done.err.startswith("migrate: Device\n")
+        self.assertTrue(is_refused and not self.has("new") and not self.has("new-wal"), f"{where}: {done}")
+
+    def look_fails(self, call, number):
+        """Makes that call on the copy fail. Returns whether there was such a call. The copy is made, or the same words make it.
+        Until then no table is left of it; where the files couldn't be opened, they may be there, and empty."""
+        words = ["migrate", f"{self.folder}/old", f"{self.folder}/new"]
+        done, has_failed = injected(self.folder, ["new"], {call: f"error=EIO:when={number}"}, *words)
+        where = f"{call} {number} on the copy fails"
+        if done.status:
+            self.assertTrue(done[:2] == (1, "") and done.err.startswith("migrate: Device\n"), f"{where}: {done}")
+            left = [(self.folder / f"new{end}").stat().st_size for end in ("", "-wal") if self.has(f"new{end}")]
+            self.assertFalse(any(left), f"{where}, and {left} is left")
+        self.is_made_after(where)
+        return has_failed
+
+    @needs_strace
+    def test_each_look(self):
+        """Each call by which the files of a copy are looked at, opened, read or kept fails once."""
+        for call in LOOKING:
+            count = sum(1 for _ in itertools.takewhile(lambda it: self.look_fails(call, it), itertools.count(1)))
+            self.assertTrue(count, f"a copy makes no call of {call}")
 
     @needs_strace
     def test_removals(self):

@@ -2,14 +2,13 @@
 //! many removed versions as of a fresh one. So do a few ids of a key with many held ones, and a few keys after one before which
 //! there are many. What a bucket holds is summed by one statement, whose steps grow with the tenures of its versions. Neither
 //! this nor the statement that gives them tenures takes a step for the entries of another bucket.
+use crate::calls::{batch, made, number};
 use sqlite::{Alter, Connection, Error, params};
 use std::alloc::Global;
 use std::process::Abort;
 use std::test::Fail;
 use vault_base::moment::Moment;
 use vault_base::name::{BucketName, DeptName, KeyPrefix, ObjectKey, VersionId};
-use vault_base::refusal::Refusal;
-use vault_store::create::fill;
 use vault_store_edits::tenures::put_tenures;
 use vault_store_reads::heads::read_head;
 use vault_store_reads::meta::read_last;
@@ -47,14 +46,6 @@ enum Reading {
 
 // These have no clause, so that the proof of a test does not carry the state of each call, nor work out a name.
 
-fn made<S: Alter>(conn: &mut Connection<S>) -> Result<(), Refusal> {
-    fill(conn)
-}
-
-fn batch<S: Alter>(conn: &mut Connection<S>, sql: &str) -> Result<(), Error> {
-    conn.execute_batch(sql)
-}
-
 fn dept_name(alloc: Global, text: &str) -> Result<DeptName, Fail> {
     Ok(DeptName::read(alloc, text)?.ok().ok_or("a name")?)
 }
@@ -72,7 +63,7 @@ fn key_prefix(alloc: Global, text: &str) -> Result<KeyPrefix, Fail> {
 }
 
 fn entries<S: Alter>(conn: &mut Connection<S>) -> Result<i64, Error> {
-    conn.query_row("SELECT count(*) FROM entries", &[])?.get(0)
+    number(conn, "SELECT count(*) FROM entries")
 }
 
 /// Bounds the steps of each statement from now on.

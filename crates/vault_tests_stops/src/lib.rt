@@ -3,18 +3,10 @@
 #![tactic(auto)]
 
 #[cfg(test)]
-mod day;
-#[cfg(test)]
-mod expected;
-#[cfg(test)]
 mod reads;
-#[cfg(test)]
-mod seen;
 #[cfg(test)]
 mod stopped;
 #[cfg(test)]
 mod stops;
 #[cfg(test)]
 mod trial;
-#[cfg(test)]
-mod visit;

@@ -1,7 +1,7 @@
 //! What is said of a vault, whatever keeps it.
 use std::alloc::Global;
 use std::test::Fail;
-use vault_base::name::{DeptName, VersionId};
+use vault_base::name::{BucketName, DeptName, VersionId};
 use vault_core_evidence::walk::lawful;
 use vault_core_model::keeper::Keeper;
 use vault_core_model::records::Tenure;
@@ -40,8 +40,8 @@ const QUERIES: &str =
 {"at":"2029-01-01T00:00:00Z","as":"ann","do":"get-rules","bucket":"docs"}
 "#;
 
-/// The last moment, the next id and the number of moves, the sums of both departments, the tenures of each version, the
-/// replies to the queries, the register of removals, the events of each entry, and that these are lawful.
+/// The last moment, the next id and the number of moves, the names of buckets, the sums of both departments, the tenures of
+/// each version, the replies to the queries, the register of removals, the events of each entry, and that these are lawful.
 pub fn stated<K: Keeper>(alloc: Global, keeper: &mut K) -> Result<String, Fail> {
     let mut text = String::new(alloc);
     push_seen(alloc, keeper, &mut text)?;
@@ -51,6 +51,7 @@ pub fn stated<K: Keeper>(alloc: Global, keeper: &mut K) -> Result<String, Fail> 
 // Each part is pushed by a function of its own, so that no proof lets go of two texts.
 fn push_seen<K: Keeper>(alloc: Global, keeper: &mut K, text: &mut String) -> Result<(), Fail> {
     push_counters(alloc, keeper, text)?;
+    push_buckets(keeper, text)?;
     push_sums(alloc, keeper, "records", text)?;
     push_sums(alloc, keeper, "court", text)?;
     push_each_tenures(alloc, keeper, text)?;
@@ -73,6 +74,25 @@ fn push_counters<K: Keeper>(alloc: Global, keeper: &mut K, text: &mut String) ->
         .ok_or("the number of moves isn't reported")?;
     let seconds = last.secs();
     push(text, format!(in alloc; "{seconds} {next} {moves}\n")?)
+}
+
+/// The names of up to three buckets after `docs`.
+fn push_buckets<K: Keeper>(keeper: &mut K, text: &mut String) -> Result<(), Fail> {
+    let names = keeper
+        .buckets("docs", 3)
+        .ok()
+        .ok_or("the buckets aren't reported")?;
+    let pushed = push_names(names.as_slice(), text);
+    drop(names);
+    pushed
+}
+
+fn push_names(names: &[BucketName], text: &mut String) -> Result<(), Fail> {
+    for name in names {
+        text.push_str(name.as_str())?;
+        text.push_str("\n")?;
+    }
+    Ok(())
 }
 
 /// Pushes a text, and lets go of it.
