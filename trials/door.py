@@ -8,8 +8,11 @@ import contextlib
 import errno
 import hashlib
 import json
+import os
 import pathlib
+import re
 import shutil
+import signal
 import socket
 import subprocess
 import threading
@@ -28,6 +31,8 @@ OTHER = "127.0.0.2"
 # How much later than its deadline something may come on a busy machine.
 SLACK = 5
 LONGEST_LINE = 4_194_304
+# How many clients wait at each door.
+TURNS = 20
 MALFORMED = b'{"error":{"code":"MalformedBody","n":12}}'
 INVALID = b'{"error":{"code":"InvalidArgument","n":10}}'
 NOT_ADMIN = b'{"error":{"code":"AccessDenied","n":3,"reason":"right:admin"}}'
@@ -65,6 +70,13 @@ class Server:
         assert self.serving.stderr is not None
         self.said = self.serving.stderr.readline()
 
+    def refused(self) -> str:
+        """Starts a server that is to end at once, with status 1, and returns what it says."""
+        self.start()
+        equal(self.serving.wait(LIMIT), 1, "the status of a server that is refused")
+        assert self.serving.stderr is not None
+        return self.said + self.serving.stderr.read()
+
     def connect(self) -> socket.socket:
         """A connection of lines."""
         at_port = self.where.isdigit()
@@ -88,6 +100,17 @@ class Server:
     def http_get(self, key: str) -> bytes:
         answer = self.request(f"GET /docs/{key} HTTP/1.1\r\nhost: x\r\nx-vault-caller: ann\r\n\r\n")
         return answer.partition(b"\r\n\r\n")[2]
+
+    def most_memory(self) -> int:
+        """The bytes of memory that it had at most."""
+        found = re.search(r"VmHWM:\s+(\d+) kB", pathlib.Path(f"/proc/{self.serving.pid}/status").read_text())
+        assert found is not None
+        return int(found[1]) * 1024
+
+    def processor_time(self) -> float:
+        """The seconds that it took a processor."""
+        after_name = pathlib.Path(f"/proc/{self.serving.pid}/stat").read_text().rpartition(")")[2].split()
+        return (int(after_name[11]) + int(after_name[12])) / os.sysconf("SC_CLK_TCK")
 
     def end(self) -> int:
         """Kills the server where it runs still, and returns its status."""
@@ -162,6 +185,19 @@ def silent(server: Server) -> None:
         equal(read_all(first), b"", "the silent one")
 
 
+def slow_line(server: Server) -> None:
+    """Neither the silence before a line nor the time that it took counts for what comes after it."""
+    with server.connect() as peer:
+        time.sleep(3)
+        peer.sendall(put("a")[:10])
+        time.sleep(3)
+        peer.sendall(put("a")[10:])
+        equal(peer.recv(65_536), b'{"ok":{"version_id":1}}\n', "a line that begins late, in two parts")
+        began = time.monotonic()
+        equal(ok_puts(server.lines(put("b"))), [2], "a put by another")
+        check(time.monotonic() - began > SILENCE - 1, f"another waited for {time.monotonic() - began:.1f} s")
+
+
 def slow_requests(server: Server) -> None:
     """The time in which a silent client of the other door is waited for isn't a line's."""
     with server.connect() as peer:
@@ -174,11 +210,47 @@ def slow_requests(server: Server) -> None:
 
 
 def oversized(server: Server) -> None:
-    """The longest line is answered, and a longer one is refused once its LF has come."""
+    """The longest line is answered, and a longer one is refused once its LF has come. No more of it is kept."""
     longest = put("long")[:-1]
     longest += b" " * (LONGEST_LINE - len(longest)) + b"\n"
     equal(ok_puts(server.lines(longest)), [1], "the longest line")
     equal(server.lines(b" " + longest + put("after")), [MALFORMED, b'{"ok":{"version_id":2}}'], "a longer one, and a put")
+    most = server.most_memory()
+    equal(server.lines(b" " * (8 * LONGEST_LINE) + b"\n"), [MALFORMED], "a line of 32 MiB")
+    check(server.most_memory() < most + 5 * LONGEST_LINE, f"it had {server.most_memory()} bytes of memory, and {most} before")
+
+
+def idle(server: Server) -> None:
+    """A server that nobody asks anything takes no time, whether a connection of lines is open or not."""
+    with contextlib.ExitStack() as stack:
+        for opened in range(2):
+            took = server.processor_time()
+            time.sleep(1)
+            check(server.processor_time() - took < 0.2, f"with {opened} connections the server took {server.processor_time() - took} s")
+            stack.enter_context(server.connect())
+
+
+def turns(server: Server) -> None:
+    """Where clients wait at both doors, a request is answered after each line, and a line after each request."""
+    server.serving.send_signal(signal.SIGSTOP)
+    asked = "GET /docs/a HTTP/1.1\r\nhost: x\r\nx-vault-caller: ann\r\n\r\n".encode()
+    with contextlib.ExitStack() as stack:
+        peers = [stack.enter_context(socket.create_connection((HOST, server.port), LIMIT)) for _ in range(TURNS)]
+        for peer in peers:
+            peer.sendall(asked)
+        lines = stack.enter_context(server.connect())
+        lines.sendall(get("a") * TURNS)
+        lines.shutdown(socket.SHUT_WR)
+        server.serving.send_signal(signal.SIGCONT)
+        equal(len(read_all(lines).splitlines()), TURNS, "the lines that were answered")
+        for peer in peers:
+            check(read_all(peer).startswith(b"HTTP/1.1 404"), "a request isn't answered")
+    server.end()
+    assert server.serving.stderr is not None
+    doors = [json.loads(it)["door"] for it in server.serving.stderr.read().splitlines()]
+    # until the connection of lines is taken, requests alone are answered; it ends after the last line
+    after = doors[doors.index("lines"):][:2 * TURNS - doors.index("lines") * 2]
+    check(len(after) > TURNS and all(one != other for one, other in zip(after, after[1:])), f"the doors were {doors}")
 
 
 def resetting(server: Server) -> None:
@@ -376,18 +448,19 @@ def counted(server: Server) -> None:
 
 
 def no_places(server: Server) -> None:
-    """Where nobody can listen for lines nothing is served."""
+    """Where nobody can listen at one of the doors nothing is served, and what is said of lines is said of theirs alone."""
     server.end()
     there = server.folder / "there"
     there.write_text("kept")
     for where in (str(there), str(server.folder / "none" / "lines"), "0", "70000", ""):
         server.where = where
-        server.start()
-        assert server.serving.stderr is not None
-        said = server.said + server.serving.stderr.read()
-        equal(server.serving.wait(LIMIT), 1, f"the status for {where!r}")
+        said = server.refused()
         equal([said.startswith("--lines: "), "\nserve: Device\n" in said], [True, True], f"what it says for {where!r}: {said!r}")
     equal(there.read_text(), "kept", "what was at the path")
+    server.where = str(server.folder / "more-lines")
+    with socket.create_server((HOST, server.port)):
+        said = server.refused()
+    check(said.startswith("serve: Device\n"), f"what it says where the port of requests is taken: {said!r}")
 
 
 Trial = tuple[Callable[[Server], None], list[str]]
@@ -397,8 +470,11 @@ TRIALS: dict[str, Trial] = {
     "whole-script": (whole_script, []),
     "late-line": (late_line, []),
     "silent": (silent, []),
+    "slow-line": (slow_line, []),
     "slow-requests": (slow_requests, []),
     "oversized": (oversized, []),
+    "idle": (idle, []),
+    "turns": (turns, ["--log"]),
     "resetting": (resetting, []),
     "flooding": (flooding, []),
     "closing": (closing, []),

@@ -14,6 +14,7 @@ from trials.program import PROGRAM, Case, check, make_office
 from trials.servers import HOST, LIMIT, answer_to, ended, free_port, started, wait_for
 
 FILE = "records.vault"
+LONG = "x" * 1_000_000
 # The members of which the values differ from run to run.
 VARYING = ("at", "ms")
 
@@ -80,16 +81,18 @@ class Trail(Case):
         server.start("--log")
         try:
             asked = [put("a"), get("a"), line("zoe", "get", bucket="docs", key="a"), b"{]\n", line("registrar", "close")]
+            server.lines(put("long", LONG))
             replies = [b"\n".join([*server.lines(it), b""]) for it in asked]
             check(server.serving.wait(LIMIT) == 0, "the server doesn't end")
             assert server.serving.stderr is not None
             said = server.serving.stderr.read()
         finally:
             server.end()
+        check(json.loads(said.splitlines()[0])["ms"] > 0, "a line with a long content took no time")
         sizes = [{"in": len(it) - 1, "out": len(reply)} for it, reply in zip(asked, replies)]
         at_a = {"bucket": "docs", "key": "a"}
         self.are(
-            entries(said),
+            entries(said)[1:],
             {"door": "lines", "as": "ann", "do": "put", **at_a, "result": "ok", **sizes[0]},
             {"door": "lines", "as": "ann", "do": "get", **at_a, "result": "ok", **sizes[1]},
             {"door": "lines", "as": "zoe", "do": "get", **at_a, "result": "AccessDenied", "reason": "unknown-caller", **sizes[2]},
