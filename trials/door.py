@@ -238,6 +238,7 @@ def turns(server: Server) -> None:
         peers = [stack.enter_context(socket.create_connection((HOST, server.port), LIMIT)) for _ in range(TURNS)]
         for peer in peers:
             peer.sendall(asked)
+            peer.shutdown(socket.SHUT_WR)
         lines = stack.enter_context(server.connect())
         lines.sendall(get("a") * TURNS)
         lines.shutdown(socket.SHUT_WR)
