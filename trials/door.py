@@ -30,6 +30,8 @@ LINE, SILENCE, LIMIT = 5, 5, 60
 OTHER = "127.0.0.2"
 # How much later than its deadline something may come on a busy machine.
 SLACK = 5
+# Seconds after which a server with nothing to do waits for whoever comes.
+SOON = 0.3
 LONGEST_LINE = 4_194_304
 # How many clients wait at each door.
 TURNS = 20
@@ -108,7 +110,7 @@ class Server:
         return int(found[1]) * 1024
 
     def processor_time(self) -> float:
-        """The seconds that it took a processor."""
+        """The processor time that it took, in seconds."""
         after_name = pathlib.Path(f"/proc/{self.serving.pid}/stat").read_text().rpartition(")")[2].split()
         return (int(after_name[11]) + int(after_name[12])) / os.sysconf("SC_CLK_TCK")
 
@@ -179,6 +181,7 @@ def silent(server: Server) -> None:
         first.sendall(put("a"))
         equal(first.recv(65_536), b'{"ok":{"version_id":1}}\n', "a put")
         equal(server.http_get("a"), b"hello", "a get")
+        time.sleep(SOON)
         began = time.monotonic()
         equal(ok_puts(server.lines(put("b"))), [2], "a put by another")
         check(SILENCE - 1 < time.monotonic() - began < SILENCE + SLACK, f"another waited for {time.monotonic() - began:.1f} s")
@@ -193,6 +196,7 @@ def slow_line(server: Server) -> None:
         time.sleep(3)
         peer.sendall(put("a")[10:])
         equal(peer.recv(65_536), b'{"ok":{"version_id":1}}\n', "a line that begins late, in two parts")
+        time.sleep(SOON)
         began = time.monotonic()
         equal(ok_puts(server.lines(put("b"))), [2], "a put by another")
         check(time.monotonic() - began > SILENCE - 1, f"another waited for {time.monotonic() - began:.1f} s")
@@ -221,7 +225,7 @@ def oversized(server: Server) -> None:
 
 
 def idle(server: Server) -> None:
-    """A server that nobody asks anything takes no time, whether a connection of lines is open or not."""
+    """A server that nobody asks anything takes no processor time, whether a connection of lines is open or not."""
     with contextlib.ExitStack() as stack:
         for opened in range(2):
             took = server.processor_time()
@@ -249,7 +253,7 @@ def turns(server: Server) -> None:
     server.end()
     assert server.serving.stderr is not None
     doors = [json.loads(it)["door"] for it in server.serving.stderr.read().splitlines()]
-    # until the connection of lines is taken, requests alone are answered; it ends after the last line
+    # until the connection of lines is taken, requests alone are answered
     after = doors[doors.index("lines"):][:2 * TURNS - doors.index("lines") * 2]
     check(len(after) > TURNS and all(one != other for one, other in zip(after, after[1:])), f"the doors were {doors}")
 
