@@ -458,16 +458,6 @@ class Copies:
         return has_failed
 
     @needs_strace
-    def test_each_look(self):
-        """Each call by which the files of a copy are looked at, opened, read or kept fails once."""
-        self.answers(["migrate", "old", "new"], "migrated\n")
-        whole = self.read("new")
-        self.remove()
-        for call in LOOKING:
-            failing = itertools.takewhile(lambda number: self.look_fails(call, number, whole), itertools.count(1))
-            self.assertTrue(sum(1 for _ in failing), f"a copy makes no call of {call}")
-
-    @needs_strace
     def test_removals(self):
         """The device of the copy fails from each sync on, and a kill comes before each removal of what was begun: the
         same words take over what is left then."""
@@ -496,6 +486,17 @@ class Copies:
 
 class Schema1(Copies, Case):
     vault = "schema1"
+
+    @needs_strace
+    def test_each_look(self):
+        """Each call by which the files of a copy are looked at, opened, read or kept fails once. Of a copy from either schema they
+        are the same."""
+        self.answers(["migrate", "old", "new"], "migrated\n")
+        whole = self.read("new")
+        self.remove()
+        for call in LOOKING:
+            failing = itertools.takewhile(lambda number: self.look_fails(call, number, whole), itertools.count(1))
+            self.assertTrue(sum(1 for _ in failing), f"a copy makes no call of {call}")
 
 
 class Schema2(Copies, Case):
