@@ -228,16 +228,17 @@ def idle(server: Server) -> None:
     """A server that nobody asks anything takes no processor time, whether a connection of lines is open or not."""
     with contextlib.ExitStack() as stack:
         for opened in range(2):
-            took = server.processor_time()
+            before = server.processor_time()
             time.sleep(1)
-            check(server.processor_time() - took < 0.2, f"with {opened} connections the server took {server.processor_time() - took} s")
+            took = server.processor_time() - before
+            check(took < 0.2, f"with {opened} connections the server took {took} s")
             stack.enter_context(server.connect())
 
 
 def turns(server: Server) -> None:
     """Where clients wait at both doors, a request is answered after each line, and a line after each request."""
     server.serving.send_signal(signal.SIGSTOP)
-    asked = "GET /docs/a HTTP/1.1\r\nhost: x\r\nx-vault-caller: ann\r\n\r\n".encode()
+    asked = b"GET /docs/a HTTP/1.1\r\nhost: x\r\nx-vault-caller: ann\r\n\r\n"
     with contextlib.ExitStack() as stack:
         peers = [stack.enter_context(socket.create_connection((HOST, server.port), LIMIT)) for _ in range(TURNS)]
         for peer in peers:
@@ -254,7 +255,8 @@ def turns(server: Server) -> None:
     assert server.serving.stderr is not None
     doors = [json.loads(it)["door"] for it in server.serving.stderr.read().splitlines()]
     # until the connection of lines is taken, requests alone are answered
-    after = doors[doors.index("lines"):][:2 * TURNS - doors.index("lines") * 2]
+    begin = doors.index("lines")
+    after = doors[begin:2 * TURNS - begin]
     check(len(after) > TURNS and all(one != other for one, other in zip(after, after[1:])), f"the doors were {doors}")
 
 

@@ -369,14 +369,12 @@ class Copies:
             self.refuses(["migrate", "old", "new"], f"migrate: Write\n{UNWRITTEN}", stdout=full)
         self.says_the_same("new")
 
-    def is_made_after(self, when, whole=None):
-        """After a kill the same words make the copy, or it is there as a whole: the one with these bytes, or any other that says
-        the same."""
+    def is_made_after(self, when):
+        """After a kill the same words make the copy, or it is there as a whole."""
         self.keeps_old(when)
         again = self.ran("migrate", "old", "new")
         self.assertIn(again, ((0, "migrated\n", ""), (1, "", f"{TAKEN}\n")), f"after {when}")
-        if self.read("new") != whole:
-            self.says_the_same("new")
+        self.says_the_same("new")
         self.remove()
 
     def test_kills(self):
@@ -445,16 +443,21 @@ class Copies:
         self.assertTrue(is_refused and not self.has("new") and not self.has("new-wal"), f"{where}: {done}")
 
     def look_fails(self, call, number, whole):
-        """Makes that call on the copy fail. Returns whether there was such a call. The copy is made, or the same words make it.
-        Until then no table is left of it; where the files couldn't be opened, they may be there, and empty."""
+        """Makes that call on the copy fail. Returns whether there was such a call. A copy that is reported as made is there. Of
+        any other no table is left, and the same words make it; where its files couldn't be opened, they may be there, and empty."""
+        made, taken = Ran(0, "migrated\n", ""), Ran(1, "", f"{TAKEN}\n")
         words = ["migrate", f"{self.folder}/old", f"{self.folder}/new"]
         done, has_failed = injected(self.folder, ["new"], {call: f"error=EIO:when={number}"}, *words)
         where = f"{call} {number} on the copy fails"
-        if done.status:
+        if done != made:
             self.assertTrue(done[:2] == (1, "") and done.err.startswith("migrate: Device\n"), f"{where}: {done}")
             left = [(self.folder / f"new{end}").stat().st_size for end in ("", "-wal") if self.has(f"new{end}")]
             self.assertFalse(any(left), f"{where}, and {left} is left")
-        self.is_made_after(where, whole)
+        self.keeps_old(where)
+        self.assertEqual(self.ran("migrate", "old", "new"), taken if done == made else made, where)
+        if self.read("new") != whole:
+            self.says_the_same("new")
+        self.remove()
         return has_failed
 
     @needs_strace
