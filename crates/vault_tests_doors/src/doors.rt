@@ -1,9 +1,7 @@
 //! Two doors of which it is known what comes in by them: requests and lines in turns, and the line that ends a server.
 ghost use Rattle.std.specs.Prelude.{None, true};
 
-use crate::clocks::MovingClock;
 use crate::counting::Counting;
-use crate::slow::{Part, SlowPeer};
 use std::alloc::Global;
 use std::cell::Cell;
 use std::io;
@@ -16,6 +14,8 @@ use vault_core_model::command::Command;
 use vault_core_model::keeper::Keeper;
 use vault_core_model::reply::Reply;
 use vault_http::{Hears, Hosts, Nobody};
+use vault_tests_peers::clocks::MovingClock;
+use vault_tests_peers::slow::{Part, SlowPeer};
 use vault_transcript::transcript::opened;
 use vaultctl_log::entry::{Entry, log_entry};
 use vaultctl_serve_lines::doors::{Arrived, Doors};

@@ -1,8 +1,8 @@
 //! Lines whose bytes come at known times, as a server's door of lines hears them.
-use crate::known::{KnownByte, KnownRequest};
 use std::io::ErrorKind;
 use std::test::Fail;
 use std::time::Duration;
+use vault_tests_peers::known::{KnownByte, KnownRequest};
 use vaultctl_serve_lines::hearing::{News, hear};
 
 /// A second, in nanoseconds.

@@ -1,13 +1,13 @@
 //! Requests whose bytes come at known times: what comes in time is answered, and else nothing is carried out.
-use crate::clocks::StandingClock;
 use crate::counting::Counting;
-use crate::known::{KnownArrivals, KnownByte, KnownRequest};
 use std::alloc::Global;
 use std::io;
 use std::test::Fail;
 use vault_base::moment::Moment;
 use vault_core_model::keeper::Keeper;
 use vault_http::{Hears, Hosts, Nobody, Occasion};
+use vault_tests_peers::clocks::StandingClock;
+use vault_tests_peers::known::{KnownArrivals, KnownByte, KnownRequest};
 use vault_transcript::transcript::opened;
 use vaultctl_serve::{Means, serve_arrivals, serve_in_time};
 

@@ -1,9 +1,10 @@
-//! Tests of both doors of a server over peers in memory: it is known what they send and when, by clocks that move only
-//! as one waits. What comes in time is taken, each connection has its entry in the log, and a line is heard of before it
-//! is answered.
+//! Tests of both doors of a server. Over peers in memory it is known what they send and when: what comes in time is taken,
+//! each connection has its entry in the log, and a line is heard of before it is answered. Over loopback, with clients and
+//! server in one process: what is answered, and peers that are gone before they are answered.
 #![tactic(auto)]
 
-pub mod clocks;
+#[cfg(test)]
+mod broken;
 #[cfg(test)]
 mod counting;
 #[cfg(test)]
@@ -12,5 +13,7 @@ mod doors;
 mod hearing;
 #[cfg(test)]
 mod in_time;
-pub mod known;
-pub mod slow;
+#[cfg(test)]
+mod late;
+#[cfg(test)]
+mod served;

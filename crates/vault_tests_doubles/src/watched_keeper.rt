@@ -1,5 +1,6 @@
 //! A keeper that notes what is asked of it and runs out of ids, for tests of how a run goes about its work.
 use std::alloc::{AllocError, Global};
+use std::test::Fail;
 use vault_base::content::Content;
 use vault_base::moment::Moment;
 use vault_base::name::{
@@ -15,6 +16,7 @@ use vault_core_model::records::{
 use vault_rules::plan::Held;
 use vault_rules::rule_set::RuleSet;
 use vault_tally::row::Row;
+use vault_transcript::transcript::play;
 
 /// The id after the last one that an entry may have.
 const PAST_THE_LAST: u64 = 1_000_000_001;
@@ -47,6 +49,17 @@ impl<'a, K> WatchedKeeper<'a, K> {
     pub fn into_calls(self) -> String {
         self.calls
     }
+}
+
+/// What the lines of a transcript ask of their keeper, a call a line. Fails where a reply isn't that of the transcript.
+pub fn calls_of<K: Keeper>(
+    alloc: Global,
+    keeper: &mut K,
+    transcript: &str,
+) -> Result<String, Fail> {
+    let mut watched = WatchedKeeper::new(alloc, keeper, u64::MAX);
+    play(alloc, &mut watched, transcript)?;
+    Ok(watched.into_calls())
 }
 
 fn push_call(calls: &mut String, call: &str, about: &str) -> Result<(), AllocError> {

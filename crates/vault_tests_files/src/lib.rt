@@ -1,6 +1,6 @@
 //! Tests of what is read from files and written into them: intakes over a folder in memory, also where that folder, a
 //! device, a writer or memory fails; folders on a disk, and what a terminal is said of a long job; registers of removals
-//! and events whose writer fails.
+//! and events whose writer fails; and journals that a fault ends.
 #![tactic(auto)]
 
 #[cfg(test)]
@@ -11,6 +11,8 @@ mod disk_folder;
 mod events;
 #[cfg(test)]
 mod faults;
+#[cfg(test)]
+mod journals;
 #[cfg(test)]
 mod progress;
 #[cfg(test)]

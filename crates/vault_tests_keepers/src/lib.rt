@@ -1,9 +1,11 @@
-//! Tests over tables in memory: rows; runs and moves that a device stops, over the list too; commands from tables to tables;
-//! and how many steps a read takes.
+//! Tests over tables, in memory and in files: rows; runs and moves that a device stops, over the list too; commands from tables
+//! to tables; how many steps a read takes; how often files are read; and files that fail from some call on, for each call.
 #![tactic(auto)]
 
 #[cfg(test)]
 mod calls;
+#[cfg(test)]
+mod file_reads;
 #[cfg(test)]
 mod in_tables;
 #[cfg(test)]
@@ -13,4 +15,6 @@ mod over_keepers;
 #[cfg(test)]
 mod rows;
 #[cfg(test)]
-mod stopped;
+mod stopped_days;
+#[cfg(test)]
+mod stopped_runs;

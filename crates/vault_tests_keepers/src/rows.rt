@@ -1,8 +1,8 @@
 //! Rows over tables in memory, whose device doesn't fail.
 use crate::over_keepers::try_in_tables;
-use crate::stopped::Stopped;
 use std::alloc::Global;
 use std::test::Fail;
+use vault_tests_keepers_rows::stops::Stopped;
 use vault_tests_keepers_rows::texts::{LOCKS, MOVES, RUNS, SUMS};
 
 /// Each row holds on a vault of its own, after the opening lines.

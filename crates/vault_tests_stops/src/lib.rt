@@ -1,12 +1,10 @@
-//! Tests over files whose calls are counted: one of a vault's two files fails from some call on, for each call in turn; and
-//! how often the files are read for an answer.
+//! Days over a vault in files, for tests that stop them: what is asked on each, what is to be found after each of its changes,
+//! and a day that one of the files stops at each of its calls.
 #![tactic(auto)]
 
-#[cfg(test)]
-mod reads;
-#[cfg(test)]
+pub mod day;
+mod expected;
+mod seen;
 mod stopped;
-#[cfg(test)]
-mod stops;
-#[cfg(test)]
-mod trial;
+pub mod trial;
+mod visit;

@@ -1,4 +1,6 @@
 //! A visit to a vault in files, up to where one of them fails.
+use crate::expected::Progress;
+use crate::visit::{Visit, work};
 use sqlite::{Alter, Connection, FileStore, Files, Options, Unknown};
 use sqlite_disk::{Disk, Start, Wary};
 use std::alloc::Global;
@@ -6,8 +8,6 @@ use std::test::Fail;
 use vault_base::refusal::Refusal;
 use vault_failing::device::{Calls, Media, TornWrites};
 use vault_store::sql_keeper::SqlKeeper;
-use vault_tests_stops_days::expected::Progress;
-use vault_tests_stops_days::visit::{Visit, work};
 
 /// What was under way as a file failed.
 #[derive(Clone, Copy, PartialEq, Eq)]

@@ -1,11 +1,11 @@
 //! A day that is stopped at each call of one of its files.
+use crate::day::Day;
+use crate::expected::{Expected, Progress, expect};
 use crate::stopped::{Phase, Stop, visited_in};
+use crate::visit::{Resumed, Visit};
 use std::alloc::Global;
 use std::test::Fail;
 use vault_failing::device::{ALL_CALLS, Bytes, Calls, Crash, Media, TornWrites, Which};
-use vault_tests_stops_days::day::Day;
-use vault_tests_stops_days::expected::{Expected, Progress, expect};
-use vault_tests_stops_days::visit::{Resumed, Visit};
 
 /// A day, the files that it begins with, and what is to be found.
 pub struct Trial {

@@ -14,7 +14,6 @@ use Rattle.vaultctl_commands.specs.declared.asked.Asked.{Asked}
 use Rattle.vaultctl_commands.specs.declared.outcome.Outcome.TheVariants.{Done}
 use Rattle.vaultctl_job.specs.declared.job.Job.{Job}
 use Rattle.vaultctl_job.specs.declared.job.Job.TheVariants as job
-use Rattle.vaultctl_job.specs.declared.job.ReplayJob.{ReplayJob}
 use Rattle.vaultctl_machine.specs.Closings.{Carries, Closes, Copies}
 use Rattle.vaultctl_machine.specs.Given.{with_copied, with_made, with_opened}
 use Rattle.vaultctl_machine.specs.declared.given.Given.{Given}
@@ -44,9 +43,6 @@ module _ {D : Type 0} {g : Ghosts D} (image : Image) where
   IsScriptDone None old new input left before after = AnswersFromNew input left before after
   IsScriptDone (Some file) old new input left before after = Carries image old new (λ v w. IsAnswered (scene v input before) (scene w left after))
 
-  abbrev pub IsReplayed : ReplayJob → List (Held (FileStore D g) × Bool) → List (Held (FileStore D g) × Bool) → Option (List ℕ) → Option (List ℕ) → Option (List ℕ) → Option (List ℕ) → Type 0
-  IsReplayed j = IsScriptDone j.file
-
 module _ {D E : Type 0} {g : Ghosts D} {h : Ghosts E} (image : Image) where
   -- by the connections that were closed before and after, those of copies too, what was left of the input, and what was printed
   abbrev pub IsDoneInFiles : Job → List (Held (FileStore D g) × Bool) → List (Held (FileStore D g) × Bool) → List (Held (FileStore E h) × Bool) → List (Held (FileStore E h) × Bool)
@@ -65,6 +61,6 @@ module _ {D E : Type 0} {g : Ghosts D} {h : Ghosts E} (image : Image) where
   IsDoneInFiles (job.Events j) old new none copies input left before after = IsOkAnd (events_of j) (λ asked. Carries image old new (λ v w. w ≡ v))
   IsDoneInFiles (job.Seal j) old new none copies input left before after = IsOkAnd (seal_of j) (λ asked. Carries image old new (λ v w. IsSealDone asked Done v w before after))
   IsDoneInFiles (job.Lawful j) old new none copies input left before after = Carries image old new (λ v w. IsJudgedDone Done v w before after)
-  IsDoneInFiles (job.Replay j) old new none copies input left before after = IsReplayed image j old new input left before after
+  IsDoneInFiles (job.Replay j) old new none copies input left before after = IsScriptDone image j.file old new input left before after
   IsDoneInFiles (job.Serve j) old new none copies input left before after = Carries image old new (λ v w. IsServed j v w)
   IsDoneInFiles (job.Migrate j) old new none copies input left before after = Copies image old new none copies

@@ -7,7 +7,7 @@ ghost use Rattle.vaultctl_job.specs.Words.{asks_version, job_for, vaultctl};
 ghost use Rattle.vaultctl_job.specs.declared.job.Job.{Job as AnyJob};
 ghost use Rattle.vault_base.specs.declared.refusal.Refusal.{Refusal};
 ghost use Rattle.sqlite_wal.specs.Files.{image_at};
-ghost use Rattle.vaultctl_perform.specs.Done.{IsDoneInFiles, IsReplayed, given_by};
+ghost use Rattle.vaultctl_perform.specs.Done.{IsDoneInFiles, IsScriptDone, given_by};
 ghost use Rattle.vaultctl_perform.specs.Printed.{IsPrinted};
 ghost use Rattle.vaultctl_perform.specs.Values.{IsValueFault};
 
@@ -51,7 +51,7 @@ fn replay_script<A: Start, B: Start, R: Read, W: Write, E: Write>(
     err: &mut E,
 ) -> u8
     ensures given { result ≡ 0 → machine.new.given ≡ given_by (Job.Replay task.entry.work.now) machine.old.given }
-    ensures done { result ≡ 0 → IsReplayed (image_at A.Start) task.entry.work.now machine.old.closed.items machine.new.closed.items
+    ensures done { result ≡ 0 → IsScriptDone (image_at A.Start) task.entry.work.now.file machine.old.closed.items machine.new.closed.items
         (R.remaining reader.old) (R.remaining reader.new) (W.contents out.old) (W.contents out.new) }
     ensures status { result ≢ 2 }
 {

@@ -2,75 +2,14 @@
 use std::alloc::Global;
 use std::test::Fail;
 use vault_core_model::keeper::Keeper;
-use vault_tests_doubles::watched_keeper::WatchedKeeper;
-use vault_transcript::transcript::play;
+use vault_tests_doubles::fillings::{FILLINGS, Filling, fill, text_of};
+use vault_tests_doubles::watched_keeper::calls_of;
 use vault_transcript::trial::{Trial, compare, try_after};
 
 const RULES: &str = r#"
 {"at":"2014-01-01T00:00:00Z","as":"ann","do":"set-rules","bucket":"docs","rules":[{"ID":"r1","Status":"Enabled","Expiration":{"Days":1}}]}
   {"ok":{}}
 "#;
-
-/// What each key gets, as the texts round its name and its id, and what a run does with it.
-pub struct Filling {
-    before: &'static str,
-    between: &'static str,
-    later: &'static str,
-    /// The calls by which a run makes its change.
-    change: &'static str,
-}
-
-/// Versions, which a run marks; and delete markers alone, with which a run removes the key, and so asks for no id.
-pub const FILLINGS: [Filling; 2] = [
-    Filling {
-        before: "{\"at\":\"2024-03-01T00:00:00Z\",\"as\":\"ann\",\"do\":\"put\",\"bucket\":\"docs\",\"key\":\"k",
-        between: "\",\"text\":\"x\"}\n  {\"ok\":{\"version_id\":",
-        later: "}}\n",
-        change: "next id\nadmit\n",
-    },
-    Filling {
-        before: "{\"at\":\"2024-03-01T00:00:00Z\",\"as\":\"ann\",\"do\":\"delete\",\"bucket\":\"docs\",\"key\":\"k",
-        between: "\"}\n  {\"ok\":{\"delete_marker\":true,\"version_id\":",
-        later: "}}\n",
-        change: "remove\n",
-    },
-];
-
-fn text_of(alloc: Global, number: u32) -> Result<String, Fail> {
-    Ok(format!(in alloc; "{number}")?)
-}
-
-/// The key `k1001` gets an entry with the id 1, `k1002` one with the id 2 ..
-fn fill_key<K: Keeper>(
-    alloc: Global,
-    keeper: &mut K,
-    filling: &Filling,
-    id: u32,
-) -> Result<(), Fail> {
-    let key = text_of(alloc, id.saturating_add(1_000))?;
-    let id = text_of(alloc, id)?;
-    let pieces = [
-        filling.before,
-        key.as_str(),
-        filling.between,
-        id.as_str(),
-        filling.later,
-    ];
-    let lines = pieces.concat(alloc)?;
-    play(alloc, keeper, lines.as_str())
-}
-
-pub fn fill<K: Keeper>(
-    alloc: Global,
-    keeper: &mut K,
-    filling: &Filling,
-    keys: u32,
-) -> Result<(), Fail> {
-    for id in 1..=keys {
-        fill_key(alloc, keeper, filling, id)?;
-    }
-    Ok(())
-}
 
 /// What a run asks of its keeper at the key of that number. After 256 keys it asks for more.
 fn calls_at(alloc: Global, number: u32, change: &str) -> Result<String, Fail> {
@@ -167,19 +106,10 @@ struct Run<'a> {
     transcript: &'a str,
 }
 
-impl Run<'_> {
-    /// What the run asks of its keeper.
-    fn calls<K: Keeper>(&self, alloc: Global, keeper: &mut K) -> Result<String, Fail> {
-        let mut watched = WatchedKeeper::new(alloc, keeper, u64::MAX);
-        play(alloc, &mut watched, self.transcript)?;
-        Ok(watched.into_calls())
-    }
-}
-
 impl Trial for Run<'_> {
     fn carry_out<K: Keeper>(&self, alloc: Global, keeper: &mut K) -> Result<(), Fail> {
         fill(alloc, keeper, self.filling, self.keys)?;
-        let calls = self.calls(alloc, keeper)?;
+        let calls = calls_of(alloc, keeper, self.transcript)?;
         compare_wanted(alloc, self.keys, self.filling.change, calls.as_str())
     }
 }

@@ -20,6 +20,20 @@ impl Clock for StandingClock {
     }
 }
 
+/// A clock that can't be read.
+#[derive(Clone, Copy)]
+pub struct StoppedClock;
+
+impl Clock for StoppedClock {
+    fn monotonic(&self) -> io::Result<Duration> {
+        Err(io::Error::from(io::ErrorKind::Unsupported))
+    }
+
+    fn since_1970(&self) -> io::Result<Duration> {
+        Err(io::Error::from(io::ErrorKind::Unsupported))
+    }
+}
+
 /// A clock that moves only while one waits for a peer, or sleeps. It begins at a moment.
 #[derive(Drop)]
 pub struct MovingClock {

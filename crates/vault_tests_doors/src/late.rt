@@ -1,14 +1,14 @@
 //! Requests that come slowly or not at all, answers that are taken slowly or not at all, and what comes after an
 //! answer: how long one waits for each.
-use crate::loopback::serve_connections;
 use std::alloc::Global;
 use std::cell::Cell;
 use std::io;
 use std::test::Fail;
 use std::time::Duration;
 use vault_core_model::keeper::Keeper;
-use vault_tests_doors::clocks::MovingClock;
-use vault_tests_doors::slow::{Part, SlowPeer, SlowPeers};
+use vault_tests_peers::clocks::MovingClock;
+use vault_tests_peers::loopback::serve_connections;
+use vault_tests_peers::slow::{Part, SlowPeer, SlowPeers};
 use vault_transcript::transcript::opened;
 use vaultctl_serve::lingering::linger;
 

@@ -3,7 +3,7 @@ use Rattle.std.specs.Prelude.{ℤ, List, map, Option, Some, None}
 use Rattle.vault_base.specs.Days.{moment_at}
 use Rattle.vaultctl_serve.specs.InTime.{Due}
 use Rattle.vaultctl_serve.specs.Serving.{Missed, Taken, Try}
-use Rattle.vault_tests_doors.specs.declared.known.KnownByte.{KnownByte}
+use Rattle.vault_tests_peers.specs.declared.known.KnownByte.{KnownByte}
 
 abbrev pub due_of : KnownByte → Due
 due_of b = record { at = b.at; byte = b.byte }

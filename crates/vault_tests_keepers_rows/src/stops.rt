@@ -1,11 +1,5 @@
-//! Runs that a failing device stops after each change of their plan in turn, and a move that it stops, each given
-//! again, over the list and over tables in memory.
-use crate::over_keepers::{KeeperTrial, failed_so_often, try_over_both, unfailing};
-use std::alloc::Global;
-use std::test::Fail;
-use vault_core::fuse_keeper::FuseKeeper;
-use vault_core_model::keeper::Keeper;
-use vault_transcript::transcript::{OPENING, play};
+//! Runs that a failing device stops after each change of their plan in turn, and a move that it stops, each given again, as
+//! transcripts.
 
 /// A run over a device that refuses the change after n.
 #[derive(Clone, Copy)]
@@ -21,52 +15,6 @@ pub struct Stopped<'a> {
     pub faults: u64,
 }
 
-fn play_before<K: Keeper>(
-    alloc: Global,
-    keeper: &mut K,
-    stopped: &Stopped<'_>,
-) -> Result<(), Fail> {
-    play(alloc, keeper, OPENING)?;
-    play(alloc, keeper, stopped.before)
-}
-
-fn play_runs<K: Keeper>(alloc: Global, keeper: &mut K, stopped: &Stopped<'_>) -> Result<(), Fail> {
-    play(alloc, keeper, stopped.runs)?;
-    failed_so_often(keeper, stopped.faults)
-}
-
-/// Carries it out over a keeper, and hands that one back.
-fn stop<K: Keeper>(
-    alloc: Global,
-    keeper: FuseKeeper<K>,
-    stopped: &Stopped<'_>,
-) -> (Result<(), Fail>, FuseKeeper<K>) {
-    let mut keeper = keeper;
-    match play_before(alloc, &mut keeper, stopped) {
-        Ok(()) => {
-            let mut failing = FuseKeeper::new(keeper.into_keeper(), stopped.changes);
-            let stated = play_runs(alloc, &mut failing, stopped);
-            (stated, unfailing(failing.into_keeper()))
-        }
-        Err(fail) => (Err(fail), keeper),
-    }
-}
-
-impl KeeperTrial for Stopped<'_> {
-    fn carry_out_over<K: Keeper>(
-        &self,
-        alloc: Global,
-        keeper: FuseKeeper<K>,
-    ) -> (Result<(), Fail>, FuseKeeper<K>) {
-        let (stated, keeper) = stop(alloc, keeper, self);
-        let mut keeper = keeper;
-        match stated {
-            Ok(()) => (play(alloc, &mut keeper, self.after), keeper),
-            Err(fail) => (Err(fail), keeper),
-        }
-    }
-}
-
 /// A plan of two changes: a marker on top of version 2, then the removal of version 1.
 const ONE_KEY: &str = r#"
 {"at":"2014-01-01T00:00:00Z","as":"ann","do":"set-rules","bucket":"docs","rules":[{"ID":"r1","Status":"Enabled","Expiration":{"Days":1},"NoncurrentVersionExpiration":{"NoncurrentDays":1,"NewerNoncurrentVersions":1}}]}
@@ -78,7 +26,7 @@ const ONE_KEY: &str = r#"
 "#;
 
 /// The second run makes the change that the first one didn't; the vault is that of a run that nothing stopped.
-const ONE_KEY_STOPS: [Stopped<'static>; 1] = [Stopped {
+pub const ONE_KEY_STOPS: [Stopped<'static>; 1] = [Stopped {
     before: ONE_KEY,
     changes: 1,
     runs: r#"
@@ -121,7 +69,7 @@ const TWO_KEYS_AFTER: &str = r#"
   {"ok":{"admitted":4,"at":"2024-03-03T00:00:00Z","byte_days":8,"dept":"records","handed":0,"held":2,"received":0,"removed":2}}
 "#;
 
-const TWO_KEYS_STOPS: [Stopped<'static>; 4] = [
+pub const TWO_KEYS_STOPS: [Stopped<'static>; 4] = [
     // At once.
     Stopped {
         before: TWO_KEYS,
@@ -214,7 +162,7 @@ const MOVED_AFTER: &str = r#"
   {"ok":{"admitted":0,"at":"2024-03-04T00:00:00Z","byte_days":6,"dept":"court","handed":0,"held":2,"received":4,"removed":2}}
 "#;
 
-const MOVED_STOPS: [Stopped<'static>; 4] = [
+pub const MOVED_STOPS: [Stopped<'static>; 4] = [
     // At once.
     Stopped {
         before: MOVED,
@@ -270,7 +218,7 @@ const MOVED_STOPS: [Stopped<'static>; 4] = [
 ];
 
 /// A device that refuses the move itself leaves the bucket whose it was; the same line given again moves it.
-const MOVE_STOPS: [Stopped<'static>; 1] = [Stopped {
+pub const MOVE_STOPS: [Stopped<'static>; 1] = [Stopped {
     before: r#"
 {"at":"2014-01-01T00:00:00Z","as":"registrar","do":"add-dept","dept":"court"}
   {"ok":{}}
@@ -329,7 +277,7 @@ const LONE_AFTER: &str = r#"
   {"ok":{"version_id":6}}
 "#;
 
-const LONE_STOPS: [Stopped<'static>; 5] = [
+pub const LONE_STOPS: [Stopped<'static>; 5] = [
     // At once: nothing was made, so the clock stands still.
     Stopped {
         before: LONE,
@@ -404,21 +352,3 @@ const LONE_STOPS: [Stopped<'static>; 5] = [
         faults: 0,
     },
 ];
-
-/// Carries each out on a new vault in a list, and on one in tables in memory.
-fn stop_over_both(alloc: Global, all: &[Stopped<'_>]) -> Result<(), Fail> {
-    for stopped in all {
-        try_over_both(alloc, stopped)?;
-    }
-    Ok(())
-}
-
-#[test]
-fn what_is_stopped_is_given_again(rt: HostRuntime) -> Result<(), Fail> {
-    let alloc = rt.alloc();
-    stop_over_both(alloc, &ONE_KEY_STOPS)?;
-    stop_over_both(alloc, &TWO_KEYS_STOPS)?;
-    stop_over_both(alloc, &LONE_STOPS)?;
-    stop_over_both(alloc, &MOVED_STOPS)?;
-    stop_over_both(alloc, &MOVE_STOPS)
-}

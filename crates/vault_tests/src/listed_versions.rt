@@ -3,7 +3,7 @@
 use std::alloc::Global;
 use std::test::Fail;
 use vault_core_model::keeper::Keeper;
-use vault_tests_doubles::watched_keeper::WatchedKeeper;
+use vault_tests_doubles::watched_keeper::calls_of;
 use vault_transcript::transcript::play;
 use vault_transcript::trial::{Trial, compare, try_on_new};
 
@@ -25,20 +25,12 @@ fn put_version<K: Keeper>(alloc: Global, keeper: &mut K, id: u32) -> Result<(), 
     play(alloc, keeper, lines.as_str())
 }
 
-impl Listing {
-    fn calls<K: Keeper>(&self, alloc: Global, keeper: &mut K) -> Result<String, Fail> {
-        let mut watched = WatchedKeeper::new(alloc, keeper, u64::MAX);
-        play(alloc, &mut watched, self.transcript)?;
-        Ok(watched.into_calls())
-    }
-}
-
 impl Trial for Listing {
     fn carry_out<K: Keeper>(&self, alloc: Global, keeper: &mut K) -> Result<(), Fail> {
         for id in 1..=self.versions {
             put_version(alloc, keeper, id)?;
         }
-        let calls = self.calls(alloc, keeper)?;
+        let calls = calls_of(alloc, keeper, self.transcript)?;
         compare("the calls", calls.as_str(), self.calls)
     }
 }

@@ -1,7 +1,7 @@
 use Rattle.std.proofs.Common.{◌+◌, arith}
 use Rattle.std.specs.Duration.{as_nanos}
-use Rattle.vault_tests_doors.proofs.KnownLemmas.{comes-one}
-use Rattle.vault_tests_doors.proofs.known.KnownRequestInbound.read_within.Goals as goal
+use Rattle.vault_tests_peers.proofs.KnownLemmas.{comes-one}
+use Rattle.vault_tests_peers.proofs.known.KnownRequestInbound.read_within.Goals as goal
 
 -- the byte at hand came in the time that was given
 pub returns-clause-bytes : goal.returns-clause-bytes

@@ -1,13 +1,13 @@
 //! 1,000 peers of each kind in turn that are gone when they are served, and then a request that is answered.
-use crate::loopback::{send, serve_connections};
-use crate::peers::{GonePeers, answered};
 use std::alloc::Global;
 use std::cell::Cell;
 use std::io;
 use std::net::{Ipv4Addr, Net, TcpListener, TcpStream};
 use std::test::Fail;
 use vault_core_model::keeper::Keeper;
-use vault_tests_doors::clocks::StandingClock;
+use vault_tests_peers::clocks::StandingClock;
+use vault_tests_peers::gone::{GonePeers, answered};
+use vault_tests_peers::loopback::{send, serve_connections};
 use vault_transcript::transcript::opened;
 
 const COUNT: u32 = 1_000;

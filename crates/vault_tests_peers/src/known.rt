@@ -2,7 +2,7 @@
 ghost use Rattle.std.specs.Prelude.{◌≤◌, Some};
 ghost use Rattle.std.specs.Duration.{as_nanos};
 ghost use Rattle.vault_base.specs.Days.{moment_at};
-ghost use Rattle.vault_tests_doors.specs.Known.{dues_of, tries_of};
+ghost use Rattle.vault_tests_peers.specs.Known.{dues_of, tries_of};
 
 use std::io;
 use std::time::Duration;

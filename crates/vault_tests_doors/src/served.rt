@@ -1,13 +1,14 @@
 //! Requests over loopback, with their answers byte for byte.
-use crate::loopback::{Failing, Loopback, answered, send, serve_connections, serve_port};
-use crate::peers::StoppedClock;
 use std::cell::Cell;
 use std::io;
 use std::net::{Ipv4Addr, TcpListener};
 use std::test::Fail;
 use vault_base::moment::Moment;
 use vault_core::fuse_keeper::FuseKeeper;
-use vault_tests_doors::clocks::{READING, StandingClock};
+use vault_tests_peers::clocks::{READING, StandingClock, StoppedClock};
+use vault_tests_peers::loopback::{
+    Failing, Loopback, answered, send, serve_connections, serve_port,
+};
 use vault_transcript::transcript::opened;
 use vaultctl_serve::PortFault;
 use vaultctl_serve::clock::now;

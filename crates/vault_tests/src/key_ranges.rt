@@ -1,11 +1,10 @@
 //! What runs and listings ask of their keeper where prefixes say which keys are meant: none is read before them, and
 //! none between two of them.
-use crate::pages::{FILLINGS, fill};
 use std::alloc::Global;
 use std::test::Fail;
 use vault_core_model::keeper::Keeper;
-use vault_tests_doubles::watched_keeper::WatchedKeeper;
-use vault_transcript::transcript::play;
+use vault_tests_doubles::fillings::{FILLINGS, fill};
+use vault_tests_doubles::watched_keeper::calls_of;
 use vault_transcript::trial::{Trial, compare, try_after};
 
 /// The keys are `k1001` to `k1600`, each with one version.
@@ -18,19 +17,11 @@ struct Asked {
     calls: &'static str,
 }
 
-impl Asked {
-    fn calls<K: Keeper>(&self, alloc: Global, keeper: &mut K) -> Result<String, Fail> {
-        let mut watched = WatchedKeeper::new(alloc, keeper, u64::MAX);
-        play(alloc, &mut watched, self.transcript)?;
-        Ok(watched.into_calls())
-    }
-}
-
 impl Trial for Asked {
     fn carry_out<K: Keeper>(&self, alloc: Global, keeper: &mut K) -> Result<(), Fail> {
         let filling = FILLINGS.first().ok_or("a filling")?;
         fill(alloc, keeper, filling, KEYS)?;
-        let calls = self.calls(alloc, keeper)?;
+        let calls = calls_of(alloc, keeper, self.transcript)?;
         compare("the calls", calls.as_str(), self.calls)
     }
 }

@@ -1,9 +1,9 @@
 //! Each of a vault's two files fails after each number of calls in turn.
-use crate::trial::{Stops, prepare, stop_after_each, syncs_on};
 use std::alloc::Global;
 use std::test::Fail;
 use vault_failing::device::{TornWrites, Which};
-use vault_tests_stops_days::day::{Day, day_of_one_put_more, day_of_puts, first_day, later_day};
+use vault_tests_stops::day::{Day, day_of_one_put_more, day_of_puts, first_day, later_day};
+use vault_tests_stops::trial::{Stops, prepare, stop_after_each, syncs_on};
 
 /// More calls than a day makes of a file.
 const MOST_CALLS: u64 = 10_000;

@@ -5,21 +5,6 @@ use std::io;
 use std::io::Write;
 use std::net::{Net, OpenListener, SocketAddr, TcpListener, TcpStream};
 use std::test::Fail;
-use std::time::{Clock, Duration};
-
-/// A clock that can't be read.
-#[derive(Clone, Copy)]
-pub struct StoppedClock;
-
-impl Clock for StoppedClock {
-    fn monotonic(&self) -> io::Result<Duration> {
-        Err(io::Error::from(io::ErrorKind::Unsupported))
-    }
-
-    fn since_1970(&self) -> io::Result<Duration> {
-        Err(io::Error::from(io::ErrorKind::Unsupported))
-    }
-}
 
 /// A listener each of whose connections comes from a peer that has sent these bytes and closed.
 #[derive(Drop)]

@@ -3,8 +3,8 @@ use Rattle.std.proofs.Common.{◌≡◌, ℕ, List, [], ◌∷◌, ◌++◌, ◌
 use Rattle.std.proofs.lemmas.List.Elements.{All-cons, All-nil}
 use Rattle.std.specs.List.{IsFirstAndRest}
 use Rattle.vaultctl_serve.specs.InTime.{Due, bytes_of}
-use Rattle.vault_tests_doors.specs.Known.{due_of, dues_of}
-use Rattle.vault_tests_doors.specs.declared.known.KnownByte.{KnownByte}
+use Rattle.vault_tests_peers.specs.Known.{due_of, dues_of}
+use Rattle.vault_tests_peers.specs.declared.known.KnownByte.{KnownByte}
 
 -- the byte that was put to the front of a buffer with room
 set-first : (byte : ℕ) (buf : List ℕ) → 0 < length buf → (byte ∷ []) ≡ take 1 (slice_set buf 0 byte)
