@@ -442,17 +442,18 @@ class Copies:
         is_refused = done[:2] == (1, "") and done.err.startswith("migrate: Device\n")
         self.assertTrue(is_refused and not self.has("new") and not self.has("new-wal"), f"{where}: {done}")
 
-    def look_fails(self, call, number, whole):
-        """Makes that call on the copy fail. Returns whether there was such a call. A copy that is reported as made is there. Of
-        any other no table is left, and the same words make it; where its files couldn't be opened, they may be there, and empty."""
+    def look_fails(self, call, when, whole):
+        """Makes calls on the copy fail: `3` is the third one, `3+` the third one and all later ones. Returns whether there was
+        such a call. A copy that is reported as made is there. Any other is made by the same words. Of that no table is left, and
+        where its files couldn't be opened, they may be there, and empty; but a device that goes on failing may keep a part."""
         made, taken = Ran(0, "migrated\n", ""), Ran(1, "", f"{TAKEN}\n")
         words = ["migrate", f"{self.folder}/old", f"{self.folder}/new"]
-        done, has_failed = injected(self.folder, ["new"], {call: f"error=EIO:when={number}"}, *words)
-        where = f"{call} {number} on the copy fails"
+        done, has_failed = injected(self.folder, ["new"], {call: f"error=EIO:when={when}"}, *words)
+        where = f"{call} {when} on the copy fails"
         if done != made:
             self.assertTrue(done[:2] == (1, "") and done.err.startswith("migrate: Device\n"), f"{where}: {done}")
             left = [(self.folder / f"new{end}").stat().st_size for end in ("", "-wal") if self.has(f"new{end}")]
-            self.assertFalse(any(left), f"{where}, and {left} is left")
+            self.assertFalse(any(left) and not when.endswith("+"), f"{where}, and {left} is left")
         self.keeps_old(where)
         self.assertEqual(self.ran("migrate", "old", "new"), taken if done == made else made, where)
         if self.read("new") != whole:
@@ -492,13 +493,13 @@ class Schema1(Copies, Case):
 
     @needs_strace
     def test_each_look(self):
-        """Each call by which the files of a copy are looked at, opened, read or kept fails once. Of a copy from either schema they
-        are the same."""
+        """Each call by which the files of a copy are looked at, opened, read or kept fails, once and from then on. Of a copy from
+        either schema they are the same."""
         self.answers(["migrate", "old", "new"], "migrated\n")
         whole = self.read("new")
         self.remove()
-        for call in LOOKING:
-            failing = itertools.takewhile(lambda number: self.look_fails(call, number, whole), itertools.count(1))
+        for call, later in itertools.product(LOOKING, ("", "+")):
+            failing = itertools.takewhile(lambda number: self.look_fails(call, f"{number}{later}", whole), itertools.count(1))
             self.assertTrue(sum(1 for _ in failing), f"a copy makes no call of {call}")
 
 
