@@ -444,8 +444,8 @@ class Copies:
 
     def look_fails(self, call, when, whole):
         """Makes calls on the copy fail: `3` is the third one, `3+` the third one and all later ones. Returns whether there was
-        such a call. A copy that is reported as made is there. Any other is made by the same words. Of that no table is left, and
-        where its files couldn't be opened, they may be there, and empty; but a device that goes on failing may keep a part."""
+        such a call. A copy that is reported as made is there. Any other is made by the same words. No page of that is left: where
+        its files couldn't be opened, they may be there, and empty; a device that goes on failing may keep what a log begins with."""
         made, taken = Ran(0, "migrated\n", ""), Ran(1, "", f"{TAKEN}\n")
         words = ["migrate", f"{self.folder}/old", f"{self.folder}/new"]
         done, has_failed = injected(self.folder, ["new"], {call: f"error=EIO:when={when}"}, *words)
@@ -453,7 +453,7 @@ class Copies:
         if done != made:
             self.assertTrue(done[:2] == (1, "") and done.err.startswith("migrate: Device\n"), f"{where}: {done}")
             left = [(self.folder / f"new{end}").stat().st_size for end in ("", "-wal") if self.has(f"new{end}")]
-            self.assertFalse(any(left) and not when.endswith("+"), f"{where}, and {left} is left")
+            self.assertLessEqual(sum(left), 41 if when.endswith("+") else 0, f"{where}, and {left} is left")
         self.keeps_old(where)
         self.assertEqual(self.ran("migrate", "old", "new"), taken if done == made else made, where)
         if self.read("new") != whole:
