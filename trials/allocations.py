@@ -319,6 +319,7 @@ def judge_job(name: str, before: Tables, whole: tuple[Ran, Tables], here: tuple[
     check(ran.status == 1, "its status")
     if ran.out in (f"{MEMORY}\n", "stopped Memory\n"):
         check(left == before, "it was refused, and changed something")
+        check(MEMORY in ran.out or "intake: memory ran out; given again, the same intake goes on" in ran.err, "its words")
         return "refused"
     if STOPPED.fullmatch(ran.out.strip()):
         return "stopped"

@@ -64,6 +64,9 @@ PORT = (
     "the port can't be had: another program has it, or it isn't for this user, as those below 1024: end that program,"
     " or take another port from 1024 on\n"
 )
+TOO_LONG = "list: it has more than 16777216 bytes; cut it into lists, each with a batch of its own"
+STOPPED = "intake: the vault's file failed; given again, the same intake goes on"
+LONGEST_LIST = 16_777_216
 DONE = '{"ok":{}}\n'
 # What the names of faults mean, which stands below them.
 MEANT = {
@@ -508,6 +511,27 @@ class WithVault(Vaulted):
             self.assertIn("Device", ran.out + ran.err, f"{where}, the answer is {ran}")
             self.assertTrue(is_taken(again) or again.out == DONE, f"{where}, the answer after it is {again}")
         return ran.status
+
+    def test_long_list(self):
+        """A list of more bytes than one may have is refused whole; one of as many bytes is taken in."""
+        row = b"file,key,mode,until,hold\nlist.csv,b,,,\n"
+        for length, status, out, said in (
+            (LONGEST_LIST, 0, "1 admitted 2\n", ""),
+            (LONGEST_LIST + 1, 1, "stopped EntityTooLarge\n", f"{TOO_LONG}\n"),
+        ):
+            (self.folder / "long.csv").write_bytes(row.ljust(length, b"\n"))
+            words = ["intake", "v", "docs", f"of-{length}", "long.csv", ".", "--as", "ann", *AT]
+            self.assertEqual(self.ran(*words), Ran(status, out, said), f"a list of {length} bytes")
+
+    @needs_strace
+    def test_stopped_intake(self):
+        """An intake that the vault's file stops says so, and goes on where it is given again."""
+        (self.folder / "list.csv").write_text("file,key,mode,until,hold\n" + "list.csv,b,,,\n" * 3)
+        words = ["intake", "v", "docs", "rows", "list.csv", ".", "--as", "ann", *AT]
+        found = (injected(self.folder, ["v"], {"fdatasync": f"error=EIO:when={it}+"}, *words)[0] for it in itertools.count(1))
+        stopped = next(it for it in found if "stopped" in it.out)
+        self.assertEqual(stopped, Ran(1, "stopped Device\n", f"{STOPPED}\n"))
+        self.answers(self.ran(*words), "1 admitted 2\n2 admitted 3\n3 admitted 4\n")
 
     @needs_strace
     def test_each_call(self):

@@ -4,6 +4,7 @@ Each test has a vault, and a copy of it from before its server started. What the
 the copy by `replay`; then both have the same rows in each table and the same seal:
 
   - after mixed commands at both doors, also refused ones and such that change nothing
+  - after a request of each kind that changes a vault
   - while the server goes on, behind `tail -F`; and where the copy's program is killed, by a copy that is made anew
   - after kills of the server: before writes of the journal, when the vault may have one change more, which is the one that
     wasn't answered; and at any moment, when it may also have a part of a lifecycle run
@@ -40,6 +41,26 @@ RULE = {"ID": "old", "Status": "Enabled", "Prefix": "2024/", "Expiration": {"Day
 OLD = [f"2024/{number:02}" for number in range(12)]
 # Commands that change a vault wherever they are done.
 CHANGES = ("put", "delete", "delete-version", "set-hold", "set-retention", "set-default", "set-rules", "drop-rules", "move-bucket")
+UNTIL, BYPASS = "2040-01-01T00:00:00Z", {"x_amz_bypass_governance_retention": "true"}
+LOCK = {"x_amz_object_lock_mode": "GOVERNANCE", "x_amz_object_lock_retain_until_date": UNTIL}
+# Requests of each kind that changes a vault, of which the first makes the version 25: method, target, body and headers.
+REQUESTS: list[tuple[str, str, Any, dict[str, str]]] = [
+    ("PUT", "/docs/a", "kept", LOCK),
+    ("PUT", "/docs/b", "held", {"x_amz_object_lock_legal_hold": "ON"}),
+    ("PUT", "/docs/a?retention", {"mode": "GOVERNANCE", "until": "2041-01-01T00:00:00Z"}, {}),
+    ("PUT", "/docs/a?retention&versionId=25", {"mode": "GOVERNANCE", "until": "2042-01-01T00:00:00Z"}, {}),
+    ("PUT", "/docs/a?retention&versionId=25", {"mode": "GOVERNANCE", "until": UNTIL}, BYPASS),
+    ("PUT", "/docs/b?legal-hold", {"hold": "OFF"}, {}),
+    ("PUT", "/docs/b?legal-hold&versionId=26", {"hold": "ON"}, {}),
+    ("DELETE", "/docs/b", None, {}),
+    ("DELETE", "/docs/b?versionId=27", None, {}),
+    ("DELETE", "/docs/a?versionId=25", None, BYPASS),
+    ("PUT", "/docs?object-lock", {"mode": "GOVERNANCE", "days": 3}, {}),
+    ("PUT", "/docs?object-lock", {"mode": "COMPLIANCE", "years": 1}, {}),
+    ("PUT", "/docs?object-lock", {}, {}),
+    ("PUT", "/docs?lifecycle", {"rules": [{**RULE, "Prefix": "2023/"}]}, {}),
+    ("DELETE", "/docs?lifecycle", None, {}),
+]
 
 
 class Server:
@@ -61,9 +82,9 @@ class Server:
         """The reply to a line; None where the server ends before it answers."""
         return reply_to(self.where, {"as": who, "do": do, **members})
 
-    def request(self, method: str, target: str, content: str | None = None) -> int | None:
+    def request(self, method: str, target: str, content: str | None = None, **headers: str) -> int | None:
         """The status of the answer to a request; None where the server ends before it answers."""
-        return status_of(self.port, method, target, content)
+        return status_of(self.port, method, target, content, {it.replace("_", "-"): text for it, text in headers.items()})
 
     def ended(self) -> int:
         """The status with which it ends by itself."""
@@ -227,6 +248,17 @@ class Commands(Both):
         self.are_equal(copy)
         self.are_equal(self.carried_out(server.journal))
         self.assertEqual(stat.S_IMODE(server.journal.stat().st_mode), 0o600)
+
+    def test_each_request(self) -> None:
+        """Each kind of request that changes the vault has a line in the journal, which does the same."""
+        server = self.serve()
+        for count, (method, target, body, headers) in enumerate(REQUESTS, 1):
+            content = json.dumps(body) if isinstance(body, dict) else body
+            status = server.request(method, target, content, **headers)
+            self.assertEqual(status, 200 if method == "PUT" else 204, (method, target))
+            self.assertEqual(server.journal.read_text().count("\n"), count, (method, target))
+        server.close()
+        self.are_equal(self.carried_out(server.journal))
 
     def test_the_copy_is_killed(self) -> None:
         """Where the program of the copy is killed, a copy that is made anew gets all lines once more."""

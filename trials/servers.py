@@ -10,7 +10,7 @@ import socket
 import struct
 import subprocess
 import time
-from typing import Any, Iterator
+from typing import Any, Iterator, Mapping
 
 from trials import program
 from trials.program import PROGRAM, check
@@ -128,10 +128,12 @@ def reply_to(where: pathlib.Path, line: dict[str, Any]) -> Any:
     return json.loads(found) if found.endswith(b"\n") else None
 
 
-def status_of(port: int, method: str, target: str, content: str | None = None) -> int | None:
+def status_of(
+    port: int, method: str, target: str, content: str | None = None, headers: Mapping[str, str] | None = None,
+) -> int | None:
     """The status of the answer to a request by `ann`; None where the server ends before it answers."""
     peer = http.client.HTTPConnection(HOST, port, timeout=LIMIT)
     with contextlib.closing(peer), contextlib.suppress(ConnectionError, http.client.HTTPException):
-        peer.request(method, target, content, {"x-vault-caller": "ann"})
+        peer.request(method, target, content, {"x-vault-caller": "ann", **(headers or {})})
         return peer.getresponse().status
     return None
