@@ -22,10 +22,10 @@ def first_number(holds: Callable[[int], bool], below: int = 0) -> int:
 
 
 class Loaded:
-    """A proved program of which one call fails, by a library that is loaded into it: `refused_allocation` refuses an
-    allocation, and `failed_reading` makes a reading of the monotonic clock fail.
+    """A proved program whose calls a library answers that is loaded into it: `refused_allocation` refuses an allocation,
+    `failed_reading` makes a reading of the monotonic clock fail, and `small_buffers` gives connections little room.
 
-    The program isn't altered: the library answers its calls. It is compiled with `CC` or `cc` into the folder."""
+    The program isn't altered. The library is compiled with `CC` or `cc` into the folder."""
 
     def __init__(self, program: str | pathlib.Path, folder: str | pathlib.Path, what: str = "refused_allocation") -> None:
         self.program = pathlib.Path(program).resolve()
@@ -35,7 +35,7 @@ class Loaded:
         subprocess.run(words, check=True)
 
     def front(self, number: int) -> list[str]:
-        """The words in front of the program by which the call of that number fails; by 0 none does."""
+        """The words in front of the program by which the call of that number fails, if calls do; by 0 none does."""
         return ["/usr/bin/env", f"LD_PRELOAD={self.library}", f"{self.what.upper()}={number}"]
 
     @contextlib.contextmanager

@@ -14,6 +14,9 @@ MOST_NESTED = 126
 MOST_LISTED = 1_000
 DONE = {"ok": {}}
 MALFORMED = {"error": {"code": "MalformedBody", "n": 12}}
+INVALID = {"error": {"code": "InvalidArgument", "n": 10}}
+# How many rules a bucket has at most.
+MOST_RULES = 1_000
 
 
 def text_of(asked_or_told):
@@ -156,18 +159,38 @@ def deep_lines():
     return "".join(it for it, _ in asked), "".join(text_of(reply) for _, reply in asked)
 
 
+def limits_in_words():
+    """Lines at a limit and beyond it that are refused, with the words for each: what is at the limit has another fault."""
+    rule = {"ID": "r", "Status": "Enabled", "Expiration": {"Days": 1}}
+    rules = [{**rule, "ID": f"r{number}"} for number in range(MOST_RULES + 1)]
+    without = [*rules[:MOST_RULES - 1], {"ID": "last", "Status": "Enabled"}]
+    ends = "no JSON: the line ends within its object, and each line has a whole object, as "
+    example = line("2024-01-15T10:30:00Z", "ann", "get", bucket="docs", key="2024/a")
+    asked = [
+        (text_of(line(OPENING_AT, "ann", "set-rules", bucket="docs", rules=without)), INVALID,
+         'rule 1000: the rule has no action, as "Expiration":{"Days":30}\n'),
+        (text_of(line(OPENING_AT, "ann", "set-rules", bucket="docs", rules=rules)), INVALID,
+         '"rules" has more than 1,000 rules\n'),
+        ("{".ljust(MOST_LINE) + "\n", MALFORMED, ends + text_of(example)),
+        ("{".ljust(MOST_LINE + 1) + "\n", MALFORMED, "the line has more than 4,194,304 bytes\n"),
+    ]
+    words = [f"line {number}: {text}" for number, (_, _, text) in enumerate(asked, 1)]
+    return *map("".join, zip(*((it, text_of(reply)) for it, reply, _ in asked))), "".join(words)
+
+
 def long_rows():
-    """The name, the script and the replies of each."""
+    """The name, the script and the replies of each, and what is on standard error where that is wanted."""
     taken = {"error": {"code": "NameTaken", "n": 9}}
     of_lines = {
         "lines-longest": long_line(MOST_LINE, [DONE, taken]),
         "lines-too-long": long_line(MOST_LINE + 1, [MALFORMED, DONE]),
         "lines-deep": deep_lines(),
+        "lines-refused-in-words-at-limits": limits_in_words(),
     }
     of_pairs = {"content-longest": content(), "run-by-bounds-of-longest": bounds()}
     for count, (name, made) in itertools.product((3, 256, 257, 600), (("marked", marked), ("removed", removed))):
         of_pairs[f"run-{count}-keys-{name}"] = made(count)
     for name, pairs in of_pairs.items():
         of_lines[name] = ["".join(map(text_of, it)) for it in zip(*pairs)]
-    for name, (script, replies) in of_lines.items():
-        yield name, script.encode(), replies.encode()
+    for name, (script, replies, *words) in of_lines.items():
+        yield name, script.encode(), replies.encode(), words[0].encode() if words else None

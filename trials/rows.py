@@ -137,7 +137,7 @@ def tells_of_fault(reply):
 @functools.cache
 def rows():
     """All rows, by name."""
-    found = {name: Row(name, script, replies) for name, script, replies in long_rows()}
+    found = {name: Row(name, script, replies, words=words) for name, script, replies, words in long_rows()}
     for folder in (EXAMPLES / "rows", EXAMPLES):
         for path in folder.glob("*.jsonl"):
             more = (it.read_bytes() if it.exists() else None for it in map(path.with_suffix, (".csv", ".err")))

@@ -10,7 +10,7 @@ import socket
 import struct
 import subprocess
 import time
-from typing import Any, Iterator, Mapping
+from typing import Any, Iterable, Iterator, Mapping
 
 from trials import program
 from trials.program import PROGRAM, check
@@ -45,9 +45,12 @@ def wait_for(port: int) -> None:
     check(False, f"nothing listens at port {port}")
 
 
-def started(file: File, port: int, *words: str, folder: pathlib.Path | None = None) -> subprocess.Popen[bytes]:
-    """A server of a vault, once it says that it listens; it says nothing else. Whoever asks for it ends it."""
-    asked = [PROGRAM, "serve", file, str(port), *words]
+def started(
+    file: File, port: int, *words: str, folder: pathlib.Path | None = None, front: Iterable[str] = (),
+) -> subprocess.Popen[bytes]:
+    """A server of a vault, once it says that it listens; it says nothing else. Whoever asks for it ends it. `front` are
+    words before its own."""
+    asked = [*front, PROGRAM, "serve", file, str(port), *words]
     server = subprocess.Popen(asked, cwd=folder, stdout=subprocess.DEVNULL, stderr=subprocess.PIPE)
     wanted, said = f"serving {file} at {HOST}:{port}\n".encode(), b""
     end = time.monotonic() + LIMIT

@@ -39,6 +39,8 @@ PAUSE = 1.2
 SLOW_READ = f"inject=pread64:delay_enter={round(PAUSE * 1_000_000)}:when=3"
 # The bytes of a content, and how many the store can't all hold in memory.
 LARGE, MANY = 1 << 20, 4
+# A read of an opening after more than a MiB was read of such contents.
+LATE = 3_000
 
 
 def jobs(name):
@@ -153,12 +155,31 @@ class Openings(Case):
     def test_migrate(self) -> None:
         self.assertEqual(self.shows_it("earlier.vault", "migrate", "earlier.vault", "new"), "migrated\n")
 
-    def test_once_it_is_open(self) -> None:
-        """A server has its vault open: what it reads then is no opening, however late that is."""
+    def with_contents(self) -> dict[str, bytes]:
+        """Puts large contents into the vault, which are returned by their keys."""
         contents = {f"large-{n}": os.urandom(LARGE) for n in range(MANY)}
         with serving("it.vault", "--count", str(MANY), folder=self.folder) as port:
             for key, content in contents.items():
                 asked(port, key, content)
+        return contents
+
+    def test_numbers(self) -> None:
+        """A line says how many MiB of the file were read by then, and how many it has."""
+        self.with_contents()
+        file, trace = self.folder / "it.vault", self.folder / "trace"
+        late = f"inject=pread64:delay_enter={round(PAUSE * 1_000_000)}:when={LATE}"
+        front = ["strace", "-qq", "-o", str(trace), "-P", str(file), "-e", "trace=pread64", "-e", late]
+        said, _ = on_terminal(["verify", "it.vault"], self.folder, front=front)
+        reads = trace.read_text().splitlines()
+        self.assertIn("(DELAYED)", reads[LATE - 1])
+        read = sum(int(it.removesuffix(" (DELAYED)").rpartition(" = ")[2]) for it in reads[:LATE])
+        mebibytes = [it >> 20 for it in (read, file.stat().st_size)]
+        self.assertGreater(min(mebibytes), 0, mebibytes)
+        self.assertIn("opening: {} MiB read, of a file of {} MiB".format(*mebibytes), said.splitlines())
+
+    def test_once_it_is_open(self) -> None:
+        """A server has its vault open: what it reads then is no opening, however late that is."""
+        contents = self.with_contents()
         (ours, theirs), port, said = pty.openpty(), free_port(), b""
         words = ["serve", "it.vault", str(port), "--count", str(MANY)]
         with subprocess.Popen([PROGRAM, *words], cwd=self.folder, stderr=theirs) as server:
