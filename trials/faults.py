@@ -66,6 +66,7 @@ PORT = (
 )
 TOO_LONG = "list: it has more than 16777216 bytes; cut it into lists, each with a batch of its own"
 STOPPED = "intake: the vault's file failed; given again, the same intake goes on"
+MODES = "GOVERNANCE or COMPLIANCE, in capitals, or empty"
 LONGEST_LIST = 16_777_216
 DONE = '{"ok":{}}\n'
 # What the names of faults mean, which stands below them.
@@ -523,6 +524,18 @@ class WithVault(Vaulted):
             words = ["intake", "v", "docs", f"of-{length}", "long.csv", ".", "--as", "ann", *AT]
             self.assertEqual(self.ran(*words), Ran(status, out, said), f"a list of {length} bytes")
 
+    def test_rows_at_limits(self):
+        """What is said of a refused row: a key or a cell at its limit is no fault, and is shown whole."""
+        cells = [("k" * 1_024, "m"), ("k" * 1_025, "m"), ("k", "m" * 255), ("k", "m" * 256)]
+        rows = [f"list.csv,{key},{mode},2040-01-01T00:00:00Z," for key, mode in cells]
+        (self.folder / "rows.csv").write_text("\n".join(["file,key,mode,until,hold", *rows, ""]))
+        ran = self.ran("intake", "v", "docs", "limits", "rows.csv", ".", "--as", "ann", *AT)
+        refused = ["InvalidArgument", "KeyTooLongError", "InvalidArgument", "InvalidArgument"]
+        self.assertEqual(ran.out.splitlines(), [f"{row} refused {name}" for row, name in enumerate(refused, 1)])
+        modes = [f"the mode is `{it}`; it has to be {MODES}" for it in ("m", "m" * 255, "m" * 255 + " ..")]
+        said = [modes[0], "the key has 1025 bytes; 1024 are allowed", *modes[1:]]
+        self.assertEqual(ran.err.splitlines(), [f"row {row}: list.csv: {it}" for row, it in enumerate(said, 1)])
+
     @needs_strace
     def test_stopped_intake(self):
         """An intake that the vault's file stops says so, and goes on where it is given again."""
@@ -626,7 +639,8 @@ class OfOthers(Vaulted):
         for it in (place, place / "v", place / "list.csv"):
             os.chown(it, NOBODY, NOBODY)
         secret = place / "scans" / "a.txt"
-        secret.write_text("x")
+        # As large as a file may be, which is no fault of it.
+        secret.write_bytes(bytes(1_048_576))
         for closed, said in (
             (secret, "row 1: a.txt: it isn't yours to read; have its owner let you, and give the same intake again\n"),
             (place / "list.csv", "list: list.csv: it isn't yours to read; have its owner let you, or give a copy\n"),

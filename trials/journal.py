@@ -41,25 +41,32 @@ RULE = {"ID": "old", "Status": "Enabled", "Prefix": "2024/", "Expiration": {"Day
 OLD = [f"2024/{number:02}" for number in range(12)]
 # Commands that change a vault wherever they are done.
 CHANGES = ("put", "delete", "delete-version", "set-hold", "set-retention", "set-default", "set-rules", "drop-rules", "move-bucket")
-UNTIL, BYPASS = "2040-01-01T00:00:00Z", {"x_amz_bypass_governance_retention": "true"}
+UNTIL, LATER, BYPASS = "2040-01-01T00:00:00Z", "2041-01-01T00:00:00Z", {"x_amz_bypass_governance_retention": "true"}
 LOCK = {"x_amz_object_lock_mode": "GOVERNANCE", "x_amz_object_lock_retain_until_date": UNTIL}
-# Requests of each kind that changes a vault, of which the first makes the version 25: method, target, body and headers.
-REQUESTS: list[tuple[str, str, Any, dict[str, str]]] = [
-    ("PUT", "/docs/a", "kept", LOCK),
-    ("PUT", "/docs/b", "held", {"x_amz_object_lock_legal_hold": "ON"}),
-    ("PUT", "/docs/a?retention", {"mode": "GOVERNANCE", "until": "2041-01-01T00:00:00Z"}, {}),
-    ("PUT", "/docs/a?retention&versionId=25", {"mode": "GOVERNANCE", "until": "2042-01-01T00:00:00Z"}, {}),
-    ("PUT", "/docs/a?retention&versionId=25", {"mode": "GOVERNANCE", "until": UNTIL}, BYPASS),
-    ("PUT", "/docs/b?legal-hold", {"hold": "OFF"}, {}),
-    ("PUT", "/docs/b?legal-hold&versionId=26", {"hold": "ON"}, {}),
-    ("DELETE", "/docs/b", None, {}),
-    ("DELETE", "/docs/b?versionId=27", None, {}),
-    ("DELETE", "/docs/a?versionId=25", None, BYPASS),
-    ("PUT", "/docs?object-lock", {"mode": "GOVERNANCE", "days": 3}, {}),
-    ("PUT", "/docs?object-lock", {"mode": "COMPLIANCE", "years": 1}, {}),
-    ("PUT", "/docs?object-lock", {}, {}),
-    ("PUT", "/docs?lifecycle", {"rules": [{**RULE, "Prefix": "2023/"}]}, {}),
-    ("DELETE", "/docs?lifecycle", None, {}),
+BOUNDED = {**RULE, "Prefix": "2023/", "ObjectSizeGreaterThan": 10, "ObjectSizeLessThan": 1_000}
+MARKERS = {"ID": "markers", "Status": "Disabled", "Expiration": {"ExpiredObjectDeleteMarker": True}}
+# Requests of each kind that changes a vault: method, target, body and headers, and what its line in the journal has beside
+# its caller, its moment and its bucket. The first makes the version 25.
+REQUESTS: list[tuple[str, str, Any, dict[str, str], dict[str, Any]]] = [
+    ("PUT", "/docs/a", "kept", LOCK, {"do": "put", "key": "a", "hex": b"kept".hex(), "mode": "GOVERNANCE", "until": UNTIL}),
+    ("PUT", "/docs/a", "held", {"x_amz_object_lock_legal_hold": "ON"}, {"do": "put", "key": "a", "hex": b"held".hex(), "hold": "ON"}),
+    ("PUT", "/docs/a?retention", {"mode": "GOVERNANCE", "until": UNTIL}, {},
+     {"do": "set-retention", "key": "a", "mode": "GOVERNANCE", "until": UNTIL, "bypass": False}),
+    ("PUT", "/docs/a?retention&versionId=25", {"mode": "GOVERNANCE", "until": LATER}, {},
+     {"do": "set-retention", "key": "a", "id": 25, "mode": "GOVERNANCE", "until": LATER, "bypass": False}),
+    ("PUT", "/docs/a?retention&versionId=25", {"mode": "GOVERNANCE", "until": UNTIL}, BYPASS,
+     {"do": "set-retention", "key": "a", "id": 25, "mode": "GOVERNANCE", "until": UNTIL, "bypass": True}),
+    ("PUT", "/docs/a?legal-hold", {"hold": "OFF"}, {}, {"do": "set-hold", "key": "a", "hold": "OFF"}),
+    ("PUT", "/docs/a?legal-hold&versionId=25", {"hold": "ON"}, {}, {"do": "set-hold", "key": "a", "id": 25, "hold": "ON"}),
+    ("PUT", "/docs/a?legal-hold&versionId=25", {"hold": "OFF"}, {}, {"do": "set-hold", "key": "a", "id": 25, "hold": "OFF"}),
+    ("DELETE", "/docs/a", None, {}, {"do": "delete", "key": "a"}),
+    ("DELETE", "/docs/a?versionId=27", None, {}, {"do": "delete-version", "key": "a", "id": 27, "bypass": False}),
+    ("DELETE", "/docs/a?versionId=25", None, BYPASS, {"do": "delete-version", "key": "a", "id": 25, "bypass": True}),
+    ("PUT", "/docs?object-lock", {"mode": "GOVERNANCE", "days": 3}, {}, {"do": "set-default", "mode": "GOVERNANCE", "days": 3}),
+    ("PUT", "/docs?object-lock", {"mode": "COMPLIANCE", "years": 1}, {}, {"do": "set-default", "mode": "COMPLIANCE", "years": 1}),
+    ("PUT", "/docs?object-lock", {}, {}, {"do": "set-default"}),
+    ("PUT", "/docs?lifecycle", {"rules": [BOUNDED, MARKERS]}, {}, {"do": "set-rules", "rules": [BOUNDED, {**MARKERS, "Prefix": ""}]}),
+    ("DELETE", "/docs?lifecycle", None, {}, {"do": "drop-rules"}),
 ]
 
 
@@ -250,13 +257,15 @@ class Commands(Both):
         self.assertEqual(stat.S_IMODE(server.journal.stat().st_mode), 0o600)
 
     def test_each_request(self) -> None:
-        """Each kind of request that changes the vault has a line in the journal, which does the same."""
+        """Each kind of request that changes the vault has a line in the journal, which asks for the same."""
         server = self.serve()
-        for count, (method, target, body, headers) in enumerate(REQUESTS, 1):
+        for method, target, body, headers, line in REQUESTS:
             content = json.dumps(body) if isinstance(body, dict) else body
             status = server.request(method, target, content, **headers)
             self.assertEqual(status, 200 if method == "PUT" else 204, (method, target))
-            self.assertEqual(server.journal.read_text().count("\n"), count, (method, target))
+            found = json.loads(server.journal.read_text().splitlines()[-1])
+            del found["at"]
+            self.assertEqual(found, {"as": "ann", "bucket": "docs", **line}, (method, target))
         server.close()
         self.are_equal(self.carried_out(server.journal))
 
