@@ -59,13 +59,15 @@ class Body(NamedTuple):
 
 
 class Function(NamedTuple):
-    """A function with a body: its name, its head up to its answer, that one's type, and the line at whose end its body
-    begins."""
+    """A function with a body: its name, its head up to its answer, that one's type, and three lines: where it begins,
+    at whose end its body begins, and where it ends."""
 
     name: str
     head: str
     answer: str
+    begin: int
     line: int
+    end: int
 
 
 def crates_below(crate: str) -> set[str]:
@@ -139,7 +141,7 @@ def functions(text: str) -> Iterator[Function]:
             signature = signature.removesuffix("{").strip()
             at = after_parameters(signature)
             answer = signature[at:].strip().removeprefix("->").strip()
-            yield Function(head[2], signature[:at], answer, end)
+            yield Function(head[2], signature[:at], answer, begin, end, lines.index(head[1] + "}", end))
 
 
 def without_tests(text: str) -> str:

@@ -66,7 +66,6 @@ PORT = (
 )
 TOO_LONG = "list: it has more than 16777216 bytes; cut it into lists, each with a batch of its own"
 STOPPED = "intake: the vault's file failed; given again, the same intake goes on"
-MODES = "GOVERNANCE or COMPLIANCE, in capitals, or empty"
 LONGEST_LIST = 16_777_216
 DONE = '{"ok":{}}\n'
 # What the names of faults mean, which stands below them.
@@ -525,16 +524,24 @@ class WithVault(Vaulted):
             self.assertEqual(self.ran(*words), Ran(status, out, said), f"a list of {length} bytes")
 
     def test_rows_at_limits(self):
-        """What is said of a refused row: a key or a cell at its limit is no fault, and is shown whole."""
-        cells = [("k" * 1_024, "m"), ("k" * 1_025, "m"), ("k", "m" * 255), ("k", "m" * 256)]
-        rows = [f"list.csv,{key},{mode},2040-01-01T00:00:00Z," for key, mode in cells]
+        """What is said of a refused row: a name, a key or a cell at its limit is no fault, and is shown whole."""
+        longest = "n" * 255
+        cells = [
+            ("list.csv", "k" * 1_024, "m"), ("list.csv", "k" * 1_025, "m"), ("list.csv", "k", "m" * 255),
+            ("list.csv", "k", "m" * 256), (longest, "k", "m"), (f"{longest}n", "k", "m"),
+        ]
+        rows = [f"{','.join(it)},2040-01-01T00:00:00Z," for it in cells]
         (self.folder / "rows.csv").write_text("\n".join(["file,key,mode,until,hold", *rows, ""]))
         ran = self.ran("intake", "v", "docs", "limits", "rows.csv", ".", "--as", "ann", *AT)
-        refused = ["InvalidArgument", "KeyTooLongError", "InvalidArgument", "InvalidArgument"]
+        refused = ["KeyTooLongError" if len(key) > 1_024 else "InvalidArgument" for _, key, _ in cells]
         self.assertEqual(ran.out.splitlines(), [f"{row} refused {name}" for row, name in enumerate(refused, 1)])
-        modes = [f"the mode is `{it}`; it has to be {MODES}" for it in ("m", "m" * 255, "m" * 255 + " ..")]
-        said = [modes[0], "the key has 1025 bytes; 1024 are allowed", *modes[1:]]
-        self.assertEqual(ran.err.splitlines(), [f"row {row}: list.csv: {it}" for row, it in enumerate(said, 1)])
+        mode = "the mode is `{}`; it has to be GOVERNANCE or COMPLIANCE, in capitals, or empty"
+        said = [
+            f"list.csv: {mode.format('m')}", "list.csv: the key has 1025 bytes; 1024 are allowed",
+            f"list.csv: {mode.format('m' * 255)}", f"list.csv: {mode.format('m' * 255 + ' ..')}",
+            f"{longest}: {mode.format('m')}", f"{longest} ..: the file's name has 256 bytes; 255 are allowed",
+        ]
+        self.assertEqual(ran.err.splitlines(), [f"row {row}: {it}" for row, it in enumerate(said, 1)])
 
     @needs_strace
     def test_stopped_intake(self):

@@ -12,7 +12,7 @@ TOOLS = {
     "growths_of_a_printed_intake": [
         GROWTHS, "vault_tests_files", "faults::growths::a_refused_growth_in_an_intake_that_is_printed",
     ],
-    "give_up": ["tools/give-up"],
+    "give_up": ["tools/wrong-bodies"],
     "edits": ["tools/try-edits"],
 }
 
