@@ -92,7 +92,9 @@ class Server:
         with self.connect() as peer:
             peer.sendall(sent)
             peer.shutdown(socket.SHUT_WR)
-            return read_all(peer).splitlines()
+            replies = read_all(peer)
+        check(replies[-1:] in (b"", b"\n"), f"the last reply has no line's end: {replies[-300:]!r}")
+        return replies.splitlines()
 
     def request(self, text: str) -> bytes:
         with socket.create_connection((HOST, self.port), LIMIT) as peer:
