@@ -11,6 +11,7 @@ import json
 import os
 import pathlib
 import re
+import resource
 import shutil
 import signal
 import socket
@@ -262,6 +263,31 @@ def turns(server: Server) -> None:
     check(len(after) > TURNS and all(one != other for one, other in zip(after, after[1:])), f"the doors were {doors}")
 
 
+def no_descriptors(server: Server) -> None:
+    """Where no connection can be taken for want of descriptors, neither door keeps the server busy, and the log has it. The
+    next ones are taken once there are some."""
+    process = server.serving.pid
+    equal(ok_puts(server.lines(put("a"))), [1], "a put")
+    taken = {int(it) for it in os.listdir(f"/proc/{process}/fd")}
+    free = min(it for it in range(len(taken) + 1) if it not in taken)
+    resource.prlimit(process, resource.RLIMIT_NOFILE, (free, 1_000))
+    with socket.create_connection((HOST, server.port), LIMIT) as request, server.connect() as lines:
+        request.sendall(b"GET /docs/none HTTP/1.1\r\nhost: x\r\nx-vault-caller: ann\r\n\r\n")
+        lines.sendall(put("b"))
+        before = server.processor_time()
+        time.sleep(2)
+        took = server.processor_time() - before
+        check(took < 0.4, f"without descriptors the server took {took} s")
+        resource.prlimit(process, resource.RLIMIT_NOFILE, (1_000, 1_000))
+        equal(lines.recv(65_536), b'{"ok":{"version_id":2}}\n', "a line that had to wait")
+        check(read_all(request).startswith(b"HTTP/1.1 404"), "a request that had to wait isn't answered")
+    server.end()
+    assert server.serving.stderr is not None
+    entries = [json.loads(it) for it in server.serving.stderr.read().splitlines()]
+    missed = {it["door"] for it in entries if it["result"] == "connection"}
+    equal(missed, {"lines", "http"}, "the doors of which the log says that a connection couldn't be taken")
+
+
 def resetting(server: Server) -> None:
     """Those who leave in the midst of a line, or take no reply, keep nobody waiting."""
     for sent in (b"", put("a")[:10], put("b"), put("c") * 3):
@@ -484,6 +510,7 @@ TRIALS: dict[str, Trial] = {
     "oversized": (oversized, []),
     "idle": (idle, []),
     "turns": (turns, ["--log"]),
+    "no-descriptors": (no_descriptors, ["--log"]),
     "resetting": (resetting, []),
     "flooding": (flooding, []),
     "closing": (closing, []),

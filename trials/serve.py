@@ -429,10 +429,13 @@ def no_descriptors(server):
     server.wants(server.ask(get("none")), 404, b"NoSuchKey", "a get of what isn't there")
     with server.connect() as peer:
         peer.sendall(put("waits", b"hello"))
+        before = worked(server)
         time.sleep(1)
         if server.serving.poll() is not None:
             wrong("it ended, with no descriptor left")
             return
+        if worked(server) - before > 200:
+            wrong(f"it worked for {worked(server) - before:.0f} ms, with no descriptor left")
         resource.prlimit(process, resource.RLIMIT_NOFILE, (1_000, 1_000))
         server.wants(server.read_at_once(peer), 200, b"x-amz-version-id: ", "a put that had to wait for a descriptor")
     server.check()
