@@ -11,7 +11,6 @@ import json
 import os
 import pathlib
 import re
-import resource
 import shutil
 import signal
 import socket
@@ -22,7 +21,7 @@ from collections.abc import Callable
 from typing import Any, Iterable
 
 from trials.program import PROGRAM, Case, a_test_each, carry_out, check, make_office, printed
-from trials.servers import HOST, free_port, read_all
+from trials.servers import HOST, free_port, leave_descriptors, leave_no_descriptors, read_all
 
 # The deadlines, in seconds: for a line from its first byte; for silence where another waits; and how long a client waits
 # at most, whatever the server does.
@@ -266,11 +265,8 @@ def turns(server: Server) -> None:
 def no_descriptors(server: Server) -> None:
     """Where no connection can be taken for want of descriptors, neither door keeps the server busy, and the log has it. The
     next ones are taken once there are some."""
-    process = server.serving.pid
     equal(ok_puts(server.lines(put("a"))), [1], "a put")
-    taken = {int(it) for it in os.listdir(f"/proc/{process}/fd")}
-    free = min(it for it in range(len(taken) + 1) if it not in taken)
-    resource.prlimit(process, resource.RLIMIT_NOFILE, (free, 1_000))
+    leave_no_descriptors(server.serving.pid)
     with socket.create_connection((HOST, server.port), LIMIT) as request, server.connect() as lines:
         request.sendall(b"GET /docs/none HTTP/1.1\r\nhost: x\r\nx-vault-caller: ann\r\n\r\n")
         lines.sendall(put("b"))
@@ -278,7 +274,7 @@ def no_descriptors(server: Server) -> None:
         time.sleep(2)
         took = server.processor_time() - before
         check(took < 0.4, f"without descriptors the server took {took} s")
-        resource.prlimit(process, resource.RLIMIT_NOFILE, (1_000, 1_000))
+        leave_descriptors(server.serving.pid)
         equal(lines.recv(65_536), b'{"ok":{"version_id":2}}\n', "a line that had to wait")
         check(read_all(request).startswith(b"HTTP/1.1 404"), "a request that had to wait isn't answered")
     server.end()

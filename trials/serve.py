@@ -16,7 +16,6 @@ late all the same is tried again; what is late three times is wrong.
 import contextlib
 import os
 import pathlib
-import resource
 import select
 import shutil
 import socket
@@ -25,7 +24,7 @@ import threading
 import time
 
 from trials.program import PROGRAM, Case, a_test_each, check, make_office, printed
-from trials.servers import HOST, ended, free_port, read_all, reset, started
+from trials.servers import HOST, ended, free_port, leave_descriptors, leave_no_descriptors, read_all, reset, started
 from proved import Loaded
 
 # The server's deadlines, in seconds: for the head of a request, and for all of it, from when the connection was taken;
@@ -420,11 +419,8 @@ def hundred(server):
 
 def no_descriptors(server):
     """Where no connection can be taken for want of descriptors, the next ones are taken once there are some."""
-    process = server.serving.pid
     server.check()
-    taken = {int(it) for it in os.listdir(f"/proc/{process}/fd")}
-    free = min(it for it in range(len(taken) + 1) if it not in taken)
-    resource.prlimit(process, resource.RLIMIT_NOFILE, (free, 1_000))
+    leave_no_descriptors(server.serving.pid)
     # The system has set a descriptor aside for the connection that is waited for.
     server.wants(server.ask(get("none")), 404, b"NoSuchKey", "a get of what isn't there")
     with server.connect() as peer:
@@ -436,7 +432,9 @@ def no_descriptors(server):
             return
         if worked(server) - before > 200:
             wrong(f"it worked for {worked(server) - before:.0f} ms, with no descriptor left")
-        resource.prlimit(process, resource.RLIMIT_NOFILE, (1_000, 1_000))
+        if select.select([peer], [], [], 0)[0]:
+            wrong("it answers with no descriptor left")
+        leave_descriptors(server.serving.pid)
         server.wants(server.read_at_once(peer), 200, b"x-amz-version-id: ", "a put that had to wait for a descriptor")
     server.check()
 

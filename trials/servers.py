@@ -5,6 +5,7 @@ import http.client
 import json
 import os
 import pathlib
+import resource
 import select
 import socket
 import struct
@@ -90,6 +91,21 @@ def serving(file: File, *words: str, folder: pathlib.Path | None = None) -> Iter
             check(server.wait(LIMIT) == 0, f"the server has the status {server.returncode}")
     finally:
         ended(server)
+
+
+def leave_no_descriptors(process: int) -> None:
+    """Lets a server take no more connections, once those of its last answers are closed."""
+    taken: set[int] = set()
+    while (now := {int(it) for it in os.listdir(f"/proc/{process}/fd")}) != taken:
+        taken = now
+        time.sleep(0.5)
+    free = min(it for it in range(len(taken) + 1) if it not in taken)
+    resource.prlimit(process, resource.RLIMIT_NOFILE, (free, 1_000))
+
+
+def leave_descriptors(process: int) -> None:
+    """Lets it take connections again."""
+    resource.prlimit(process, resource.RLIMIT_NOFILE, (1_000, 1_000))
 
 
 def read_all(peer: socket.socket, *ends: type[OSError]) -> bytes:
