@@ -7,11 +7,12 @@ import json
 import pathlib
 import socket
 import subprocess
+import time
 from typing import Any
 
 from trials.door import LINE, SLACK, Server, get, line, put
 from trials.program import PROGRAM, Case, check, make_office
-from trials.servers import HOST, LIMIT, answer_to, ended, free_port, started, wait_for
+from trials.servers import HOST, LIMIT, answer_to, ended, free_port, read_all, started, wait_for
 
 FILE = "records.vault"
 LONG = "x" * 1_000_000
@@ -75,6 +76,23 @@ class Trail(Case):
             {**http, **ann, "do": "GET", "target": "/docs/a", "status": 501, "result": "NotImplemented", **sizes[5]},
             {**http, "status": 400, "result": "InvalidArgument", **sizes[6]},
         )
+
+    def test_times(self) -> None:
+        """A request's time is counted from when its connection was taken, and that of the next one from then."""
+        port, slow = free_port(), request("PUT", "/docs/a", body=b"hello")
+        server = started(FILE, port, "--log", folder=self.folder)
+        try:
+            with socket.create_connection((HOST, port), LIMIT) as peer:
+                peer.sendall(slow[:20])
+                time.sleep(0.5)
+                peer.sendall(slow[20:])
+                read_all(peer)
+            for _ in range(2):
+                answer_to(port, request("GET", "/docs/a"))
+        finally:
+            said = ended(server)
+        took = [json.loads(it)["ms"] for it in said.splitlines()]
+        check(450 <= took[0] < 500 + 1_000 * SLACK and took[1] < took[0], f"the requests took {took} ms")
 
     def test_lines(self) -> None:
         server = Server(self.folder)
