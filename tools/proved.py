@@ -23,7 +23,8 @@ def first_number(holds: Callable[[int], bool], below: int = 0) -> int:
 
 class Loaded:
     """A proved program whose calls a library answers that is loaded into it: `refused_allocation` refuses an allocation,
-    `failed_reading` makes a reading of the monotonic clock fail, and `small_buffers` gives connections little room.
+    `failed_reading` makes a reading of the monotonic clock fail, `shown_clock` has the machine's clock show a number of seconds,
+    and `small_buffers` gives connections little room.
 
     The program isn't altered. The library is compiled with `CC` or `cc` into the folder."""
 
@@ -35,7 +36,8 @@ class Loaded:
         subprocess.run(words, check=True)
 
     def front(self, number: int) -> list[str]:
-        """The words in front of the program by which the call of that number fails, if calls do; by 0 none does."""
+        """The words in front of the program that hand that number to the library: of the call that fails, where 0 is none,
+        or of the seconds that are shown."""
         return ["/usr/bin/env", f"LD_PRELOAD={self.library}", f"{self.what.upper()}={number}"]
 
     @contextlib.contextmanager

@@ -12,7 +12,8 @@ TOOLS = {
     "growths_of_a_printed_intake": [
         GROWTHS, "vault_tests_files", "faults::growths::a_refused_growth_in_an_intake_that_is_printed",
     ],
-    "give_up": ["tools/wrong-bodies"],
+    "wrong_answers": ["tools/wrong-bodies"],
+    "turned_lines": ["tools/wrong-bodies", "--lines", "--seconds", "60"],
     "edits": ["tools/try-edits"],
 }
 

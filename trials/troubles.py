@@ -1,9 +1,11 @@
-"""Troubles: a server with a log whose clients take no reply, or one of whose calls fails.
+"""Troubles: a server with a log whose clients take no reply, or one of whose calls fails; and a clock that shows no moment.
 
 A client closes its connection before its line is answered: the log has the result `untaken`, and the line that ends the
 server ends it. Then a server answers a line and a request, and in each run one of its allocations is refused, or one
 reading of its monotonic clock fails: the answers say what was done, the log has an entry with the right result for each,
 and the vault is sound.
+
+Where the machine's clock shows a moment before 1970 or after 9999, each job, request and line that needs one is refused.
 """
 
 import collections
@@ -18,7 +20,7 @@ from concurrent.futures import ThreadPoolExecutor
 from typing import Any, Callable, Iterable
 
 from trials.door import LIMIT, Server, get, line, put
-from trials.program import IS_LONG, PROGRAM, Case, check, make_office, needs, printed
+from trials.program import IS_LONG, PROGRAM, Case, Ran, check, make_office, needs, printed
 from proved import Loaded, first_number
 
 FILE = "records.vault"
@@ -29,6 +31,10 @@ OK, MEMORY = b'{"ok":{"version_id":1}}', b'{"error":{"code":"Memory","n":22}}'
 # What the log has where there is no memory for an entry.
 ROOMLESS = {"result": "memory"}
 END = line("registrar", "close")
+# The seconds of 1970 that clocks show before its first moment and after the last moment of 9999.
+NO_MOMENTS = (-1, 253_402_300_800)
+NO_MOMENT = '{"error":{"code":"ClockOutOfRange","n":2}}\n'
+WHY = "the time lies outside 1970 to 9999, or the machine's clock can't be read: correct --at, or set the clock\n"
 
 
 def entries(said: str) -> list[dict[str, Any]]:
@@ -203,3 +209,39 @@ class Failing(Case):
         found = self.sweep("failed_reading", 1, of_reading)
         wanted = {f"the {it}: ['{why}']" for it in ("line", "request") for why in ("late", "untaken")}
         check(found >= wanted, f"a reading that fails comes to {found}")
+
+
+@needs(os.environ.get("CC", "cc"))
+class NoMoment(Case):
+    def setUp(self) -> None:
+        super().setUp()
+        make_office(self.folder / FILE, "put", "get", "report")
+        (self.folder / "list.csv").write_text("file,key,mode,until,hold\nlist.csv,a,,,\n")
+        self.loaded = Loaded(PROGRAM, self.folder, "shown_clock")
+
+    def test_jobs(self) -> None:
+        before = printed("events", self.folder / FILE)
+        intake = ["intake", FILE, "docs", "b", "list.csv", ".", "--as", "ann"]
+        for shown in NO_MOMENTS:
+            for words in (["dept", FILE, "maps", "--as", "registrar"], ["report", FILE, "records", "--as", "ann"], intake):
+                refused = self.ran(*words, front=self.loaded.front(shown))
+                self.assertEqual(refused, Ran(1, NO_MOMENT, WHY), f"{words[0]}, where the clock shows {shown}")
+        self.assertEqual(printed("events", self.folder / FILE), before)
+        self.assertEqual(self.ran(*intake).out, "1 admitted 1\n")
+
+    def test_doors(self) -> None:
+        for shown in NO_MOMENTS:
+            server = Server(self.folder)
+            server.start("--log", front=self.loaded.front(shown))
+            try:
+                answer = server.request("GET /docs/a HTTP/1.1\r\nhost: x\r\nx-vault-caller: ann\r\n\r\n")
+                asked = [put("a"), get("a"), line("registrar", "status"), END]
+                replies = server.lines(b"".join(asked))
+            finally:
+                server.end()
+            check(answer.startswith(b"HTTP/1.1 503 ") and b'"code":"ClockOutOfRange"' in answer, f"a request gets {answer!r}")
+            self.assertEqual(replies, [NO_MOMENT.encode().rstrip()] * len(asked))
+            assert server.serving.stderr is not None
+            found = entries(server.serving.stderr.read())
+            wanted = [(door, "ClockOutOfRange", False) for door in ("http", *["lines"] * len(asked))]
+            self.assertEqual([(it["door"], it["result"], "at" in it) for it in found], wanted)

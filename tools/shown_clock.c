@@ -1,0 +1,21 @@
+// Loaded into a program before its other libraries, this has the machine's clock show the moment that is SHOWN_CLOCK seconds
+// after 1970.
+#define _GNU_SOURCE
+#include <stdlib.h>
+#include <sys/syscall.h>
+#include <time.h>
+#include <unistd.h>
+
+static long shown;
+
+__attribute__((constructor)) static void begin(void) {
+    const char *seconds = getenv("SHOWN_CLOCK");
+    shown = seconds ? atol(seconds) : 0;
+}
+
+int clock_gettime(clockid_t clock, struct timespec *time) {
+    int answer = syscall(SYS_clock_gettime, clock, time);
+    if (clock == CLOCK_REALTIME)
+        time->tv_sec = shown;
+    return answer;
+}
