@@ -65,6 +65,10 @@ PORT = (
     " or take another port from 1024 on\n"
 )
 TOO_LONG = "list: it has more than 16777216 bytes; cut it into lists, each with a batch of its own"
+AHEAD = (
+    "--at lies more than a year ahead of this machine's clock: a change that is dated so has the vault refuse whatever is"
+    " dated before it, for good"
+)
 STOPPED = "intake: the vault's file failed; given again, the same intake goes on"
 LONGEST_LIST = 16_777_216
 DONE = '{"ok":{}}\n'
@@ -452,6 +456,16 @@ class WithVault(Vaulted):
         said = datetime.datetime.fromisoformat(reported.split("\n")[1].split()[1].replace("Z", "+00:00"))
         now = datetime.datetime.now(datetime.timezone.utc)
         self.assertLess(abs((now - said).total_seconds()), 60, f"the clock shows {now}, and the report {said}")
+
+    def test_far_ahead(self):
+        """A reading that is given and lies more than a year ahead of the clock is taken, and words say what follows."""
+        now = datetime.datetime.now(datetime.timezone.utc)
+        for days, said in ((300, ""), (400, f"{AHEAD}\n")):
+            at = ["--at", (now + datetime.timedelta(days=days)).strftime("%Y-%m-%dT%H:%M:%SZ")]
+            added = self.ran("dept", "v", f"ahead-{days}", "--as", "registrar", *at)
+            self.assertEqual(added, Ran(0, DONE, said), f"a department {days} days ahead")
+            taken = self.ran("intake", "v", "docs", f"ahead-{days}", "list.csv", ".", "--as", "ann", *at)
+            self.assertEqual((taken.status, taken.err), (0, said), f"an intake {days} days ahead")
 
     def test_held(self):
         """While another program reads the vault no job opens it."""
