@@ -568,6 +568,20 @@ class WithVault(Vaulted):
         self.answers(self.ran(*words), "1 admitted 2\n2 admitted 3\n3 admitted 4\n")
 
     @needs_strace
+    def test_unread_file(self):
+        """A file that can't be looked at, opened or read stops an intake, which goes on where it is given again."""
+        (self.folder / "scans").mkdir()
+        (self.folder / "scans" / "a.txt").write_text("of a")
+        (self.folder / "scans.csv").write_text("file,key,mode,until,hold\na.txt,b,,,\n")
+        said = "row 1: a.txt: it couldn't be read, and can be by now; give the same intake again\n"
+        for number, (call, when) in enumerate((("statx", 1), ("statx", 2), ("openat", 1), ("read", 1)), 2):
+            batch = f"{call}-{when}"
+            words = ["intake", "v", "docs", batch, "scans.csv", str(self.folder / "scans"), "--as", "ann", *AT]
+            ran, has_failed = injected(self.folder, ["scans/a.txt"], {call: f"error=EIO:when={when}"}, *words)
+            self.assertEqual((has_failed, ran), (True, Ran(1, "stopped Device\n", said)), batch)
+            self.answers(self.ran(*words), f"1 admitted {number}\n")
+
+    @needs_strace
     def test_each_call(self):
         """Each call that changes one of the vault's files fails once, also as the vault is closed."""
         statuses = set()
