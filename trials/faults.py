@@ -11,6 +11,9 @@ A refused command leaves a file and its log as they were, by their SHA-256 sums,
 error says in words why a file isn't opened or made. A new file and its log are their owner's alone, whatever the umask.
 Where there is `strace`, an `init` is killed before each call that changes a file, and the next one makes a sound vault;
 so it does where the device failed from any sync on, and a kill came as the files were given back.
+
+An intake that a long list, a file that can't be read or the vault's file stops says so, and goes on where it is given
+again. What is said of rows counts a name, a key and a cell at its limit as right.
 """
 
 import contextlib

@@ -6,7 +6,8 @@ removals, the 5,000 events and their seal, and looks whether they are lawful: on
 error, which has to show each thousand, and once with a pipe, which has to get nothing. A register or events that a
 terminal shows say nothing, as nothing may come between their rows.
 
-An opening is made to last: one read of the vault's file takes longer than a second.
+An opening is made to last: one read of the vault's file takes longer than a second. The line then has the MiB that
+were read by then, and those of the file.
 """
 
 import contextlib
