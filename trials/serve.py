@@ -2,11 +2,11 @@
 
 Each test serves a new vault in a folder of its own. Clients that misbehave come first. After them an honest one puts
 a version and gets it: its answers are right, and the first is there no later than the deadlines of those before it
-allow. Where there is a C compiler, the server has little room for what a client doesn't take. A head of empty lines costs no more than ten of letters. A hundred clients come at once; none is answered
-wrongly. The server runs out of descriptors, and goes on once it has some. Its files are moved, removed and replaced:
-then it refuses each put, and nothing that it answered before is lost. It is killed under load and started again, five
-times, and whatever it had answered is there. At last `verify` says that the vault is sound. All of this takes less
-than four minutes.
+allow. Where there is a C compiler, the server has little room for what a client doesn't take. A head of empty lines
+costs no more than ten of letters. A hundred clients come at once; none is answered wrongly. The server runs out of
+descriptors, and goes on once it has some. Its files are moved, removed and replaced: then it refuses each put, and
+nothing that it answered before is lost. It is killed under load and started again, five times, and whatever it had
+answered is there. At last `verify` says that the vault is sound. All of this takes less than four minutes.
 
 A busy machine makes no test fail. What has to come at once is waited for TRIALS_SLACK seconds (2 where nothing is
 said), and twenty times as long as the same machine took for a put and a get just before. A test in which an answer was
