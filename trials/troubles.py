@@ -15,18 +15,23 @@ import json
 import os
 import shutil
 import signal
+import socket
 import subprocess
+import time
 from concurrent.futures import ThreadPoolExecutor
 from typing import Any, Callable, Iterable
 
 from trials.door import LIMIT, Server, get, line, put
 from trials.program import IS_LONG, PROGRAM, Case, Ran, check, make_office, needs, printed
+from trials.servers import HOST, read_all
 from proved import Loaded, first_number
 
 FILE = "records.vault"
 JOBS = len(os.sched_getaffinity(0))
 # After how many untroubled runs in a row a search ends.
 ENOUGH = 20
+# How many readings a server is left for a line and some requests, and how long one waits for an answer then, in seconds.
+READINGS, PATIENCE = 30, 5
 OK, MEMORY = b'{"ok":{"version_id":1}}', b'{"error":{"code":"Memory","n":22}}'
 # What the log has where there is no memory for an entry.
 ROOMLESS = {"result": "memory"}
@@ -204,6 +209,35 @@ class Failing(Case):
         found = self.sweep("refused_allocation", 1 if IS_LONG else 13, of_allocation)
         wanted = {"the line: Memory", "the request: Memory"}
         check(found >= wanted, f"an allocation that is refused comes to {found}")
+
+    def test_no_clock(self) -> None:
+        """Without a monotonic clock, from some reading on, an open connection of lines is closed, and nothing is busy."""
+        loaded = Loaded(PROGRAM, self.folder, "failed_reading")
+        shutil.copy(self.folder / "made", self.folder / FILE)
+        server = Server(self.folder)
+        server.start("--log", front=loaded.front(-self.first(loaded) - READINGS))
+        try:
+            with server.connect() as peer:
+                peer.settimeout(PATIENCE)
+                peer.sendall(get("a"))
+                check(peer.recv(65_536).endswith(b"\n"), "a line before isn't answered")
+                count = sum(1 for _ in itertools.takewhile(bool, (self.is_answered(server) for _ in range(READINGS))))
+                check(0 < count < READINGS, f"{count} requests are answered")
+                check(peer.recv(65_536) == b"", "a silent connection isn't closed")
+            before = server.processor_time()
+            time.sleep(2)
+            took = server.processor_time() - before
+        finally:
+            server.end()
+        check(took < 0.4, f"without a clock the server took {took} s")
+
+    def is_answered(self, server: Server) -> bool:
+        """Whether a request is answered, and soon."""
+        with contextlib.suppress(OSError), socket.create_connection((HOST, server.port), PATIENCE) as peer:
+            peer.settimeout(PATIENCE)
+            peer.sendall(b"GET /docs/a HTTP/1.1\r\nhost: x\r\nx-vault-caller: ann\r\n\r\n")
+            return read_all(peer).startswith(b"HTTP/1.1 404")
+        return False
 
     def test_readings(self) -> None:
         found = self.sweep("failed_reading", 1, of_reading)
