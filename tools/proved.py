@@ -22,9 +22,9 @@ def first_number(holds: Callable[[int], bool], below: int = 0) -> int:
 
 
 class Loaded:
-    """A proved program whose calls a library answers that is loaded into it: `refused_allocation` refuses an allocation,
-    `failed_reading` makes a reading of the monotonic clock fail, `shown_clock` has the machine's clock show a number of seconds,
-    and `small_buffers` gives connections little room.
+    """A proved program with a library loaded into it that answers some of its calls. `refused_allocation` refuses an
+    allocation, `failed_reading` fails a reading of the monotonic clock, `shown_clock` sets what the machine's clock shows,
+    and `small_buffers` gives connections small send buffers.
 
     The program isn't altered. The library is compiled with `CC` or `cc` into the folder."""
 
@@ -36,8 +36,8 @@ class Loaded:
         subprocess.run(words, check=True)
 
     def front(self, number: int) -> list[str]:
-        """The words in front of the program that hand that number to the library: of the call that fails, where 0 is none,
-        or of the seconds that are shown."""
+        """The words in front of the program that load the library with its number: that of the call that fails (0 for no
+        call), or the seconds that the clock shows."""
         return ["/usr/bin/env", f"LD_PRELOAD={self.library}", f"{self.what.upper()}={number}"]
 
     @contextlib.contextmanager

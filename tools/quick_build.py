@@ -1,8 +1,8 @@
 """A program of the sources as they stand, unproved and without checks of memory: some thirty times as quick as the one
 that `rt try` builds.
 
-`rt try` hands the whole program to the kit's compiler as one module. Here it is given a kit of links to the machine's
-own, whose compiler keeps that module and fails. The module is then edited, and compiled as any other."""
+`rt try` passes the whole program to the kit's compiler as one module. Here it runs from a kit of links to the machine's
+kit, whose compiler saves that module and fails. The module is then edited and compiled."""
 
 import os
 import pathlib
