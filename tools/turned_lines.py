@@ -7,7 +7,7 @@ import pathlib
 import re
 from typing import NamedTuple
 
-from early_answers import CHOSEN, Body, functions, without_tests
+from numbered_bodies import CHOSEN, Body, each_function
 
 CONDITION = re.compile(r"^(\s*(?:\} else )?if |\s*while )(.+) \{$")
 COMPARISON = re.compile(r" (<=|>=|<|>) ")
@@ -90,19 +90,14 @@ def turned(line: str, number: int) -> Turn | None:
 
 
 def put_turns(folder: pathlib.Path, crates: set[str], left_out: set[str]) -> list[Body]:
-    """Writes the bodies into a copy of the crates; answers them, by number from 1."""
+    """Writes the bodies into a copy of the crates; returns them, by number from 1."""
     bodies: list[Body] = []
-    for crate in sorted(crates):
-        for path in sorted((folder / "crates" / crate / "src").rglob("*.rt")):
-            text, where = path.read_text(), str(path.relative_to(folder))
-            lines = text.split("\n")
-            for it in functions(without_tests(text)):
-                for at in range(it.line + 1, it.end):
-                    key, number = f"{where}:{at}:", len(bodies) + 1
-                    turn = None if key in left_out else turned(lines[at], number)
-                    if turn:
-                        lines[at] = turn.text
-                        numbered = enumerate(turn.bodies, number)
-                        bodies += [Body(one, crate, where, at + 1, it.name, what, key) for one, what in numbered]
-            path.write_text("\n".join(lines))
+    for crate, where, it, lines in each_function(folder, crates):
+        for at in range(it.line + 1, it.end):
+            key, number = f"{where}:{at}:", len(bodies) + 1
+            turn = None if key in left_out else turned(lines[at], number)
+            if turn:
+                lines[at] = turn.text
+                numbered = enumerate(turn.bodies, number)
+                bodies += [Body(one, crate, where, at + 1, it.name, what, key) for one, what in numbered]
     return bodies
