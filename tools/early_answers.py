@@ -58,8 +58,8 @@ def answers_of(answer: str, lines: list[str]) -> list[list[str]]:
     return [[f"Err({it})" for it in FAULTS[parts[1]]]] if parts[1] in FAULTS else []
 
 
-def is_left(function: Function) -> bool:
-    """Whether nothing can be left undone: in a law, and where what is dropped has to be taken apart."""
+def is_exempt(function: Function) -> bool:
+    """Whether a function can't just return: a law has nothing to do, and a `drop` has to take its value apart."""
     return not function.answer and (function.name == "drop" or not re.search(r"&mut|\bself\b", function.head))
 
 
@@ -69,7 +69,7 @@ def put_answers(folder: pathlib.Path, crates: set[str], left_out: set[str]) -> l
     for crate, where, it, lines in each_function(folder, crates):
         # A vault in a file can't be dropped, only closed.
         first = "close_vault(vault); " if "vault: FileVault" in it.head else ""
-        for choices in [] if is_left(it) else answers_of(it.answer, lines):
+        for choices in [] if is_exempt(it) else answers_of(it.answer, lines):
             # The function's own body is no other.
             if lines[it.line + 1].strip() in choices and lines[it.line + 2].strip() == "}":
                 continue

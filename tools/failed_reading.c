@@ -1,6 +1,5 @@
-// Loaded into a program before its other libraries, this makes calls of clock_gettime for CLOCK_MONOTONIC fail: the one whose
-// number, counted from 1, is FAILED_READING; or, where that is negative, the one of that number and all after it. Calls for
-// other clocks aren't counted.
+// Loaded into a program before its other libraries, this fails calls of clock_gettime for CLOCK_MONOTONIC, which it counts
+// from 1. FAILED_READING is N: call N alone fails; or -N: call N and all later ones fail. Calls for other clocks aren't counted.
 #define _GNU_SOURCE
 #include <errno.h>
 #include <stdlib.h>

@@ -1,5 +1,5 @@
-// Loaded into a program before its other libraries, this has the machine's clock show the moment that is SHOWN_CLOCK seconds
-// after 1970.
+// Loaded into a program before its other libraries, this sets what the machine's clock shows: SHOWN_CLOCK seconds after the
+// beginning of 1970.
 #define _GNU_SOURCE
 #include <stdlib.h>
 #include <sys/syscall.h>

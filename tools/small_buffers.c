@@ -1,5 +1,5 @@
-// Loaded into a program before its other libraries, this gives each connection that it takes the least room for what it
-// sends, as a network may: else a whole answer is in the machine's buffers where a client takes nothing of it.
+// Loaded into a program before its other libraries, this sets the smallest send buffer on each connection that it accepts.
+// Otherwise the machine's buffers take a whole answer, and the program never waits for its client.
 #define _GNU_SOURCE
 #include <sys/socket.h>
 #include <sys/syscall.h>

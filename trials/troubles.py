@@ -23,20 +23,21 @@ from typing import Any, Callable, Iterable
 
 from trials.door import LIMIT, Server, get, line, put
 from trials.program import IS_LONG, PROGRAM, Case, Ran, check, make_office, needs, printed
-from trials.servers import HOST, read_all
+from trials.servers import HOST, answer_to, read_all
+from trials.trail import request
 from proved import Loaded, first_number
 
 FILE = "records.vault"
 JOBS = len(os.sched_getaffinity(0))
 # After how many untroubled runs in a row a search ends.
 ENOUGH = 20
-# How many readings a server is left for a line and some requests, and how long one waits for an answer then, in seconds.
+# How many readings of the clock succeed before all fail, and how many seconds a client waits for an answer.
 READINGS, PATIENCE = 30, 5
 OK, MEMORY = b'{"ok":{"version_id":1}}', b'{"error":{"code":"Memory","n":22}}'
 # What the log has where there is no memory for an entry.
 ROOMLESS = {"result": "memory"}
 END = line("registrar", "close")
-# The seconds of 1970 that clocks show before its first moment and after the last moment of 9999.
+# What a clock shows, in seconds after the beginning of 1970: a second before that, and the first second after 9999.
 NO_MOMENTS = (-1, 253_402_300_800)
 NO_MOMENT = '{"error":{"code":"ClockOutOfRange","n":2}}\n'
 WHY = "the time lies outside 1970 to 9999, or the machine's clock can't be read: correct --at, or set the clock\n"
@@ -235,7 +236,7 @@ class Failing(Case):
         """Whether a request is answered, and soon."""
         with contextlib.suppress(OSError), socket.create_connection((HOST, server.port), PATIENCE) as peer:
             peer.settimeout(PATIENCE)
-            peer.sendall(b"GET /docs/a HTTP/1.1\r\nhost: x\r\nx-vault-caller: ann\r\n\r\n")
+            peer.sendall(request("GET", "/docs/a"))
             return read_all(peer).startswith(b"HTTP/1.1 404")
         return False
 
@@ -268,7 +269,7 @@ class NoMoment(Case):
             server = Server(self.folder)
             server.start("--log", front=self.loaded.front(shown))
             try:
-                answer = server.request("GET /docs/a HTTP/1.1\r\nhost: x\r\nx-vault-caller: ann\r\n\r\n")
+                answer = answer_to(server.port, request("GET", "/docs/a"))
                 asked = [put("a"), get("a"), line("registrar", "status"), END]
                 replies = server.lines(b"".join(asked))
             finally:
