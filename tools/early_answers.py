@@ -77,9 +77,9 @@ def put_answers(folder: pathlib.Path, crates: set[str], left_out: set[str]) -> l
             key = next((key for key in keys if key not in left_out), None)
             if key is None:
                 continue
-            number = len(bodies) + 1
-            bodies.append(Body(number, crate, where, it.line + 1, it.name, keys[key], key))
+            number, line = len(bodies) + 1, lines[it.line]
+            what, answer = f"answers {keys[key] or 'nothing'}", f"{first}{f'return {keys[key]}'.strip()};"
+            bodies.append(Body(number, crate, where, it.line + 1, it.name, what, f"{line} {answer}", key))
             # On the line of the brace, so that lines stay where they were.
-            answer = f"return {keys[key]}".strip()
-            lines[it.line] += f" if {CHOSEN}::chosen({number}) == 1 {{ {first}{answer}; }}"
+            lines[it.line] += f" if {CHOSEN}::chosen({number}) == 1 {{ {answer} }}"
     return bodies

@@ -21,19 +21,20 @@ pub fn chosen(number: u32) -> u32 {
 
 
 class Body(NamedTuple):
-    """A body: its number, where it is put, and what it answers. By its key it is left out."""
+    """A body: its number, where it is put, what is another in it, and the line that it has. By its key it is left
+    out."""
 
     number: int
     crate: str
     path: str
     line: int
     name: str
-    answer: str
+    what: str
+    text: str
     key: str
 
     def __str__(self) -> str:
-        place = f"{pathlib.Path(self.path).name}:{self.line}"
-        return f"{self.crate}: {self.name} ({place}) answers {self.answer or 'nothing'}"
+        return f"{self.crate}: {self.name} ({pathlib.Path(self.path).name}:{self.line}) {self.what}"
 
 
 class Function(NamedTuple):

@@ -19,11 +19,18 @@ REFUSAL = re.compile(r"\bRefusal::([A-Z]\w+)\b(?!\s*\()")
 PATTERN = re.compile(r"matches!|\blet\b|\|")
 
 
+class Other(NamedTuple):
+    """What is another in a body, and the line that it has."""
+
+    what: str
+    line: str
+
+
 class Turn(NamedTuple):
-    """A line that has bodies: its text, and what is another in each of them, by their numbers in order."""
+    """A line that has bodies: its text with all of them, and each, by their numbers in order."""
 
     text: str
-    bodies: list[str]
+    bodies: list[Other]
 
 
 def chosen(number: int) -> str:
@@ -49,21 +56,23 @@ def turned_condition(front: str, condition: str, number: int) -> Turn | None:
     """A line with a condition, if that is a plain one."""
     if re.search(r"\blet\b|\{|[^|]\|[^|]", condition) or not is_closed(condition):
         return None
-    parts, bodies = re.split(r"( && | \|\| )", condition), []
+    plain, bodies = re.split(r"( && | \|\| )", condition), []
     text = condition
-    if all(map(is_closed, parts[::2])):
-        for at in range(0, len(parts), 2):
-            found = COMPARISON.findall(parts[at])
-            if len(found) == 1 and "::<" not in parts[at]:
-                other = COMPARISON.sub(lambda it: f" {TURNED[it[1]]} ", parts[at])
-                bodies.append(f"{other} for {parts[at]}")
-                parts[at] = either(number + len(bodies) - 1, other, parts[at])
+    if all(map(is_closed, plain[::2])):
+        parts = plain[:]
+        for at in range(0, len(plain), 2):
+            found = COMPARISON.findall(plain[at])
+            if len(found) == 1 and "::<" not in plain[at]:
+                other = COMPARISON.sub(lambda it: f" {TURNED[it[1]]} ", plain[at])
+                whole = "".join([*plain[:at], other, *plain[at + 1 :]])
+                bodies.append(Other(f"{other} for {plain[at]}", f"{front}{whole} {{"))
+                parts[at] = either(number + len(bodies) - 1, other, plain[at])
         text = "".join(parts)
-        if len(set(parts[1::2])) == 1:
-            other = "".join(TURNED.get(it, it) for it in re.split(r"( && | \|\| )", condition))
-            bodies.append(f"{other} for {condition}")
+        if len(set(plain[1::2])) == 1:
+            other = "".join(TURNED.get(it, it) for it in plain)
+            bodies.append(Other(f"{other} for {condition}", f"{front}{other} {{"))
             text = either(number + len(bodies) - 1, other, text)
-    bodies.append(f"the contrary of {condition}")
+    bodies.append(Other(f"the contrary of {condition}", f"{front}!({condition}) {{"))
     return Turn(f"{front}{either(number + len(bodies) - 1, f'!({condition})', text)} {{", bodies)
 
 
@@ -75,17 +84,18 @@ def turned(line: str, number: int) -> Turn | None:
     statement = STATEMENT.match(line)
     if statement and is_closed(statement[2]) and not NO_STATEMENT.match(line):
         text = f"{statement[1]}if {CHOSEN}::chosen({number}) != 1 {{ {statement[2]} }}"
-        return Turn(text, [f"without {statement[2]}"])
+        return Turn(text, [Other(f"without {statement[2]}", "")])
     if '"' in line or "//" in line:
         return None
     one, refusal = ONE.search(line), REFUSAL.search(line)
     if one:
-        text = f"{line[:one.start()]}{one[1]} {either(number, '0', '1')}{line[one.end():]}"
-        return Turn(text, [f"{one[1]} 0 in {line.strip()}"])
+        begin, end = line[: one.start()] + one[1], line[one.end() :]
+        return Turn(f"{begin} {either(number, '0', '1')}{end}", [Other(f"{one[1]} 0 in {line.strip()}", f"{begin} 0{end}")])
     if refusal and "=>" not in line[refusal.end():] and not PATTERN.search(line):
         other = "Refusal::Memory" if refusal[1] == "Device" else "Refusal::Device"
-        text = f"{line[:refusal.start()]}{either(number, other, refusal[0])}{line[refusal.end():]}"
-        return Turn(text, [f"{other} in {line.strip()}"])
+        begin, end = line[: refusal.start()], line[refusal.end() :]
+        text = f"{begin}{either(number, other, refusal[0])}{end}"
+        return Turn(text, [Other(f"{other} in {line.strip()}", f"{begin}{other}{end}")])
     return None
 
 
@@ -99,5 +109,5 @@ def put_turns(folder: pathlib.Path, crates: set[str], left_out: set[str]) -> lis
             if turn:
                 lines[at] = turn.text
                 numbered = enumerate(turn.bodies, number)
-                bodies += [Body(one, crate, where, at + 1, it.name, what, key) for one, what in numbered]
+                bodies += [Body(one, crate, where, at + 1, it.name, *other, key) for one, other in numbered]
     return bodies

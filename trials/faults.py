@@ -23,6 +23,7 @@ import http.client
 import itertools
 import os
 import pathlib
+import re
 import shutil
 import socket
 import sqlite3
@@ -30,7 +31,7 @@ import stat
 import unittest
 
 from trials.calls import CHANGING, KILLED, LOOKING, injected, kills, needs_strace
-from trials.program import EXAMPLES, NOBODY, OPENED_AT, PROGRAM, Case, Ran, check, make_office, ran_words
+from trials.program import EXAMPLES, NOBODY, OPENED_AT, PROGRAM, TOP, Case, Ran, check, make_office, ran_words
 from trials.servers import serving
 
 AT = ["--at", OPENED_AT]
@@ -207,6 +208,16 @@ class WithoutVault(Meeting):
         again = self.ran("replay", "v", given=LINE)
         self.assertTrue(again.out.startswith('{"error":{"code":"NameTaken"'), f"the line isn't carried out: {again}")
         self.is_sound("v")
+
+    def test_version(self):
+        """The version is printed, with the commit if the program knows it; that it can't be written is reported."""
+        version = re.escape((TOP / "packaging" / "VERSION").read_text().strip())
+        for word in ("--version", "-V"):
+            ran = self.ran(word)
+            self.assertEqual((ran.status, ran.err), (0, ""), word)
+            self.assertRegex(ran.out, rf"\Avaultctl {version}(, commit [0-9a-f]{{40}})?\n\Z")
+            with open("/dev/full", "w") as full:
+                self.fails(self.ran(word, stdout=full), "version: Write\n")
 
     def test_full_disk(self):
         """A file gets no longer than some bytes, as on a full disk: nothing is left of the vault that was begun."""

@@ -4,16 +4,16 @@
 ghost use Rattle.std.specs.Prelude.{◌≡◌, ◌≢◌, true, []};
 
 mod commit;
-mod version;
 
 use crate::commit::COMMIT;
-use crate::version::{print_version, version_beside};
 use sqlite::{Start, Unknown};
 use std::io::{self, BufWriter, ErrorKind, Read, Write};
 use std::process::ExitCode;
+use vaultctl_job::words::version_asked;
 use vaultctl_machine::starts::Starts;
 use vaultctl_machine::vaults::{FileMachine, Machine};
 use vaultctl_perform::answer_words;
+use vaultctl_perform::version::answer_version;
 
 /// How many bytes of replies are held back until they are written together.
 const HELD_BACK: usize = 65_536;
@@ -72,8 +72,8 @@ fn answer<A: Start, B: Start, R: Read, W: Write, E: Write>(
     out: &mut W,
     err: &mut E,
 ) -> u8 {
-    match version_beside(COMMIT, words) {
-        Some(version) => print_version(version, COMMIT, out, err),
+    match version_asked(words) {
+        Some(version) => answer_version(machine.runtime().alloc(), version, COMMIT, out, err),
         None => answer_words(machine, starts, words, reader, out, err),
     }
 }

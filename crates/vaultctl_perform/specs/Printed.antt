@@ -22,6 +22,11 @@ migrated_line = codes "migrated" ++ 10 ∷ []
 abbrev pub damaged_line : Table → List ℕ
 damaged_line table = codes "damaged " ++ table_name table ++ 10 ∷ []
 
+-- a version, and its commit where it is known
+abbrev pub version_line : List ℕ → List ℕ → List ℕ
+version_line version [] = codes "vaultctl " ++ version ++ 10 ∷ []
+version_line version (c ∷ cs) = codes "vaultctl " ++ version ++ codes ", commit " ++ (c ∷ cs) ++ 10 ∷ []
+
 -- a command was done and its reply printed, or each row of an intake was taken in and its line printed, or a vault
 -- is sound or lawful or was copied, or the lines of a seal were printed; of registers, events and scripts other clauses
 -- speak, and init and serve print nothing

@@ -1,9 +1,9 @@
 //! Carries out what the program's words ask for.
 #![tactic(auto)]
 
-ghost use Rattle.std.specs.Prelude.{◌≡◌, ◌≢◌, [], None, Some, false, map, string_bytes};
+ghost use Rattle.std.specs.Prelude.{◌≡◌, ◌≢◌, [], None, Some, map, string_bytes};
 ghost use Rattle.clap.specs.Words.{fault_of};
-ghost use Rattle.vaultctl_job.specs.Words.{asks_version, job_for, vaultctl};
+ghost use Rattle.vaultctl_job.specs.Words.{job_for, vaultctl};
 ghost use Rattle.vaultctl_job.specs.declared.job.Job.{Job as AnyJob};
 ghost use Rattle.vault_base.specs.declared.refusal.Refusal.{Refusal};
 ghost use Rattle.sqlite_wal.specs.Files.{image_at};
@@ -19,23 +19,21 @@ mod migrate;
 mod replay;
 mod vaults;
 mod verify;
+pub mod version;
 
 use crate::asking::{ask, ask_read, take_in};
 use crate::call::{Task, call_of};
-use crate::messages::{print_fault, status};
+use crate::messages::print_fault;
 use crate::vaults::in_vault;
 use sqlite::Start;
-use std::alloc::{AllocError, Global};
 use std::io::{Read, Write};
 use vaultctl_commands::asked::{
     bucket, caller, certificate, dept, events, move_bucket, report, run, seal,
 };
 use vaultctl_commands::fault::JobFault;
-use vaultctl_commands::outcome::Outcome;
-use vaultctl_commands::printing::print;
 use vaultctl_job::fault::WordsFault;
 use vaultctl_job::job::{Job, ReplayJob};
-use vaultctl_job::words::{job_of, version_asked};
+use vaultctl_job::words::job_of;
 use vaultctl_machine::starts::Starts;
 use vaultctl_machine::vaults::FileMachine;
 use vaultctl_remedies::hint::hint;
@@ -118,23 +116,6 @@ pub fn perform<A: Start, B: Start, R: Read, W: Write, E: Write>(
     }
 }
 
-/// The line that says which version this is. The error is want of memory.
-fn version_line(alloc: Global, version: &str) -> Result<String, AllocError> {
-    let mut line = String::from_str(alloc, "vaultctl ")?;
-    line.push_str(version)?;
-    line.push_str("\n")?;
-    Ok(line)
-}
-
-/// Prints which version this is.
-fn print_version<W: Write>(alloc: Global, version: &str, out: &mut W) -> Result<Outcome, JobFault> {
-    let Ok(line) = version_line(alloc, version) else {
-        return Err(JobFault::Memory);
-    };
-    print(out, line.as_str())?;
-    Ok(Outcome::Done)
-}
-
 /// Writes why words are refused, and where they are often meant otherwise, how; the status is 2.
 fn print_refused<E: Write>(words: &[String], text: &str, err: &mut E) -> u8
     ensures { result ≡ 2 }
@@ -147,8 +128,11 @@ fn print_refused<E: Write>(words: &[String], text: &str, err: &mut E) -> u8
     2
 }
 
-/// The same as `answer_words`, of words that don't ask for the version.
-fn answer_job<A: Start, B: Start, R: Read, W: Write, E: Write>(
+/// Reads the words, of which the first is the program's name, and carries out their job.
+///
+/// The exit status is that of the job. It is 2 where the words are refused, and the text that says why
+/// goes to `err`; where memory for reading them was refused, it is 1 and `err` gets `words: Memory`.
+pub fn answer_words<A: Start, B: Start, R: Read, W: Write, E: Write>(
     machine: &mut FileMachine<'_, A, B>,
     starts: Starts<A, B>,
     words: &[String],
@@ -170,38 +154,5 @@ fn answer_job<A: Start, B: Start, R: Read, W: Write, E: Write>(
         Ok(job) => perform(machine, starts, &job, reader, out, err),
         Err(WordsFault::Refused(text)) => print_refused(words, text.as_str(), err),
         Err(WordsFault::Memory) => print_fault(err, "words", JobFault::Memory),
-    }
-}
-
-/// Reads the words, of which the first is the program's name, and carries out their job.
-///
-/// The exit status is that of the job. It is 2 where the words are refused, and the text that says why
-/// goes to `err`; where memory for reading them was refused, it is 1 and `err` gets `words: Memory`. Words that ask for
-/// the version are no job: it is printed, with status 0.
-pub fn answer_words<A: Start, B: Start, R: Read, W: Write, E: Write>(
-    machine: &mut FileMachine<'_, A, B>,
-    starts: Starts<A, B>,
-    words: &[String],
-    reader: &mut R,
-    out: &mut W,
-    err: &mut E,
-) -> u8
-    ensures refused { result ≡ 2 → fault_of vaultctl (map string_bytes words.now) ≢ [] }
-    // Words that ask for nothing, and values that aren't such, are never reported as done; words that ask for the version
-    // are no job.
-    ensures words { job_for (map string_bytes words.now) ≡ None → asks_version (map string_bytes words.now) ≡ false → result ≢ 0 }
-    ensures values { (job : AnyJob) (r : Refusal) → job_for (map string_bytes words.now) ≡ Some job → IsValueFault job r → result ≢ 0 }
-    ensures printed { (job : AnyJob) → job_for (map string_bytes words.now) ≡ Some job → result ≡ 0 → IsPrinted job (W.contents out.old) (W.contents out.new) }
-    ensures given { (job : AnyJob) → job_for (map string_bytes words.now) ≡ Some job → result ≡ 0 → machine.new.given ≡ given_by job machine.old.given }
-    ensures done { (job : AnyJob) → job_for (map string_bytes words.now) ≡ Some job → result ≡ 0
-        → IsDoneInFiles (image_at A.Start) job machine.old.closed.items machine.new.closed.items machine.old.copies.items machine.new.copies.items
-        (R.remaining reader.old) (R.remaining reader.new) (W.contents out.old) (W.contents out.new) }
-{
-    match version_asked(words) {
-        Some(version) => {
-            let printed = print_version(machine.runtime().alloc(), version, out);
-            status(err, "version", printed)
-        }
-        None => answer_job(machine, starts, words, reader, out, err),
     }
 }
