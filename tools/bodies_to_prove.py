@@ -1,18 +1,21 @@
-"""Wrong bodies that are given to the prover, one at a time, in a copy of the sources."""
+"""Wrong bodies that are given to the prover, in a copy of the sources, at most one of a function at a time."""
 
-import contextlib
 import pathlib
 import re
 import tempfile
 from concurrent.futures import ThreadPoolExecutor
-from typing import Iterator
 
-from checked_copies import TOP, checked, copy_sources, judged
+from checked_copies import OWN_FAULT, PROVED, checked, copy_sources, judged, why_unread
 from numbered_bodies import Body
 
-IMPL = re.compile(r"impl(?:<.*?>)? (?:.*? for )?(\w+)")
+# The type whose methods follow, and before it the trait that these are of, if they are of one.
+IMPL = re.compile(r"impl(?:<.*?>)? (?:(?:\w+::)*(\w+)(?:<.*>)? for )?(\w+)")
 # A proof names a fact by the condition that it comes from; where that is another, this is what the prover says.
-RENAMED = re.compile(r"(?:\./)?(proofs/\S+?\.antt):\d+:\d+: error: .* has no (?:field|type) `([\w-]+)` \(nearest: \.?([\w-]+)\)")
+RENAMED = re.compile(
+    r"(?:\./)?(proofs/\S+?\.antt):\d+:\d+: error: .* has no (?:field|type) `([\w-]+)` \(nearest: \.?([\w-]+)\)"
+)
+# A proof names what isn't there.
+NAMED = re.compile(r"proofs/\S*(?=.*has no)")
 
 
 def full_name(body: Body, text: str) -> str:
@@ -21,19 +24,26 @@ def full_name(body: Body, text: str) -> str:
     above = text.split("\n")[: body.line]
     lines = [it for it in above if IMPL.match(it) or it == "}"]
     method = IMPL.match(lines[-1]) if lines else None
-    parts = [*(it for it in module if it not in ("lib", "main")), *([method[1]] if method else []), body.name]
-    return "::".join([body.crate, *parts])
+    within = [method[2] + (method[1] or "")] if method else []
+    return "::".join([body.crate, *(it for it in module if it not in ("lib", "main")), *within, body.name])
 
 
-@contextlib.contextmanager
-def written(file: pathlib.Path, text: str) -> Iterator[None]:
-    """A file that has another text for a while."""
-    whole = file.read_text(encoding="utf-8")
-    file.write_text(text, encoding="utf-8")
-    try:
-        yield
-    finally:
-        file.write_text(whole, encoding="utf-8")
+class Files:
+    """Files that have other texts for a while."""
+
+    def __init__(self) -> None:
+        self.whole: dict[pathlib.Path, str] = {}
+
+    def write(self, file: pathlib.Path, text: str) -> None:
+        self.whole.setdefault(file, file.read_text(encoding="utf-8"))
+        file.write_text(text, encoding="utf-8")
+
+    def __enter__(self) -> "Files":
+        return self
+
+    def __exit__(self, *_: object) -> None:
+        for file, text in self.whole.items():
+            file.write_text(text, encoding="utf-8")
 
 
 def with_names(folder: pathlib.Path, said: str) -> dict[pathlib.Path, str]:
@@ -45,41 +55,65 @@ def with_names(folder: pathlib.Path, said: str) -> dict[pathlib.Path, str]:
     return found
 
 
-def outcome(folder: pathlib.Path, name: str) -> tuple[bool, str]:
-    """Whether a check of that function alone refuses it, as `judged`. Where its proofs name a fact of the right body, they
-    are given the name of the wrong one's first."""
-    with contextlib.ExitStack() as stack:
-        for _ in range(4):
-            status, said = checked(folder, "--only", name, "--jobs", "1")
-            renamed = with_names(folder, said)
-            if not renamed:
-                break
-            for file, text in renamed.items():
-                stack.enter_context(written(file, text))
-        return judged(status, said)
+class Prover:
+    """A copy of the sources, in which bodies are put."""
 
+    def __init__(self, room: pathlib.Path) -> None:
+        self.room = room
 
-def judged_body(room: pathlib.Path, body: Body) -> str:
-    """What the prover says of a body, which is put into a copy of its crate."""
-    file = room / body.path
-    lines = file.read_text(encoding="utf-8").split("\n")
-    name = full_name(body, "\n".join(lines))
-    lines[body.line - 1] = body.text
-    with written(file, "\n".join(lines)):
-        return outcome(room / "crates" / body.crate, name)[1]
+    def name_of(self, body: Body) -> str:
+        return full_name(body, (self.room / body.path).read_text(encoding="utf-8"))
+
+    def checked_with(self, bodies: list[Body]) -> tuple[int, str]:
+        """The check of the functions of these bodies, of one crate, with them. Where a proof names a fact of a right
+        body, it is given the name of the wrong one's first."""
+        folder = self.room / "crates" / bodies[0].crate
+        names = [self.name_of(it) for it in bodies]
+        with Files() as files:
+            for it in bodies:
+                lines = (self.room / it.path).read_text(encoding="utf-8").split("\n")
+                lines[it.line - 1] = it.text
+                files.write(self.room / it.path, "\n".join(lines))
+            for _ in range(4):
+                status, said = checked(folder, "--jobs", "1", *(word for it in names for word in ("--only", it)))
+                renamed = with_names(folder, said)
+                for file, text in renamed.items():
+                    files.write(file, text)
+                if not renamed:
+                    break
+        return status, said
+
+    def round_of(self, bodies: list[Body]) -> dict[Body, str]:
+        """What the prover says of these bodies, of functions of one crate, as far as it judges each by its function."""
+        _, said = self.checked_with(bodies)
+        if why_unread(said):
+            return {}
+        refused, named = OWN_FAULT.findall(said), " ".join(NAMED.findall(said))
+        found = {}
+        for it in bodies:
+            name = self.name_of(it)
+            if name in refused and f"/{it.name}/" not in named:
+                found[it] = f"refused at {name}"
+            elif re.search(rf"(?m)^fn {re.escape(name)}: proved", said):
+                found[it] = PROVED
+        return found
+
+    def prove(self, bodies: list[Body]) -> None:
+        """Gives the prover each body of a crate, and prints what comes of it."""
+        left = bodies
+        while left:
+            together = list({(it.path, it.name): it for it in reversed(left)}.values())[::-1]
+            found = self.round_of(together) if len(together) > 1 else {}
+            for it in together:
+                print(f"{it}: {found.get(it) or judged(*self.checked_with([it]))[1]}", flush=True)
+            left = [it for it in left if it not in together]
 
 
 def prove_each(bodies: list[Body], jobs: int) -> None:
     """Gives the prover each body, some crates at once, and prints what comes of it."""
     crates = sorted({it.crate for it in bodies})
-
-    def prove(crate: str) -> None:
-        for it in bodies:
-            if it.crate == crate:
-                print(f"{it}: {judged_body(room, it)}", flush=True)
-
     with tempfile.TemporaryDirectory(prefix="bodies-to-prove-") as name:
-        room = pathlib.Path(name)
-        copy_sources(room)
+        prover = Prover(pathlib.Path(name))
+        copy_sources(prover.room)
         with ThreadPoolExecutor(jobs) as pool:
-            list(pool.map(prove, crates))
+            list(pool.map(lambda crate: prover.prove([it for it in bodies if it.crate == crate]), crates))

@@ -16,6 +16,9 @@ AN_ERROR = re.compile(r"(?:\./)?((?:src|specs)/\S+?):\d+:\d+: error: (`[^`]*`: )
 UNREAD = re.compile(r"is not in scope|has no field|is no name|operand is missing|expected the end|cannot continue")
 # A function of which the check found no proof, by its own fault and not by that of a function that it calls.
 UNPROVED = re.compile(r"(?m)^fn (\S+): (?:not proved|no proof)(?!.*(?:it calls|it passes|a call of))")
+# The same in a check with other edits, where a function has a fault of its own beside one of those that it calls.
+OF_A_CALL = r"(?:it calls|it passes|a call of)"
+OWN_FAULT = re.compile(rf"(?m)^fn (\S+): (?:not proved|no proof)(?=.*did not prove|(?!.*{OF_A_CALL}))")
 
 
 def copy_sources(folder: pathlib.Path) -> None:

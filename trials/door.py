@@ -129,9 +129,21 @@ def ok_puts(replies: list[bytes]) -> list[int]:
     return [it["ok"]["version_id"] for it in found if "version_id" in it.get("ok", {})]
 
 
+def no_accept_waits(process: int) -> None:
+    """Neither door's socket has the server wait where a connection is gone by the time that it is taken."""
+    ports, paths = ([it.split() for it in pathlib.Path("/proc/net", name).read_text().splitlines()] for name in ("tcp", "unix"))
+    # A port's state, and a Unix socket's flags, say that it listens.
+    listening = {it[9] for it in ports if it[3] == "0A"} | {it[6] for it in paths if it[3] == "00010000"}
+    ours = [it.name for it in pathlib.Path(f"/proc/{process}/fd").iterdir() if os.readlink(it)[8:-1] in listening]
+    shown = [pathlib.Path(f"/proc/{process}/fdinfo/{it}").read_text() for it in ours]
+    flags = [int(found, 8) for it in shown for found in re.findall(r"flags:\s+(\d+)", it)]
+    equal([it & os.O_NONBLOCK for it in flags], [os.O_NONBLOCK] * 2, "that no accept waits")
+
+
 def plain(server: Server) -> None:
     """Lines and requests over one vault, at the machine's clock."""
     equal(server.said, f"serving {server.file} at {HOST}:{server.port}, lines at {server.where}\n", "what it says")
+    no_accept_waits(server.serving.pid)
     equal(server.lines(put("a")), [b'{"ok":{"version_id":1}}'], "a put")
     equal(server.http_get("a"), b"hello", "a get of what a line put")
     before = time.strftime("%Y-%m-%dT%H:%M:%SZ", time.gmtime())
@@ -464,6 +476,7 @@ def at_a_port(server: Server) -> None:
     """Lines at a port. Both doors are at one address alone."""
     equal(server.said, f"serving {server.file} at {HOST}:{server.port}, lines at {HOST}:{server.where}\n", "what it says")
     equal(ok_puts(server.lines(put("a"))), [1], "a put")
+    no_accept_waits(server.serving.pid)
     for port in (server.port, int(server.where)):
         refuses_others(port)
     equal(server.lines(line("registrar", "close")), [b'{"ok":{}}'], "the end")
