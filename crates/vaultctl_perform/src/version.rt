@@ -1,5 +1,5 @@
 //! Which version this is.
-ghost use Rattle.std.specs.Prelude.{◌≡◌, ◌≢◌, IfOk, OnOk, string_bytes};
+ghost use Rattle.std.specs.Prelude.{◌≡◌, ◌≢◌, IfOk, string_bytes};
 ghost use Rattle.std.specs.Io.KnownBytes.{Appends};
 ghost use Rattle.vaultctl_perform.specs.Printed as spec;
 
@@ -31,7 +31,7 @@ fn print_version<W: Write>(
     commit: &str,
     out: &mut W,
 ) -> Result<Outcome, JobFault>
-    ensures { OnOk result (Appends (W.contents out.old) (W.contents out.new) (spec.version_line version.now commit.now)) }
+    ensures { IfOk result (λ stated. (stated ≡ Outcome.Done) × Appends (W.contents out.old) (W.contents out.new) (spec.version_line version.now commit.now)) }
 {
     let Ok(line) = version_line(alloc, version, commit) else {
         return Err(JobFault::Memory);
@@ -52,6 +52,5 @@ pub fn answer_version<W: Write, E: Write>(
     ensures status { result ≢ 2 }
     ensures printed { result ≡ 0 → Appends (W.contents out.old) (W.contents out.new) (spec.version_line version.now commit.now) }
 {
-    let printed = print_version(alloc, version, commit, out);
-    status(err, "version", printed)
+    status(err, "version", print_version(alloc, version, commit, out))
 }
