@@ -40,8 +40,9 @@ PAUSE = 1.2
 SLOW_READ = f"inject=pread64:delay_enter={round(PAUSE * 1_000_000)}:when=3"
 # The bytes of a content, and how many the store can't all hold in memory.
 LARGE, MANY = 1 << 20, 4
-# A read of an opening after more than a MiB was read of such contents.
-LATE = 3_000
+# A read of an opening by which a file of such contents was read more than twice over: a page that was read before is
+# read in another way.
+LATE = 12_000
 
 
 def jobs(name):
@@ -175,7 +176,8 @@ class Openings(Case):
         self.assertIn("(DELAYED)", reads[LATE - 1])
         read = sum(int(it.removesuffix(" (DELAYED)").rpartition(" = ")[2]) for it in reads[:LATE])
         mebibytes = [it >> 20 for it in (read, file.stat().st_size)]
-        self.assertGreater(min(mebibytes), 0, mebibytes)
+        self.assertGreater(mebibytes[0], 2 * mebibytes[1], mebibytes)
+        self.assertGreater(mebibytes[1], 0, mebibytes)
         self.assertIn("opening: {} MiB read, of a file of {} MiB".format(*mebibytes), said.splitlines())
 
     def test_once_it_is_open(self) -> None:
