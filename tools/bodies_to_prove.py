@@ -64,18 +64,22 @@ class Prover:
     def name_of(self, body: Body) -> str:
         return full_name(body, (self.room / body.path).read_text(encoding="utf-8"))
 
+    def checked(self, bodies: list[Body]) -> tuple[int, str]:
+        """The check of the functions of these bodies, of one crate, as they are in the copy."""
+        only = (word for name in sorted({self.name_of(it) for it in bodies}) for word in ("--only", name))
+        return checked(self.room / "crates" / bodies[0].crate, "--jobs", "1", *only)
+
     def checked_with(self, bodies: list[Body]) -> tuple[int, str]:
-        """The check of the functions of these bodies, of one crate, with them. Where a proof names a fact of a right
-        body, it is given the name of the wrong one's first."""
+        """The same with the bodies put in. Where a proof names a fact of a right body, it is given the name of the
+        wrong one's first."""
         folder = self.room / "crates" / bodies[0].crate
-        names = [self.name_of(it) for it in bodies]
         with Files() as files:
             for it in bodies:
                 lines = (self.room / it.path).read_text(encoding="utf-8").split("\n")
                 lines[it.line - 1] = it.text
                 files.write(self.room / it.path, "\n".join(lines))
             for _ in range(4):
-                status, said = checked(folder, "--jobs", "1", *(word for it in names for word in ("--only", it)))
+                status, said = self.checked(bodies)
                 renamed = with_names(folder, said)
                 for file, text in renamed.items():
                     files.write(file, text)
@@ -99,7 +103,11 @@ class Prover:
         return found
 
     def prove(self, bodies: list[Body]) -> None:
-        """Gives the prover each body of a crate, and prints what comes of it."""
+        """Gives the prover each body of a crate, whose functions have to be proved as they are, and prints what comes
+        of it."""
+        if self.checked(bodies)[0]:
+            print(f"{bodies[0].crate}: the functions aren't proved as they are", flush=True)
+            return
         left = bodies
         while left:
             together = list({(it.path, it.name): it for it in reversed(left)}.values())[::-1]
