@@ -136,6 +136,7 @@ fn commit<S: Alter>(conn: &mut Connection<S>) -> Result<(), Refusal>
     ensures settled { OnOk result (conn.new.in_transaction ≡ false) }
     ensures faults { IfErr result IsFault }
     ensures healthy { IsTrue conn.old.in_transaction → IfErr result (λ r. IsHealthy (state S.Store conn.new) → r ≢ Refusal.Device) }
+    ensures outside { conn.old.in_transaction ≡ false → result ≡ Err Refusal.Device }
     ensures undone { HasCleanDisk (state S.Store conn.new) → OnErr result (IsUndone (state S.Store conn.old) (state S.Store conn.new)) }
     ensures crash { Survives (state S.Store conn.old) (state S.Store conn.new) (λ trees. trees ≡ (state S.Store conn.old).now.trees) }
 {

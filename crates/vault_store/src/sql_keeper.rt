@@ -193,7 +193,7 @@ impl<S: Alter> SqlKeeper<S> {
         ensures crash { IfOk result (λ k. Survives (state S.Store conn) (state S.Store k.conn) (IsFoundIn opening)) }
         ensures harmless { IfErr result (λ e. Survives (state S.Store conn) (state S.Store e.1) (IsFoundIn opening)) }
         // Inside a transaction it is refused, and that is left as it was; else none is open after it, and no table was changed.
-        ensures inside { IsTrue conn.in_transaction → IsErrAnd result (λ e. e.1 ≡ conn) }
+        ensures inside { IsTrue conn.in_transaction → IsErrAnd result (λ e. (e.0 ≢ Refusal.Memory) × (e.1 ≡ conn)) }
         ensures outside { conn.in_transaction ≡ false → IfErr result (λ e. e.1.in_transaction ≡ false) }
         ensures tables { conn.in_transaction ≡ false → IfErr result (λ e. HasCleanDisk (state S.Store e.1) → HasTablesOf (state S.Store conn) (state S.Store e.1)) }
     {

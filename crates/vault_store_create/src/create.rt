@@ -64,7 +64,8 @@ pub fn fill<S: Alter>(conn: &mut Connection<S>) -> Result<(), Refusal>
     ensures nothing { HasCleanDisk (state S.Store conn.new) → IsTrue (state S.Store conn.new).is_open
         → OnErr result (((state S.Store conn.new).now ≡ (state S.Store conn.old).now) × ((state S.Store conn.new).committed ≡ (state S.Store conn.old).committed)) }
     ensures mode { conn.old.in_transaction ≡ false → conn.new.in_transaction ≡ false }
-    ensures inside { IsTrue conn.old.in_transaction → IsErrAnd result (λ _. conn.new ≡ conn.old) }
+    // Inside a transaction no memory is wanted.
+    ensures inside { IsTrue conn.old.in_transaction → IsErrAnd result (λ r. (r ≢ Refusal.Memory) × (conn.new ≡ conn.old)) }
 
     // What a crash may leave, at any moment of the call: what it could leave before, or this vault.
     ensures crash { Survives (state S.Store conn.old) (state S.Store conn.new) AreOpening }
