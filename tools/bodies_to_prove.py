@@ -18,14 +18,15 @@ RENAMED = re.compile(
 NAMED = re.compile(r"proofs/\S*(?=.*has no)")
 
 
-def full_name(body: Body, text: str) -> str:
-    """The name of a body's function in its crate, with its module and, if it is a method, its type."""
-    module = pathlib.Path(body.path).with_suffix("").parts[3:]
+def name_in(body: Body, text: str) -> str:
+    """The name of a body's function: in its crate, or, as its type may be of another module, in that type."""
     above = text.split("\n")[: body.line]
     lines = [it for it in above if IMPL.match(it) or it == "}"]
     method = IMPL.match(lines[-1]) if lines else None
-    within = [method[2] + (method[1] or "")] if method else []
-    return "::".join([body.crate, *(it for it in module if it not in ("lib", "main")), *within, body.name])
+    if method:
+        return f"{method[2]}{method[1] or ''}::{body.name}"
+    module = pathlib.Path(body.path).with_suffix("").parts[3:]
+    return "::".join([body.crate, *(it for it in module if it not in ("lib", "main")), body.name])
 
 
 class Files:
@@ -62,7 +63,7 @@ class Prover:
         self.room = room
 
     def name_of(self, body: Body) -> str:
-        return full_name(body, (self.room / body.path).read_text(encoding="utf-8"))
+        return name_in(body, (self.room / body.path).read_text(encoding="utf-8"))
 
     def checked(self, bodies: list[Body]) -> tuple[int, str]:
         """The check of the functions of these bodies, of one crate, as they are in the copy."""
@@ -96,9 +97,9 @@ class Prover:
         found = {}
         for it in bodies:
             name = self.name_of(it)
-            if name in refused and f"/{it.name}/" not in named:
+            if f"/{it.name}/" not in named and any(f"::{other}".endswith(f"::{name}") for other in refused):
                 found[it] = f"refused at {name}"
-            elif re.search(rf"(?m)^fn {re.escape(name)}: proved", said):
+            elif re.search(rf"(?m)^fn (?:\S+::)?{re.escape(name)}: proved", said):
                 found[it] = PROVED
         return found
 
