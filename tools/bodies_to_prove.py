@@ -8,8 +8,9 @@ from concurrent.futures import ThreadPoolExecutor
 from checked_copies import OWN_FAULT, PROVED, checked, copy_sources, judged, why_unread
 from numbered_bodies import Body
 
-# The type whose methods follow, and before it the trait that these are of, if they are of one.
-IMPL = re.compile(r"impl(?:<.*?>)? (?:(?:\w+::)*(\w+)(?:<.*>)? for )?(\w+)")
+# The type whose methods follow, with what stands between its brackets, and before it the trait that these are of, if
+# they are of one.
+IMPL = re.compile(r"impl(?:<.*?>)? (?:(?:\w+::)*(\w+)(?:<.*>)? for )?(\w+)(?:<(.*)> \{)?")
 # A proof names a fact by the condition that it comes from; where that is another, this is what the prover says.
 RENAMED = re.compile(
     r"(?:\./)?(proofs/\S+?\.antt):\d+:\d+: error: .* has no (?:field|type) `([\w-]+)` \(nearest: \.?([\w-]+)\)"
@@ -24,7 +25,9 @@ def name_in(body: Body, text: str) -> str:
     lines = [it for it in above if IMPL.match(it) or it == "}"]
     method = IMPL.match(lines[-1]) if lines else None
     if method:
-        return f"{method[2]}{method[1] or ''}::{body.name}"
+        # A type is named with its arguments where these aren't its parameters alone.
+        within = re.findall(r"(?<!')\b\w+", method[3] or "") if "<" in (method[3] or "") else []
+        return f"{'+'.join([method[2], *within])}{method[1] or ''}::{body.name}"
     module = pathlib.Path(body.path).with_suffix("").parts[3:]
     return "::".join([body.crate, *(it for it in module if it not in ("lib", "main")), body.name])
 

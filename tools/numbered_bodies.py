@@ -84,7 +84,8 @@ def functions(text: str) -> Iterator[Function]:
         if not head:
             continue
         end = begin
-        while end < len(lines) and lines[end] != head[1] + "{" and not lines[end].endswith((" {", ";", " {}")):
+        whole = [head[1] + it for it in ("{", "{}")]
+        while end < len(lines) and lines[end] not in whole and not lines[end].endswith((" {", ";", " {}")):
             end += 1
         if end < len(lines) and lines[end].endswith("{"):
             signature = " ".join(it.strip() for it in lines[begin : end + 1] if not it.strip().startswith("//"))
