@@ -130,14 +130,14 @@ def ok_puts(replies: list[bytes]) -> list[int]:
 
 
 def no_accept_waits(process: int) -> None:
-    """Neither door's socket has the server wait where a connection is gone by the time that it is taken."""
+    """Fails unless the sockets of both doors are non-blocking: no accept waits, even if its connection is gone."""
     ports, paths = ([it.split() for it in pathlib.Path("/proc/net", name).read_text().splitlines()] for name in ("tcp", "unix"))
     # A port's state, and a Unix socket's flags, say that it listens.
     listening = {it[9] for it in ports if it[3] == "0A"} | {it[6] for it in paths if it[3] == "00010000"}
     ours = [it.name for it in pathlib.Path(f"/proc/{process}/fd").iterdir() if os.readlink(it)[8:-1] in listening]
     shown = [pathlib.Path(f"/proc/{process}/fdinfo/{it}").read_text() for it in ours]
     flags = [int(found, 8) for it in shown for found in re.findall(r"flags:\s+(\d+)", it)]
-    equal([it & os.O_NONBLOCK for it in flags], [os.O_NONBLOCK] * 2, "that no accept waits")
+    equal([it & os.O_NONBLOCK for it in flags], [os.O_NONBLOCK] * 2, "the flags of the sockets that listen")
 
 
 def plain(server: Server) -> None:

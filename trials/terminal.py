@@ -40,8 +40,8 @@ PAUSE = 1.2
 SLOW_READ = f"inject=pread64:delay_enter={round(PAUSE * 1_000_000)}:when=3"
 # The bytes of a content, and how many the store can't all hold in memory.
 LARGE, MANY = 1 << 20, 4
-# A read of an opening by which a file of such contents was read more than twice over: a page that was read before is
-# read in another way.
+# A read of an opening. By then more than twice the bytes of such a file were read, so pages were read again, which is
+# another call.
 LATE = 12_000
 
 
