@@ -8,19 +8,19 @@ from concurrent.futures import ThreadPoolExecutor
 from checked_copies import OWN_FAULT, PROVED, checked, copy_sources, judged, why_unread
 from numbered_bodies import Body
 
-# The type whose methods follow, with what stands between its brackets, and before it the trait that these are of, if
-# they are of one.
+# The head of an impl: its trait, if it is of one, its type, and the type's arguments.
 IMPL = re.compile(r"impl(?:<.*?>)? (?:(?:\w+::)*(\w+)(?:<.*>)? for )?(\w+)(?:<(.*)> \{)?")
-# A proof names a fact by the condition that it comes from; where that is another, this is what the prover says.
+# A fact has the name of its condition. This is what the prover says of a proof that uses the name of another condition.
 RENAMED = re.compile(
     r"(?:\./)?(proofs/\S+?\.antt):\d+:\d+: error: .* has no (?:field|type) `([\w-]+)` \(nearest: \.?([\w-]+)\)"
 )
-# A proof names what isn't there.
+# The files of proofs that use a name which isn't there.
 NAMED = re.compile(r"proofs/\S*(?=.*has no)")
 
 
 def name_in(body: Body, text: str) -> str:
-    """The name of a body's function: in its crate, or, as its type may be of another module, in that type."""
+    """The name by which a check knows a body's function: its path in the crate; of a method only its type, as that may
+    be of another module."""
     above = text.split("\n")[: body.line]
     lines = [it for it in above if IMPL.match(it) or it == "}"]
     method = IMPL.match(lines[-1]) if lines else None
@@ -51,7 +51,7 @@ class Files:
 
 
 def with_names(folder: pathlib.Path, said: str) -> dict[pathlib.Path, str]:
-    """The proofs that name a fact as it isn't called any more, with its name."""
+    """The proofs that use the old name of a fact, with the new one in its place."""
     found: dict[pathlib.Path, str] = {}
     for path, old, new in set(RENAMED.findall(said)):
         text = found.get(folder / path) or (folder / path).read_text(encoding="utf-8")
@@ -68,14 +68,14 @@ class Prover:
     def name_of(self, body: Body) -> str:
         return name_in(body, (self.room / body.path).read_text(encoding="utf-8"))
 
-    def checked(self, bodies: list[Body]) -> tuple[int, str]:
-        """The check of the functions of these bodies, of one crate, as they are in the copy."""
+    def check(self, bodies: list[Body]) -> tuple[int, str]:
+        """The status of a check of these bodies' functions, of one crate, as they stand, and what it says."""
         only = (word for name in sorted({self.name_of(it) for it in bodies}) for word in ("--only", name))
         return checked(self.room / "crates" / bodies[0].crate, "--jobs", "1", *only)
 
-    def checked_with(self, bodies: list[Body]) -> tuple[int, str]:
-        """The same with the bodies put in. Where a proof names a fact of a right body, it is given the name of the
-        wrong one's first."""
+    def check_with(self, bodies: list[Body]) -> tuple[int, str]:
+        """The same with the bodies put in. A proof that uses the name of a fact of the right body gets the name that
+        the wrong one has."""
         folder = self.room / "crates" / bodies[0].crate
         with Files() as files:
             for it in bodies:
@@ -83,7 +83,7 @@ class Prover:
                 lines[it.line - 1] = it.text
                 files.write(self.room / it.path, "\n".join(lines))
             for _ in range(4):
-                status, said = self.checked(bodies)
+                status, said = self.check(bodies)
                 renamed = with_names(folder, said)
                 for file, text in renamed.items():
                     files.write(file, text)
@@ -93,7 +93,7 @@ class Prover:
 
     def round_of(self, bodies: list[Body]) -> dict[Body, str]:
         """What the prover says of these bodies, of functions of one crate, as far as it judges each by its function."""
-        _, said = self.checked_with(bodies)
+        _, said = self.check_with(bodies)
         if why_unread(said):
             return {}
         refused, named = OWN_FAULT.findall(said), " ".join(NAMED.findall(said))
@@ -109,7 +109,7 @@ class Prover:
     def prove(self, bodies: list[Body]) -> None:
         """Gives the prover each body of a crate, whose functions have to be proved as they are, and prints what comes
         of it."""
-        if self.checked(bodies)[0]:
+        if self.check(bodies)[0]:
             print(f"{bodies[0].crate}: the functions aren't proved as they are", flush=True)
             return
         left = bodies
@@ -117,7 +117,7 @@ class Prover:
             together = list({(it.path, it.name): it for it in reversed(left)}.values())[::-1]
             found = self.round_of(together) if len(together) > 1 else {}
             for it in together:
-                print(f"{it}: {found.get(it) or judged(*self.checked_with([it]))[1]}", flush=True)
+                print(f"{it}: {found.get(it) or judged(*self.check_with([it]))[1]}", flush=True)
             left = [it for it in left if it not in together]
 
 

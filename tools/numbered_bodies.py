@@ -21,8 +21,8 @@ pub fn chosen(number: u32) -> u32 {
 
 
 class Body(NamedTuple):
-    """A body: its number, where it is put, what is another in it, and the line that it has. By its key it is left
-    out."""
+    """A body: its number, where it is put, what differs in it, and the text of its line. Bodies of one key are left out
+    together, where they don't compile."""
 
     number: int
     crate: str

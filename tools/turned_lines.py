@@ -20,14 +20,14 @@ PATTERN = re.compile(r"matches!|\blet\b|\|")
 
 
 class Other(NamedTuple):
-    """What is another in a body, and the line that it has."""
+    """What differs in a body, and the text of its line."""
 
     what: str
     line: str
 
 
 class Turn(NamedTuple):
-    """A line that has bodies: its text with all of them, and each, by their numbers in order."""
+    """A line that has bodies: its text with all of them, and each of them, in the order of their numbers."""
 
     text: str
     bodies: list[Other]
