@@ -51,6 +51,9 @@ EDITS = [
     # who may not read the file
     ("cases", "        except PermissionError as error:\n", "        except UnicodeEncodeError as error:\n",
      ALONE + "test_who_may_only_come_to_the_door_is_told_what_wants_the_file"),
+    ("trying", "return self.engine.ask(do, **members) if self.is_asked else {}", "return self.engine.ask(do, **members)",
+     ALONE + "test_a_dry_run_without_the_file_only_looks_and_says_so"),
+    ("trying", "vault=copy, door=None", "vault=copy", ASKED + "test_a_dry_run_asks_a_copy"),
     ("deliveries", "        differing = _differing(engine, words.bucket, taken)\n    except EngineError as error:\n",
      "        differing = _differing(engine, words.bucket, taken)\n    except UnicodeEncodeError as error:\n",
      ALONE + "test_a_delivery_is_reported_also_where_it_cant_be_compared"),

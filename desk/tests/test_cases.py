@@ -84,7 +84,8 @@ class OfCases(OfficeTest):
                    {"do": "delete-version", "bucket": "docs", "key": "2025/c", "id": 3}, at="2024-01-15T10:00:00Z")
         before = self.file_of_cases.read_bytes()
         rows = json.loads(self.done("release", "--case", "one", "--dry-run", "--json"))
-        self.assertEqual([it["is"].partition(": ")[2] for it in rows], ["still for case 'two'", ""])
+        told = ["would be: no retention, hold ON: still for case 'two'", "not held any more"]
+        self.assertEqual([it["is"] for it in rows], told)
         self.assertEqual(self.file_of_cases.read_bytes(), before)
 
     def test_a_hold_of_a_case_isnt_lifted_without_its_name(self) -> None:

@@ -151,6 +151,47 @@ class PutAndGet(OfficeTest):
         self.done("put", "docs", "a", path, "--until", "2055-01-01", "--mode", "COMPLIANCE")
         self.done("put", "docs", "a", path, "--until", "2056-01-01", "--yes")
 
+    def test_a_mode_without_an_end_is_refused(self) -> None:
+        path = self.written("a.txt", b"hello")
+        for mode in ("COMPLIANCE", "GOVERNANCE"):
+            done = self.desk("put", "docs", "a", path, "--mode", mode, "--hold")
+            self.assertEqual((done.status, done.out), (2, ""))
+            self.assertIn(f"--mode {mode} is the mode of a retention, which has an end: give --until DATE", done.err)
+        self.assertEqual(self.done("ls", "docs"), "")
+
+    def test_what_nothing_guards_is_said(self) -> None:
+        path = self.written("a.txt", b"hello")
+        said = "nothing guards version 1, as docs has no default retention: set an end by vaultdesk retain"
+        done = self.desk("put", "docs", "a", path)
+        self.assertEqual((done.status, done.out, done.err.count("\n")), (0, "1\n", 1))
+        self.assertIn(said, done.err)
+        self.assertIn("nothing guards version 2", json.loads(self.desk("put", "docs", "a", path, "--json").out)["note"])
+        for words in (("--hold",), ("--until", "2034-01-01")):
+            self.assertEqual(self.desk("put", "docs", "a", path, *words).err, "")
+        self.lines({"do": "set-default", "bucket": "docs", "mode": "GOVERNANCE", "days": 1}, at="2024-01-15T10:00:00Z")
+        self.assertEqual(json.loads(self.desk("put", "docs", "a", path, "--json").out)["note"], "")
+        bob = {"do": "add-caller", "as": "registrar", "caller": "bob", "dept": "records", "rights": ["put"]}
+        self.lines(bob, at="2024-01-15T10:00:00Z")
+        done = self.desk("put", "docs", "a", path, "--as", "bob")
+        self.assertEqual((done.status, done.out), (0, "6\n"))
+        self.assertIn("what guards version 6 isn't known: AccessDenied right:get", done.err)
+
+    def test_a_mode_that_isnt_the_buckets_is_said(self) -> None:
+        path = self.written("a.txt", b"hello")
+        clerk = {"do": "add-caller", "as": "registrar", "caller": "cid", "dept": "records", "rights": ["put", "retain"]}
+        years = {"do": "set-default", "bucket": "docs", "mode": "COMPLIANCE", "years": 1}
+        self.lines(clerk, years, at="2024-01-15T10:00:00Z")
+        said = "the mode is GOVERNANCE, and the default of docs is COMPLIANCE for 1 year: if that was meant, give "
+        # Who may not ask for the default is told all the same: it is read from the tables.
+        for caller in ("ann", "cid"):
+            done = self.desk("put", "docs", "a", path, "--until", "2034-01-01", "--as", caller)
+            self.assertEqual((done.status, done.err), (0, f"{said}vaultdesk retain --mode COMPLIANCE\n"))
+        self.assertEqual(self.desk("put", "docs", "a", path, "--until", "2034-01-01", "--mode", "COMPLIANCE").err, "")
+        self.lines({**years, "mode": "GOVERNANCE"}, at="2024-01-15T10:00:00Z")
+        words = ("put", "docs", "a", path, "--until", "2034-01-01", "--mode", "COMPLIANCE", "--json")
+        note = "the mode is COMPLIANCE, and the default of docs is GOVERNANCE for 1 year: nobody removes it or shortens"
+        self.assertEqual(json.loads(self.desk(*words).out)["note"], f"{note} it before its end")
+
     def test_no_change_is_dated_ahead_of_the_clock(self) -> None:
         path = self.written("a.txt", b"hello")
         bucket = ["buckets", "--add", "mail", "--department", "records", "--as", "registrar"]

@@ -84,6 +84,29 @@ class ByTheDoor(ServedTest):
         self.assertEqual((done.status, done.out), (1, "2\n"))
         self.assertIn("version 1 of the key came at the same moment", done.err)
 
+    def test_a_dry_run_asks_a_copy(self) -> None:
+        self.lines({"do": "put", "bucket": "docs", "key": "a", "text": "hello", "hold": "ON"})
+        self.serve()
+        tried = ("--dry-run", "--door", str(self.where))
+        done = self.call("delete", "docs", "a", "--version", "1", *tried)
+        self.assertEqual((done.status, done.err), (1, "vaultdesk delete: 1 of 1 would be refused\n"))
+        self.assertIn("AccessDenied legal-hold", done.out)
+        self.assertIn("would be: no retention, hold OFF", self.done("release", "docs", "a", *tried, at=None))
+        self.assertEqual(json.loads(self.done("info", "docs", "a", "--json", at=None))["hold"], "ON")
+
+    def test_what_is_put_without_a_guard_or_otherwise_is_said(self) -> None:
+        rights = {"do": "add-caller", "as": "registrar", "dept": "records"}
+        self.lines({**rights, "caller": "cid", "rights": ["put", "retain"]})
+        self.serve()
+        words = ("put", "docs", "a", self.written("a", b"x"))
+        self.assertIn("nothing guards version 1", self.call(*words).err)
+        self.assertIn("what guards version 2 isn't known: AccessDenied right:get", self.call(*words, "--as", "cid").err)
+        self.done("default", "docs", "--days", "1", "--mode", "COMPLIANCE", "--yes", at=None)
+        end = ("--until", "2034-01-01")
+        self.assertIn("the default of docs is COMPLIANCE for 1 day", self.call(*words, *end).err)
+        # A server answers who may set a default, and nobody else.
+        self.assertEqual(self.call(*words, *end, "--as", "cid"), Done(0, "4\n", ""))
+
     def test_many_pages_of_a_list(self) -> None:
         self.lines(*({"do": "put", "bucket": "docs", "key": f"{it:04}", "text": "x"} for it in range(25)))
         self.serve()
@@ -376,6 +399,20 @@ class DoorAlone(ServedTest):
             done = self.as_nobody(*words)
             self.assertEqual((done.status, done.out), (1, ""))
             self.assertIn(said, done.err)
+
+    def test_a_dry_run_without_the_file_only_looks_and_says_so(self) -> None:
+        self.lines({"do": "put", "bucket": "docs", "key": "a", "text": "hello", "hold": "ON"})
+        self.serve(self.where)
+        self.where.chmod(0o666)
+        place = ("docs", "a", "--version", "1", "--dry-run")
+        for words, told in ((("delete", *place), "asked for"), (("hold", *place), "no retention, hold ON"),
+                            (("retain", *place, "--until", "2134-01-01"), "GOVERNANCE until 2134-01-01T00:00:00Z")):
+            done = self.as_nobody(*words)
+            self.assertEqual(done.status, 0, done.err)
+            self.assertIn(f"would be: {told}", done.out)
+            self.assertRegex(done.err, "^which would be refused isn't known: .*: ask as the vault's owner")
+        self.assertIn("NoSuchVersion", self.as_nobody("hold", "docs", "a", "--version", "9", "--dry-run").out)
+        self.assertEqual(len(self.done("history", "1", at=None).splitlines()), 5)
 
     def test_a_delivery_is_reported_also_where_it_cant_be_compared(self) -> None:
         scans = self.where.parent / "scans"

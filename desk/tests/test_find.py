@@ -65,6 +65,23 @@ class Find(OfficeTest):
         missing = self.desk("find", "--same-as", str(self.folder / "none"))
         self.assertEqual((missing.status, missing.out), (1, ""))
 
+    def test_a_file_that_no_version_can_be_is_no_wrong_no(self) -> None:
+        for size, status in ((1_048_576, 0), (1_048_577, 1)):
+            done = self.desk("find", "--same-as", self.written("scan", b"x" * size), "--json", at=None)
+            self.assertEqual((done.status, "in parts alone" in done.err), (status, bool(status)), size)
+
+    def test_where_nothing_is_found_it_says_so(self) -> None:
+        nothing = "nothing was found"
+        for words, said in (
+            (("müller",), f"{nothing} letter by letter: with -i there are 3\n"),
+            (("müller", "--bucket", "mail"), f"{nothing} letter by letter: with -i there are 1\n"),
+            (("-i", "meier"), f"{nothing}\n"), (("meier",), f"{nothing}\n"),
+            (("--removed", "--bucket", "mail"), f"{nothing}\n"),
+        ):  # fmt: skip
+            done = self.desk("find", *words, at=None)
+            self.assertEqual((done.status, done.out, done.err), (0, "", said), words)
+        self.assertEqual(self.desk("find", "meier", "--csv", at=None).err, f"{nothing}\n")
+
     def test_dates_have_a_first_moment_and_one_that_is_left_out(self) -> None:
         self.assertEqual(self.found("--since", "2024-02-03T09:00:00Z", "--before", "2024-02-05T09:00:00Z"), [3, 4])
         self.assertEqual(self.found("--before", "2024-02-02"), [1])

@@ -3,9 +3,11 @@
 from __future__ import annotations
 
 import json
+import shutil
 import unicodedata
 
 from tests.office import OfficeTest
+from vaultdesk.output import refusals
 
 LATER = "2024-01-15T11:00:00Z"
 
@@ -44,7 +46,13 @@ class Locks(OfficeTest):
         self.done("hold", "docs", "2024/a")
         rows = json.loads(self.done("release", "docs", "--prefix", "2024/", "--json"))
         off = "no retention, hold OFF"
-        self.assertEqual([(it["was"], it["is"]) for it in rows], [("no retention, hold ON", off), (off, off)])
+        wanted = [("no retention, hold ON", off), (off, f"{off}: no hold was on")]
+        self.assertEqual([(it["was"], it["is"]) for it in rows], wanted)
+
+    def test_a_release_of_what_has_no_hold_changes_nothing(self) -> None:
+        before = self.done("history", "1", at=None)
+        self.assertIn("no retention, hold OFF: no hold was on", self.done("release", "docs", "2024/a"))
+        self.assertEqual(self.done("history", "1", at=None), before)
 
     def test_a_list_names_versions(self) -> None:
         self.lines({"do": "put", "bucket": "docs", "key": "2024/a", "text": "newer"})
@@ -111,6 +119,82 @@ class Locks(OfficeTest):
         self.assertEqual((self.held("2024/a"), self.end(1)), ("OFF", None))
         found = json.loads(self.done("ls", "docs", "--json"))
         self.assertEqual([it["version"] for it in found], [1, 2, 3])
+
+    def test_a_dry_run_has_the_engines_refusals(self) -> None:
+        until = {"mode": "GOVERNANCE", "until": "2030-01-01T00:00:00Z"}
+        place = {"bucket": "docs", "key": "2024/a", "id": 1}
+        held = {"do": "set-hold", "bucket": "docs", "key": "2024/b", "hold": "ON"}
+        eve = {"do": "add-caller", "as": "registrar", "caller": "eve", "dept": "records", "rights": ["get", "list"]}
+        self.lines({"do": "set-retention", **place, **until}, held, eve)
+        listed = self.written("list.csv", b"key,version\n2024/a,1\n2024/b,2\n2025/c,3\n2025/c,4\n")
+        before = [self.done("history", it, at=None) for it in "123"]
+        for words, causes in (
+            (("delete",), ["AccessDenied retention-governance", "AccessDenied legal-hold", "", "NoSuchVersion"]),
+            (("delete", "--bypass"), ["", "AccessDenied legal-hold", "", "NoSuchVersion"]),
+            (("delete", "--as", "eve"), ["AccessDenied right:delete-version"] * 4),
+            (("retain", "--until", "2029-01-01"), ["AccessDenied retention-governance", "", "", "NoSuchVersion"]),
+            (("retain", "--until", "2020-01-01"), ["InvalidArgument"] * 3 + ["NoSuchVersion"]),
+            (("hold", "--as", "eve"), ["AccessDenied right:hold"] * 3 + ["NoSuchVersion"]),
+            (("release", "--as", "eve"), ["", "AccessDenied right:hold", "", "NoSuchVersion"]),
+        ):
+            asked = (words[0], "docs", "--from", listed, *words[1:])
+            done = self.desk(*asked, "--dry-run", "--json")
+            rows, count = json.loads(done.out), sum(map(bool, causes))
+            self.assertEqual([it["refused"].partition(": ")[0] for it in rows], causes, words)
+            self.assertEqual([it["is"].startswith("would be: ") for it in rows], [not it for it in causes], words)
+            self.assertEqual((done.status, done.err), (1, f"vaultdesk {words[0]}: {count} of 4 would be refused\n"))
+            self.assertEqual([self.done("history", it, at=None) for it in "123"], before)
+            # What is really asked for is refused likewise.
+            copy = self.folder / f"{'-'.join(words)}.vault"
+            for it in ("", "-wal"):
+                shutil.copy(f"{self.file}{it}", f"{copy}{it}")
+            sure = ["--yes"] if words[0] in ("delete", "retain") else []
+            again = self.desk(*asked, *sure, "--json", "--vault", str(copy))
+            self.assertEqual([it["refused"] for it in json.loads(again.out)], [it["refused"] for it in rows], words)
+        done = self.desk("rm", "docs", "--prefix", "2024/", "--as", "eve", "--dry-run")
+        self.assertIn("2 of 2 would be refused", done.err)
+
+    def test_a_dry_run_may_be_of_a_later_moment(self) -> None:
+        words = ("docs", "2024/a", "--version", "1")
+        self.done("retain", *words, "--until", "2034-01-01", "--mode", "COMPLIANCE", "--yes")
+        for at, status in (("2033-12-31", 1), ("2034-01-01", 0)):
+            self.assertEqual(self.desk("delete", *words, "--dry-run", at=at).status, status)
+
+    def test_what_became_of_the_others_is_said_rightly(self) -> None:
+        listed = self.written("list.csv", b"key,version\n2024/a,7\n2024/b,7\n")
+        other = self.written("other.csv", b"key,version\n2024/a,7\n2024/b,2\n")
+        for file, said in ((listed, "2 of 2 were refused: nothing was changed"),
+                           (other, "1 of 2 were refused, and the others were done")):
+            for words in ("hold", "release", "retain --until 2030-01-01", "delete --yes --bypass"):
+                name, *more = words.split()
+                done = self.desk(name, "docs", "--from", file, *more)
+                self.assertEqual((done.status, done.err), (1, f"vaultdesk {name}: {said}\n"))
+        self.assertEqual(refusals(["Device: the disk failed"], 1), "1 of 1 were refused")
+        self.assertEqual(refusals([], 2), "")
+
+    def test_a_refusal_fits_on_a_page(self) -> None:
+        self.done("retain", "docs", "--prefix", "2024/", "--until", "2034-01-01", "--mode", "COMPLIANCE", "--yes")
+        listed = self.written("list.csv", b"key,version\n2024/a,1\n2024/b,2\n2025/c,9\n")
+        lines = self.desk("delete", "docs", "--from", listed, "--yes").out.splitlines()
+        self.assertEqual(lines[0].split(), ["version", "was", "is", "refused", "key"])
+        self.assertEqual(lines[1].split(), ["1", "AccessDenied", "retention-compliance", "2024/a"])
+        self.assertRegex(lines[4], "^AccessDenied retention-compliance: a retention in COMPLIANCE is in force: ")
+        self.assertLess(max(map(len, lines)), 100)
+        self.assertEqual(sum("is in force" in it for it in lines), 1)
+        self.assertRegex(lines[-1], "^NoSuchVersion: ")
+
+    def test_another_mode_than_the_buckets_is_said(self) -> None:
+        self.done("default", "docs", "--years", "2", "--mode", "COMPLIANCE", "--yes")
+        words = ("retain", "docs", "--prefix", "2024/", "--until", "2030-01-01")
+        said = "the mode is GOVERNANCE, and the default of docs is COMPLIANCE for 2 years"
+        for more in ((), ("--dry-run",)):
+            done = self.desk(*words, *more)
+            self.assertEqual((done.status, done.err.count(said)), (0, 1))
+        rows = json.loads(self.desk(*words, "--json").out)
+        self.assertEqual([it["note"].partition(":")[0] for it in rows], [said] * 2)
+        done = self.desk("retain", "docs", "2024/a", "--mode", "COMPLIANCE", "--bypass", "--yes")
+        self.assertEqual((done.status, "--until" in done.err), (2, True))
+        self.done(*words, "--mode", "COMPLIANCE", "--bypass", "--yes")
 
     def test_a_far_end_is_asked_for(self) -> None:
         done = self.desk("retain", "docs", "2024/a", "--until", "2337-01-01")

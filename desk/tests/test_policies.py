@@ -3,6 +3,7 @@
 from __future__ import annotations
 
 import json
+from typing import Any
 
 from tests.office import OfficeTest
 
@@ -10,13 +11,28 @@ from tests.office import OfficeTest
 class Defaults(OfficeTest):
     def test_a_default_is_set_shown_and_cleared(self) -> None:
         self.assertEqual(self.done("default", "docs"), "none\n")
-        done = self.done("default", "docs", "--years", "10", "--mode", "COMPLIANCE")
+        done = self.done("default", "docs", "--years", "10", "--mode", "COMPLIANCE", "--yes")
         self.assertEqual(done, "COMPLIANCE for 10 years\n")
         path = self.written("a.txt", b"hello")
         self.done("put", "docs", "a", path)
         [head] = self.lines({"do": "head", "bucket": "docs", "key": "a"}, at="2024-01-15T10:00:00Z")
         self.assertEqual(head["ok"]["retention"], {"mode": "COMPLIANCE", "until": "2034-01-15T10:00:00Z"})
         self.assertEqual(self.done("default", "docs", "--none"), "none\n")
+
+    def test_one_of_a_thing_is_one(self) -> None:
+        for words, told in ((("--years", "1"), "1 year"), (("--days", "1"), "1 day"), (("--days", "2"), "2 days")):
+            self.assertEqual(self.done("default", "docs", *words), f"GOVERNANCE for {told}\n")
+
+    def test_what_cant_be_undone_is_asked_for(self) -> None:
+        ways: tuple[tuple[str, ...], ...] = (("--days", "1", "--mode", "COMPLIANCE"), ("--years", "32"))
+        told = ("anybody for 1 day", "whoever has no right to bypass for 32 years")
+        for words, who in zip(ways, told, strict=True):
+            done = self.desk("default", "docs", *words)
+            self.assertEqual((done.status, done.out), (2, ""), words)
+            self.assertIn(f"what comes into docs from now on can't be removed by {who}: give --yes", done.err)
+            self.assertEqual(self.done("default", "docs"), "none\n")
+        for words in ways:
+            self.done("default", "docs", *words, "--yes")
 
 
 class Rules(OfficeTest):
@@ -88,6 +104,29 @@ class Expire(OfficeTest):
         self.assertEqual(done.status, 0, done.err)
         self.assertEqual([it["lone"] for it in json.loads(done.out)["done"]], [1])
         self.assertEqual(self.done("ls", "docs", at="2024-01-23T00:00:00Z"), "")
+
+    def test_what_a_lock_keeps_is_said(self) -> None:
+        first, at = "2024-01-20T00:00:00Z", "2024-01-20T06:00:00Z"
+        place: dict[str, Any] = {"bucket": "docs", "key": "a", "id": 1}
+        until = "2024-01-22T06:00:00Z"
+        lock = {"do": "set-retention", **place, "mode": "COMPLIANCE", "until": until}
+        self.lines(lock, {"do": "set-hold", **place, "hold": "ON"}, at=first)
+        self.assertEqual(self.desk("expire", "records", "--yes", at=first).status, 0)
+        words = ("expire", "records", "--until", "2024-01-22", "--dry-run")
+        told = json.loads(self.desk(*words, "--json", at=at).out)
+        stays = {"night": "2024-01-22T00:00:00Z", "what": f"stays: COMPLIANCE until {until}, legal hold"}
+        self.assertEqual(told["foreseen"], [])
+        self.assertEqual(told["kept"], [{**stays, "bucket": "docs", "version": 1, "key": "a"}])
+        done = self.desk(*words, at=at)
+        self.assertRegex(done.out, r"2024-01-22T00:00:00Z +stays: COMPLIANCE until \S+, legal hold +docs +1 +a\n")
+        self.assertEqual((done.status, done.err), (0, "nothing is due up to 2024-01-22T00:00:00Z\n"))
+        # Of what no rule is for yet, and of what goes, nothing is said.
+        self.lines({"do": "set-hold", **place, "hold": "OFF"}, at=at)
+        gone = ["removed for good", "marker removed"]
+        for last, kinds in (("2024-01-21", []), ("2024-01-23", gone)):
+            done = self.desk(*words[:2], "--until", last, "--dry-run", "--json", at=at)
+            told = json.loads(done.out)
+            self.assertEqual(([it["what"] for it in told["foreseen"]], told["kept"]), (kinds, []), last)
 
     def test_where_nothing_is_due_it_says_so(self) -> None:
         done = self.desk("expire", "records", "--until", "2024-01-16")

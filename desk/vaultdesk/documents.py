@@ -12,11 +12,11 @@ from collections.abc import Callable, Mapping
 from pathlib import Path
 from typing import Any
 
-from vaultdesk import limits, moments
+from vaultdesk import defaults, limits, moments
 from vaultdesk.asking import confirm
 from vaultdesk.engine import Engine
-from vaultdesk.errors import DeskError, Refused
-from vaultdesk.output import print_json, print_table
+from vaultdesk.errors import DeskError, Refused, UsageError
+from vaultdesk.output import print_json, print_table, say
 
 MOST = 1_048_576  # bytes that a version may have
 
@@ -99,33 +99,54 @@ def _look_still_new(engine: Engine, words: argparse.Namespace, version: int) -> 
         raise DeskError(f"{why}: version {version} was put all the same, and is above it")
 
 
+def _end(engine: Engine, words: argparse.Namespace, now: str) -> str | None:
+    """The end of the retention that the words give. `UsageError` where it is outside limits, or a mode has none."""
+    if not words.until:
+        if words.mode:
+            why = f"--mode {words.mode} is the mode of a retention, which has an end: give --until DATE"
+            raise UsageError(f"{why}, or leave --mode out for the bucket's default: nothing was put")
+        return None
+    until = moments.read(words.until)
+    limits.look(engine.desk.limits, words.bucket, until, now)
+    if moments.is_far(until, now):
+        confirm(words, f"the retention ends in more than {moments.FAR} years, at {until}")
+    return until
+
+
 def put(engine: Engine, words: argparse.Namespace) -> None:
     """Puts a file's content as a new version, and prints its number."""
-    content = read_content(words.path)
-    until = moments.read(words.until) if words.until else None
     now = engine.at or moments.now()
-    if until:
-        limits.look(engine.desk.limits, words.bucket, until, now)
-    if until and moments.is_far(until, now):
-        confirm(words, f"the retention ends in more than {moments.FAR} years, at {until}")
+    until, mode = _end(engine, words, now), words.mode or "GOVERNANCE"
+    content = read_content(words.path)
     members = {
         "bucket": words.bucket,
         "key": words.key,
         "hex": content.hex(),
-        "mode": words.mode if until else None,
+        "mode": mode if until else None,
         "until": until,
         "hold": "ON" if words.hold else None,
     }
     version = _put_new(engine, words, members) if words.new else int(engine.ask("put", **members)["version_id"])
+    note = _guard_note(engine, words, version, mode)
     if words.json:
         place = {"version": version, "bucket": words.bucket, "key": words.key}
-        print_json({**place, "size": len(content), "sha256": hashlib.sha256(content).hexdigest()})
+        print_json({**place, "size": len(content), "sha256": hashlib.sha256(content).hexdigest(), "note": note})
     else:
         print(version)
+    if note:
+        say(note)
     if words.new:
         _look_still_new(engine, words, version)
     if not until:
         _look_kept(engine, words, version, now)
+
+
+def _guard_note(engine: Engine, words: argparse.Namespace, version: int, mode: str) -> str:
+    """What is said where a version has another mode than the bucket's default, or nothing guards it; else empty."""
+    if words.until:
+        return defaults.mode_note(engine, words.bucket, mode)
+    is_looked_at = words.bucket in engine.desk.limits.least  # by _look_kept
+    return "" if words.hold or is_looked_at else defaults.guard_note(engine, words.bucket, words.key, version)
 
 
 def _look_kept(engine: Engine, words: argparse.Namespace, version: int, now: str) -> None:
@@ -223,7 +244,7 @@ def add(commands: argparse._SubParsersAction[argparse.ArgumentParser], common: a
     it.add_argument("key")
     it.add_argument("path", help="the file; - is standard input")
     it.add_argument("--until", metavar="DATE", help="a retention that ends then")
-    it.add_argument("--mode", choices=("GOVERNANCE", "COMPLIANCE"), default="GOVERNANCE", help="its mode (GOVERNANCE)")
+    it.add_argument("--mode", choices=("GOVERNANCE", "COMPLIANCE"), help="its mode (GOVERNANCE)")
     it.add_argument("--hold", action="store_true", help="with a legal hold")
     it.add_argument("--new", action="store_true", help="only if nothing is held under KEY")
     it.add_argument("--yes", action="store_true", help="don't ask")

@@ -12,9 +12,10 @@ from collections.abc import Sequence
 from pathlib import Path
 
 from vaultdesk import moments, reading
+from vaultdesk.documents import MOST
 from vaultdesk.engine import Engine
 from vaultdesk.errors import DeskError, UsageError
-from vaultdesk.output import print_json, print_rows, print_table
+from vaultdesk.output import print_json, print_rows, print_table, say
 
 COLUMNS = ("version", "bucket", "size", "admitted", "by", "state", "key")
 FOUND = (
@@ -25,9 +26,13 @@ DIGEST = re.compile(r"[0-9a-fA-F]{8,64}")
 
 
 def digest_of(path: Path) -> str:
-    """The SHA-256 of a file's content, in hex digits."""
+    """The SHA-256 of a file's content, in hex digits. `DeskError` where it can't be read, or no version has so many
+    bytes."""
     try:
         with path.open("rb") as file:
+            if path.stat().st_size > MOST:
+                why = f"more than {MOST:,} bytes: it can be there in parts alone, which aren't found by the whole"
+                raise DeskError(f"{path}: {why}: give one of the parts, or find them by their key")
             return hashlib.file_digest(file, "sha256").hexdigest()
     except OSError as error:
         raise DeskError(f"{path}: {error.strerror}") from error
@@ -46,20 +51,20 @@ def _wanted_digest(words: argparse.Namespace) -> str | None:
     return str(words.sha256) if words.sha256 else None
 
 
-def found_by(engine: Engine, words: argparse.Namespace) -> list[reading.Row]:
+def found_by(engine: Engine, words: argparse.Namespace, ignore_case: bool) -> list[reading.Row]:
     """The rows of the query `find` for these words."""
     rows = reading.query(
         engine.tables,
         "find",
         bucket=words.bucket,
         prefix=words.prefix,
-        text=None if words.ignore_case else words.text,
+        text=None if ignore_case else words.text,
         sha256=_wanted_digest(words),
         since=moments.read(words.since) if words.since else None,
         before=moments.read(words.before) if words.before else None,
         state="held" if words.held else "removed" if words.removed else None,
     )
-    if words.text and words.ignore_case:
+    if words.text and ignore_case:
         rows = [it for it in rows if folded(words.text) in folded(it["key"])]
     return [it for it in rows if words.markers or it["kind"] == "version"]
 
@@ -75,15 +80,24 @@ def _state(row: reading.Row) -> str:
     return state if row["kind"] == "version" else f"marker, {state}"
 
 
+def _say_nothing(engine: Engine, words: argparse.Namespace) -> None:
+    """Says that nothing was found, and how many there are where the case of letters is ignored."""
+    others = len(found_by(engine, words, ignore_case=True)) if words.text and not words.ignore_case else 0
+    say("nothing was found" + (f" letter by letter: with -i there are {others}" if others else ""))
+
+
 def find(engine: Engine, words: argparse.Namespace) -> None:
     """Prints the versions that are asked for."""
-    rows = found_by(engine, words)
+    rows = found_by(engine, words, words.ignore_case)
     if words.json:
         print_json(rows)
-    elif words.csv:
+        return
+    if words.csv:
         _print_csv(rows, FOUND)
     else:
         print_rows([{**it, "by": it["admitted_by"], "state": _state(it)} for it in rows], COLUMNS)
+    if not rows:
+        _say_nothing(engine, words)
 
 
 def held(engine: Engine, words: argparse.Namespace) -> None:

@@ -2,19 +2,19 @@
 
 from __future__ import annotations
 
-import tempfile
 from collections.abc import Iterator, Sequence
-from dataclasses import replace
 from pathlib import Path
 from typing import Any
 
-from vaultdesk import moments, snapshot
+from vaultdesk import moments, reading
 from vaultdesk.engine import Engine
 from vaultdesk.errors import Refused
+from vaultdesk.trying import copied
 
 Rule = dict[str, Any]
 Row = dict[str, Any]
-COLUMNS = ("night", "what", "bucket", "version", "key")
+PLACE = ("bucket", "version", "key")
+COLUMNS = ("night", "what", *PLACE)
 
 
 def rules_of(engine: Engine, bucket: str) -> list[Rule]:
@@ -71,18 +71,35 @@ class _Bucket:
         self.held, self.markers, self.marked = held, markers, marked
 
 
-def foreseen(engine: Engine, buckets: Sequence[str], last: str, more: Sequence[Rule] = ()) -> list[Row]:
-    """What the rules of these buckets do from now on up to that moment, with more rules where some are given."""
-    first = engine.at or moments.now()
-    engine.close()
-    with tempfile.TemporaryDirectory() as folder:
-        copy = Path(folder) / engine.desk.file.name
-        snapshot.copy(engine.desk.file, copy)
-        with Engine(replace(engine.desk, vault=copy, door=None), first, is_copy=True) as trial:
-            for bucket in buckets if more else ():
-                set_rules(trial, bucket, [*rules_of(trial, bucket), *more])
-            looked_at = [_Bucket(trial, it) for it in buckets]
-            rows: list[Row] = []
-            for trial.at in moments.nights(first, last):
-                rows += (row for it in looked_at for row in it.run(str(trial.at)))
-    return rows
+def _kept(file: Path, buckets: Sequence[str], night: str) -> list[Row]:
+    """What the rules of these buckets would remove that night, and a retention or a hold guards."""
+    guarded = {it["version"]: it for it in reading.query(file, "held", at=night)}
+    gone = {it["version"] for it in reading.query(file, "due", at=night)}
+    return [
+        {"night": night, "what": f"stays: {_lock_text(guarded[it['version']])}", **{name: it[name] for name in PLACE}}
+        for it in reading.unguarded(file, "due", at=night)
+        if it["change"] == "removed" and it["version"] in guarded.keys() - gone and it["bucket"] in buckets
+    ]
+
+
+def _lock_text(held: Row) -> str:
+    """What guards a version, by a row of the query `held`."""
+    retention = f"{held['retention']} until {held['until']}"
+    locks = {retention: held["retention"] in ("GOVERNANCE", "COMPLIANCE"), "legal hold": held["hold"] == "ON"}
+    return ", ".join(name for name, is_on in locks.items() if is_on)
+
+
+def foreseen(
+    engine: Engine, buckets: Sequence[str], last: str, more: Sequence[Rule] = ()
+) -> tuple[list[Row], list[Row]]:
+    """What the rules of these buckets do from now on up to that moment, with more rules where some are given; and what
+    they would have removed by then, if nothing guarded it."""
+    with copied(engine) as trial:
+        trial.at = first = engine.at or moments.now()
+        for bucket in buckets if more else ():
+            set_rules(trial, bucket, [*rules_of(trial, bucket), *more])
+        looked_at = [_Bucket(trial, it) for it in buckets]
+        rows: list[Row] = []
+        for trial.at in moments.nights(first, last):
+            rows += (row for it in looked_at for row in it.run(str(trial.at)))
+        return rows, _kept(trial.tables, buckets, str(trial.at))

@@ -5,17 +5,21 @@ from __future__ import annotations
 import argparse
 import contextlib
 import functools
+import textwrap
 from collections.abc import Callable, Mapping, Sequence
+from pathlib import Path
 from typing import Any
 
-from vaultdesk import limits, moments
+from vaultdesk import defaults, limits, moments
 from vaultdesk.asking import add_yes, confirm
 from vaultdesk.cases import HOLD, RELEASE, Cases, Note, check_name, file_beside
 from vaultdesk.engine import Engine
 from vaultdesk.errors import DeskError, Refused, UsageError
-from vaultdesk.output import counted_off, print_json, print_rows
+from vaultdesk.output import counted_off, print_json, print_rows, refusals, say, shown
 from vaultdesk.targets import Target, add_targets, targets
+from vaultdesk.trying import Work, work
 
+WIDTH = 96  # columns of a line that says what a refusal means
 COLUMNS = ("bucket", "version", "was", "is", "refused", "key")
 Row = dict[str, Any]
 Change = Callable[[Target], Row]
@@ -49,16 +53,26 @@ def _each(found: Sequence[Target], change: Change) -> list[Row]:
     return rows
 
 
+def _print_table(rows: Sequence[Row], words: argparse.Namespace) -> None:
+    """Prints the rows with the name of each refusal, and below them once for each name what it means."""
+    named = [{**it, "refused": it["refused"].partition(": ")[0]} for it in rows]
+    there = {"bucket": not words.bucket, "refused": any(it["refused"] for it in rows)}
+    print_rows(named, [it for it in COLUMNS if there.get(it, True)])
+    for text in dict.fromkeys(it["refused"] for it in rows if ": " in it["refused"]):
+        print(textwrap.fill(shown(text), WIDTH, subsequent_indent="  ", break_on_hyphens=False))
+
+
 def _print(rows: Sequence[Row], words: argparse.Namespace) -> None:
     """Prints the rows. `DeskError` where one was refused, after all of them."""
-    refused = sum(bool(it["refused"]) for it in rows)
     if words.json:
         print_json(rows)
     else:
-        there = {"bucket": not words.bucket, "refused": refused}
-        print_rows(rows, [it for it in COLUMNS if there.get(it, True)])
-    if refused:
-        raise DeskError(f"{refused} of {len(rows)} were refused, and the others were done")
+        _print_table(rows, words)
+    for note in sorted({it["note"] for it in rows if it.get("note")}):
+        say(note)
+    summary = refusals([it["refused"] for it in rows if it["refused"]], len(rows), words.dry_run)
+    if summary:
+        raise DeskError(summary)
 
 
 # ---- legal holds
@@ -67,37 +81,35 @@ def _print(rows: Sequence[Row], words: argparse.Namespace) -> None:
 class _Holds:
     """Sets or lifts legal holds, and notes for which case."""
 
-    def __init__(self, engine: Engine, words: argparse.Namespace) -> None:
-        self.engine = engine
+    def __init__(self, work: Work, words: argparse.Namespace, vault: Path) -> None:
+        self.work = work
+        self.engine = work.engine
         self.case = check_name(words.case) if words.case is not None else None
-        self.dry_run = bool(words.dry_run)
+        self.vault = vault
 
     @functools.cached_property
     def cases(self) -> Cases:
         """The office's file of cases."""
-        return Cases(file_beside(self.engine.desk.file))
+        return Cases(file_beside(self.vault))
 
     def _note(self, done: str, it: Target, version: int, was: str) -> None:
-        if self.case is not None:
+        if self.case is not None and not self.work.is_dry:
             moment = self.engine.at or moments.now()
             self.cases.add(Note(moment, self.engine.desk.caller, self.case, done, it.bucket, it.key, version, was))
 
     def _set(self, it: Target, head: Mapping[str, Any], hold: str) -> Row:
         """Sets the hold of just the version that was looked at."""
         version, was = int(head["version_id"]), lock_text(head)
-        row = {"version": version, "was": was, "is": lock_text({**head, "hold": hold})}
-        if self.dry_run:
-            return {**row, "is": f"would be: {row['is']}"}
-        self.engine.ask("set-hold", bucket=it.bucket, key=it.key, id=version, hold=hold)
+        self.work.change("set-hold", bucket=it.bucket, key=it.key, id=version, hold=hold)
         self._note(HOLD if hold == "ON" else RELEASE, it, version, was)
-        return row
+        return {"version": version, "was": was, "is": self.work.text(lock_text({**head, "hold": hold}))}
 
     def hold(self, it: Target) -> Row:
         """Puts a legal hold on a version."""
         return self._set(it, self.engine.ask("head", **it.place), "ON")
 
     def release(self, it: Target) -> Row:
-        """Lifts the legal hold of a version, unless another case has it on hold."""
+        """Lifts the legal hold of a version, unless another case has it on hold, or none is on."""
         head = self.engine.ask("head", **it.place)
         version, was = int(head["version_id"]), lock_text(head)
         cases = self.cases.held_for(it.bucket, it.key, version)
@@ -106,41 +118,49 @@ class _Holds:
         others = ", ".join(repr(other) for other in sorted(cases - {self.case}))
         if others and self.case is None:
             raise NotDone(f"it is on hold for case {others}: release it by --case")
-        if not others:
+        if not others and head["hold"] == "ON":
             return self._set(it, head, "OFF")
-        if not self.dry_run:
-            self._note(RELEASE, it, version, was)
-        return {"version": version, "was": was, "is": f"{was}: still for case {others}"}
+        self._note(RELEASE, it, version, was)
+        why = f"still for case {others}" if others else "no hold was on"
+        return {"version": version, "was": was, "is": self.work.text(f"{was}: {why}")}
 
     def gone(self, it: Target) -> Row:
         """Notes the release of what a case had on hold and the vault holds no more."""
-        if not self.dry_run:
-            self._note(RELEASE, it, it.version or 0, "not held any more")
+        self._note(RELEASE, it, it.version or 0, "not held any more")
         return {"is": "not held any more"}
 
     def carry_out(self, found: Sequence[Target], change: Change) -> list[Row]:
         """The rows of all targets. The file of cases is opened before the first change."""
-        noted = self.case is not None and not self.dry_run
+        noted = self.case is not None and not self.work.is_dry
         with self.cases.open() if noted else contextlib.nullcontext():
             return _each(found, change)
 
 
 def hold(engine: Engine, words: argparse.Namespace) -> None:
     """Sets a legal hold on each version that is meant."""
-    holds = _Holds(engine, words)
-    _print(holds.carry_out(targets(engine, words), holds.hold), words)
+    with work(engine, words.dry_run) as done:
+        holds = _Holds(done, words, engine.desk.file)
+        rows = holds.carry_out(targets(done.engine, words), holds.hold)
+    _print(rows, words)
 
 
 def release(engine: Engine, words: argparse.Namespace) -> None:
     """Lifts the legal hold of each version that is meant: without others, of all that a case has on hold."""
-    holds = _Holds(engine, words)
     named = any(it is not None for it in (words.bucket, words.key, words.prefix, words.list))
-    if named or holds.case is None:
-        _print(holds.carry_out(targets(engine, words), holds.release), words)
-        return
-    found = [Target(it.bucket, it.key, it.version) for it in holds.cases.of_case(holds.case)]
+    with work(engine, words.dry_run) as done:
+        holds = _Holds(done, words, engine.desk.file)
+        if named or holds.case is None:
+            rows = holds.carry_out(targets(done.engine, words), holds.release)
+        else:
+            rows = _release_case(holds, holds.case)
+    _print(rows, words)
+
+
+def _release_case(holds: _Holds, case: str) -> list[Row]:
+    """The rows of all that a case has on hold. `DeskError` where that is nothing."""
+    found = [Target(it.bucket, it.key, it.version) for it in holds.cases.of_case(case)]
     if not found:
-        raise DeskError(f"{holds.cases.path} has nothing on hold for case {holds.case!r}: vaultdesk cases lists them")
+        raise DeskError(f"{holds.cases.path} has nothing on hold for case {case!r}: vaultdesk cases lists them")
 
     def change(it: Target) -> Row:
         try:
@@ -150,7 +170,7 @@ def release(engine: Engine, words: argparse.Namespace) -> None:
                 raise
             return holds.gone(it)
 
-    _print(holds.carry_out(found, change), words)
+    return holds.carry_out(found, change)
 
 
 # ---- retentions, and what takes a document away
@@ -159,7 +179,17 @@ def release(engine: Engine, words: argparse.Namespace) -> None:
 def retain(engine: Engine, words: argparse.Namespace) -> None:
     """Sets a retention on each version that is meant."""
     until = moments.read(words.until)
-    found, now = targets(engine, words), engine.at or moments.now()
+    with work(engine, words.dry_run) as done:
+        found = targets(done.engine, words)
+        _look_at_end(engine, words, found, until)
+        rows = _each(found, lambda it: _retained(done, words, it, until))
+        _note_modes(done.engine, rows, words.mode)
+    _print(rows, words)
+
+
+def _look_at_end(engine: Engine, words: argparse.Namespace, found: Sequence[Target], until: str) -> None:
+    """`UsageError` where the settings have other limits for a bucket; asks before an end that can't be undone."""
+    now = engine.at or moments.now()
     for bucket in sorted({it.bucket for it in found}):
         limits.look(engine.desk.limits, bucket, until, now)
     far = moments.is_far(until, now)
@@ -167,47 +197,52 @@ def retain(engine: Engine, words: argparse.Namespace) -> None:
         who = "anybody" if words.mode == "COMPLIANCE" else "whoever has no right to bypass"
         confirm(words, f"{len(found)} versions can't be removed by {who} before {until}")
 
-    def change(it: Target) -> Row:
-        head = engine.ask("head", **it.place)
-        version, after = head["version_id"], {**head, "retention": {"mode": words.mode, "until": until}}
-        row = {"version": version, "was": lock_text(head), "is": lock_text(after)}
-        if words.dry_run:
-            return {**row, "is": f"would be: {row['is']}"}
-        place = {"bucket": it.bucket, "key": it.key, "id": version}
-        engine.ask("set-retention", **place, mode=words.mode, until=until, bypass=words.bypass or None)
-        return row
 
-    _print(_each(found, change), words)
+def _retained(done: Work, words: argparse.Namespace, it: Target, until: str) -> Row:
+    """Sets the retention of a version."""
+    head = done.engine.ask("head", **it.place)
+    version, after = head["version_id"], {**head, "retention": {"mode": words.mode, "until": until}}
+    place = {"bucket": it.bucket, "key": it.key, "id": version}
+    done.change("set-retention", **place, mode=words.mode, until=until, bypass=words.bypass or None)
+    return {"version": version, "was": lock_text(head), "is": done.text(lock_text(after))}
+
+
+def _note_modes(engine: Engine, rows: Sequence[Row], mode: str) -> None:
+    """Notes in each row that was done where its retention has another mode than its bucket's default."""
+    done = [it for it in rows if not it["refused"]]
+    notes = {bucket: defaults.mode_note(engine, bucket, mode) for bucket in {it["bucket"] for it in done}}
+    for row in done:
+        row["note"] = notes[row["bucket"]]
 
 
 def rm(engine: Engine, words: argparse.Namespace) -> None:
     """Puts a delete marker on top of each key that is meant: what is below it stays."""
-    found = targets(engine, words)
+    with work(engine, words.dry_run) as done:
 
-    def change(it: Target) -> Row:
-        if words.dry_run:
-            return {"is": "would be marked"}
-        done = engine.ask("delete", bucket=it.bucket, key=it.key)
-        return {"version": done["version_id"], "is": "marked"}
+        def change(it: Target) -> Row:
+            marker = done.change("delete", bucket=it.bucket, key=it.key)
+            return {"is": done.text("marked")} | ({} if done.is_dry else {"version": marker["version_id"]})
 
-    _print(_each(found, change), words)
+        rows = _each(targets(done.engine, words), change)
+    _print(rows, words)
 
 
 def delete(engine: Engine, words: argparse.Namespace) -> None:
     """Removes each version that is meant for good."""
-    found = targets(engine, words)
-    if any(it.version is None for it in found):
-        raise UsageError("what is removed for good is named by its number: give --version N, or a list with versions")
-    if not words.dry_run:
-        confirm(words, f"{len(found)} versions are removed for good")
+    with work(engine, words.dry_run) as done:
+        found = targets(done.engine, words)
+        if any(it.version is None for it in found):
+            why = "what is removed for good is named by its number"
+            raise UsageError(f"{why}: give --version N, or a list with versions")
+        if not words.dry_run:
+            confirm(words, f"{len(found)} versions are removed for good")
 
-    def change(it: Target) -> Row:
-        if words.dry_run:
-            return {"is": "would be asked for"}
-        done = engine.ask("delete-version", **it.place, bypass=words.bypass or None)
-        return {"is": f"removed ({done['cause']})"}
+        def change(it: Target) -> Row:
+            removed = done.change("delete-version", **it.place, bypass=words.bypass or None)
+            return {"is": done.text(f"removed ({removed['cause']})" if removed else "asked for")}
 
-    _print(_each(found, change), words)
+        rows = _each(found, change)
+    _print(rows, words)
 
 
 def _add_holds(commands: argparse._SubParsersAction[argparse.ArgumentParser], common: argparse.ArgumentParser) -> None:

@@ -8,6 +8,7 @@ from typing import Any
 
 from vaultdesk import limits, moments, reading
 from vaultdesk.asking import add_yes, confirm
+from vaultdesk.defaults import default_text
 from vaultdesk.engine import Engine
 from vaultdesk.errors import DeskError, UsageError
 from vaultdesk.forecast import COLUMNS as FORESEEN
@@ -17,19 +18,15 @@ from vaultdesk.output import print_done, print_json, print_table, say
 COLUMNS = ("id", "enabled", "prefix", "above", "below", "expires", "noncurrent", "keeps", "lone markers")
 
 
-def default_text(found: dict[str, Any] | None) -> str:
-    """A default retention as `COMPLIANCE for 10 years`, or `none`."""
-    if not found:
-        return "none"
-    unit = "years" if "years" in found else "days"
-    return f"{found['mode']} for {found[unit]} {unit}"
-
-
 def _look_period(engine: Engine, words: argparse.Namespace) -> None:
-    """`UsageError` where the settings have other limits for the bucket."""
+    """`UsageError` where the settings have other limits for the bucket; asks before a default that can't be undone for
+    what comes meanwhile."""
     count, unit = (words.days, "day") if words.years is None else (words.years, "year")
-    now = engine.at or moments.now()
-    limits.look(engine.desk.limits, words.bucket, limits.Period(count, unit).after(now), now)
+    period, now = limits.Period(count, unit), engine.at or moments.now()
+    limits.look(engine.desk.limits, words.bucket, period.after(now), now)
+    if words.mode == "COMPLIANCE" or moments.is_far(period.after(now), now):
+        who = "anybody" if words.mode == "COMPLIANCE" else "whoever has no right to bypass"
+        confirm(words, f"what comes into {words.bucket} from now on can't be removed by {who} for {period}")
 
 
 def _look_none(engine: Engine, words: argparse.Namespace) -> None:
@@ -128,7 +125,7 @@ def remove_rule(engine: Engine, words: argparse.Namespace) -> None:
 def try_rules(engine: Engine, words: argparse.Namespace) -> None:
     """Prints what the rules of a bucket do night by night, with one rule more where its words are given."""
     more = [rule_of(words)] if words.id else []
-    rows = foreseen(engine, [words.bucket], moments.read(words.until), more)
+    rows, _ = foreseen(engine, [words.bucket], moments.read(words.until), more)
     print_table(rows, FORESEEN, words.json)
 
 
@@ -147,9 +144,9 @@ def expire(engine: Engine, words: argparse.Namespace) -> None:
     if not buckets:
         raise DeskError(f"no bucket of {words.department!r} has rules")
     until = moments.read(words.until) if words.until else engine.at or moments.now()
-    rows, done = foreseen(engine, buckets, until), list[dict[str, Any]]()
+    (rows, kept), done = foreseen(engine, buckets, until), list[dict[str, Any]]()
     if not words.json:
-        print_table(rows, FORESEEN, as_json=False)
+        print_table([*rows, *kept], FORESEEN, as_json=False)
     if not rows:
         say(f"nothing is due up to {until}")
     try:
@@ -158,7 +155,7 @@ def expire(engine: Engine, words: argparse.Namespace) -> None:
             done += _carried_out(engine, buckets)
     finally:
         if words.json:
-            print_json({"foreseen": rows, "done": done})
+            print_json({"foreseen": rows, "kept": kept, "done": done})
 
 
 def _add_rule_words(it: argparse.ArgumentParser, id_needed: bool) -> None:
@@ -212,6 +209,7 @@ def add(commands: argparse._SubParsersAction[argparse.ArgumentParser], common: a
     period.add_argument("--days", type=int, metavar="N")
     period.add_argument("--none", action="store_true", help="no default from now on")
     it.add_argument("--mode", choices=("GOVERNANCE", "COMPLIANCE"), default="GOVERNANCE", help="its mode (GOVERNANCE)")
+    it.add_argument("--yes", action="store_true", help="don't ask before COMPLIANCE")
     it.set_defaults(run=default)
 
     _add_rules(commands, common)

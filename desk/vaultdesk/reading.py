@@ -21,6 +21,9 @@ from vaultdesk.output import say
 Values = Sequence[Any] | Mapping[str, Any]
 Row = dict[str, Any]
 
+# A view that a connection has in place of the table: no version is guarded.
+NO_LOCKS = "CREATE TEMP VIEW settings AS SELECT id, n, 0 AS mode, 0 AS until, 0 AS hold FROM main.settings"
+
 # A query that is given what is no date, or no version, ends with an error of SQLite that quotes what the query says.
 SAID_BY_QUERY = re.compile(r"(?:JSON path error near|bad JSON path:) '(.*)'", re.DOTALL)
 
@@ -71,10 +74,23 @@ def query(file: Path, name: str, **values: Any) -> list[Row]:
     """The rows of one of the auditor's queries, by the names of its columns; values are those of its parameters.
 
     `EngineError` as of `rows`, `DeskError` where the query says that a value isn't one."""
-    statement = (beside.place_of("queries") / f"{name}.sql").read_text(encoding="utf-8")
     with _opened(file) as opened:
-        opened.row_factory = sqlite3.Row
-        return [dict(it) for it in opened.execute(statement, values)]
+        return _queried(opened, name, values)
+
+
+def unguarded(file: Path, name: str, **values: Any) -> list[Row]:
+    """The rows that one of the auditor's queries would have if no version had a retention or a legal hold.
+
+    Errors as of `query`."""
+    with _opened(file) as opened:
+        opened.execute(NO_LOCKS)
+        return _queried(opened, name, values)
+
+
+def _queried(opened: sqlite3.Connection, name: str, values: Values) -> list[Row]:
+    statement = (beside.place_of("queries") / f"{name}.sql").read_text(encoding="utf-8")
+    opened.row_factory = sqlite3.Row
+    return [dict(it) for it in opened.execute(statement, values)]
 
 
 def of_two(file: Path, old: Path, statement: str) -> list[tuple[Any, ...]]:
