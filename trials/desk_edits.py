@@ -263,7 +263,6 @@ EDITS = [
      LOCKS + "test_a_dry_run_has_the_engines_refusals"),
     ("policies", "    if words.mode == \"COMPLIANCE\" or moments.is_far(period.after(now), now):\n", "    if False:\n",
      "test_policies.Defaults.test_what_cant_be_undone_is_asked_for"),
-    ("forecast", "it[\"version\"] in guarded.keys() - gone", "it[\"version\"] in guarded", EXPIRE + "test_what_a_lock_keeps_is_said"),
     ("forecast", "reading.unguarded(file, \"due\", at=night)", "reading.query(file, \"due\", at=night)",
      EXPIRE + "test_what_a_lock_keeps_is_said"),
     ("policies", "            confirm(words, f\"the rules of {len(buckets)} buckets are carried out as of this moment\")\n", "",

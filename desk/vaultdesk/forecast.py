@@ -72,13 +72,12 @@ class _Bucket:
 
 
 def _kept(file: Path, buckets: Sequence[str], night: str) -> list[Row]:
-    """What the rules of these buckets would remove that night, and a retention or a hold guards."""
-    guarded = {it["version"]: it for it in reading.query(file, "held", at=night)}
-    gone = {it["version"] for it in reading.query(file, "due", at=night)}
+    """What the rules of these buckets leave after their run of that night, as a retention or a hold guards it."""
+    locks = {it["version"]: _lock_text(it) for it in reading.query(file, "held", at=night)}
     return [
-        {"night": night, "what": f"stays: {_lock_text(guarded[it['version']])}", **{name: it[name] for name in PLACE}}
+        {"night": night, "what": f"stays: {locks[it['version']]}", **{name: it[name] for name in PLACE}}
         for it in reading.unguarded(file, "due", at=night)
-        if it["change"] == "removed" and it["version"] in guarded.keys() - gone and it["bucket"] in buckets
+        if (it["change"], it["kind"]) == ("removed", "version") and it["bucket"] in buckets
     ]
 
 
