@@ -1,1 +1,1 @@
-pub mod Device
+pub mod StepLemmas

@@ -2,6 +2,7 @@
 ghost use Rattle.std.specs.Prelude.{◌≡◌, ◌≤◌, ◌+◌, ℕ, List, IfOk, OnErr};
 ghost use Rattle.vault_core_model.specs.LeavesMany.{LeavesByAll};
 ghost use Rattle.vault_core_model.specs.Step.{IsRun, Reached};
+ghost use Rattle.vault_core.specs.StepByStep.{StepByStep};
 ghost use Rattle.vault_core_worm_laws.specs.Once.{Extends};
 ghost use Rattle.vault_core_worm_laws.specs.Removals.{RemovalsWerePermitted};
 ghost use Rattle.vault_core_worm_laws.specs.Repeated.{BeginRun, CompleteRun};
@@ -56,6 +57,8 @@ pub fn run<K: Keeper>(
         ≡ held_bytes (K.vault keeper.new) dept + (removed_bytes (K.vault keeper.new) dept + handed_bytes (K.vault keeper.new) dept) }
     // The count of failures rises by one for each reply that reports that the device failed, up to its greatest value.
     ensures leaves { LeavesByAll K.Kept keeper.old keeper.new result }
+    // The same of each command, from the keeper that the one before left, and as far as the device was honest its reply is that of a step.
+    ensures each { IfOk result (λ replies. StepByStep K.Kept keeper.old commands.now replies.items keeper.new) }
 {
     let mut replies = Vec::with_capacity(alloc, commands.len())?;
     for timed in commands {

@@ -1,35 +1,46 @@
-use Rattle.std.proofs.Common.{◌<◌, ◌++◌, ◌∙◌, List, [], ◌∷◌, length, rules, sym, ap, subst, take_all}
-use Rattle.vault_core_model.specs.Halts.{is_device_reply}
-use Rattle.vault_core_model.specs.Leaves.{count_after, count_after_all}
+use Rattle.std.proofs.Common.{◌<◌, ◌++◌, List, length, rules, subst, take_all}
 use Rattle.std.proofs.lemmas.List.{take_more}
 use Rattle.vault_core_model.specs.declared.command.Timed.{Timed}
-use Rattle.vault_core_model.specs.Step.{IsRun}
-use Rattle.vault_core_laws.proofs.Runs.{IsRun-push, IsRun-append}
+use Rattle.vault_core_laws.proofs.Runs.{IsRun-append}
 use Rattle.vault_core_laws.proofs.Balance.{conserved, moved, one_place}
 use Rattle.vault_core_laws.proofs.Telescope.{days_joined}
 use Rattle.vault_core_worm_laws.proofs.Once.{extends_itself}
 use Rattle.vault_core_worm_laws.proofs.Repeated.{run-begins, run-completes}
 use Rattle.vault_core_worm_laws.proofs.Reached.{reached-permitted, reached-Worm, run-extends}
 use Rattle.vault_core_worm_laws.proofs.Stored.{Sound-stands_once, Sound-conserved, Sound-all_conserved}
-use Rattle.vault_core.proofs.Device.{count_after_push}
+use Rattle.vault_core.specs.StepByStep.{StepByStep}
+use Rattle.vault_core.proofs.StepLemmas.{push, honest, is_run, counted}
 use Rattle.vault_core.proofs.run.run.Goals as goal
 
--- the run so far goes on by this step
+-- the commands so far go on by this one
 pub loop-timed-preserved : goal.loop-timed-preserved
 loop-timed-preserved g c = record {
-  honest = λ h. c.loop-timed.invariant.honest (c.step-reply.ensures.leaves.honest h);
-  so_far = λ h. let lt : c.loop-timed.timed-index < length c.args.commands.now = c.loop-timed-test.true in
+  so_far = let lt : c.loop-timed.timed-index < length c.args.commands.now = c.loop-timed-test.true in
       rw (take_more c.args.commands.now c.loop-timed.timed-index c.timed-item.result lt, ← c.timed-item.is, c.in_ok-push.ensures.items)
-      (IsRun-push _ _ _ _ _ c.timed-item.result c.step-reply.result (c.loop-timed.invariant.so_far (c.step-reply.ensures.leaves.honest h)) (c.step-reply.ensures.step h));
+      (push g.K.Kept _ _ _ _ _ c.timed-item.result c.step-reply.result c.loop-timed.invariant.so_far c.step-reply.ensures.step c.step-reply.ensures.leaves);
   room = search rules;
   stated = search rules;
-  counted = c.step-reply.ensures.leaves.counted ∙ (ap (λ n. count_after n (is_device_reply c.step-reply.result)) c.loop-timed.invariant.counted
-      ∙ (sym (count_after_push (g.K.Kept.count c.args.keeper.now) c.loop-timed.replies.items c.step-reply.result) ∙ sym (ap (count_after_all (g.K.Kept.count c.args.keeper.now)) c.in_ok-push.ensures.items)));
 }
+
+-- ---- all commands, and what follows of them
+
+pub returns-clause-each : goal.returns-clause-each
+returns-clause-each g c =
+    let P : List Timed → Type 0 = λ cs. StepByStep g.K.Kept c.args.keeper.now cs c.loop-timed.replies.items c.loop-timed.keeper in
+    subst P (take_all c.loop-timed.timed-index c.args.commands.now c.loop-timed-test.false) c.loop-timed.invariant.so_far
+
+pub returns-clause-leaves : goal.returns-clause-leaves
+returns-clause-leaves g c = record {
+  honest = honest g.K.Kept _ _ _ _ (returns-clause-each g c);
+  counted = counted g.K.Kept _ _ _ _ (returns-clause-each g c);
+}
+
+pub returns-clause-run : goal.returns-clause-run
+returns-clause-run g c = is_run g.K.Kept _ _ _ _ (returns-clause-each g c)
 
 -- the run to the vault before, and then this one
 pub returns-clause-reached : goal.returns-clause-reached
-returns-clause-reached g c = λ h before. (before.0 ++ _, before.1 ++ _, IsRun-append _ _ _ before.0 _ before.1 _ before.2 (c.loop-timed.invariant.so_far h))
+returns-clause-reached g c = λ h before. (before.0 ++ _, before.1 ++ _, IsRun-append _ _ _ before.0 _ before.1 _ before.2 (returns-clause-run g c h))
 
 pub returns-in_err-replies-clause-conserved : goal.returns-in_err-replies-clause-conserved
 returns-in_err-replies-clause-conserved g c = one_place (g.K.Kept.vault c.args.keeper.now)
@@ -55,7 +66,7 @@ pub returns-in_err-replies-clause-once : goal.returns-in_err-replies-clause-once
 returns-in_err-replies-clause-once g c = λ h. extends_itself _
 
 pub returns-clause-once : goal.returns-clause-once
-returns-clause-once g c = λ h. run-extends _ _ _ _ (g.K.Kept.sound _ (c.loop-timed.invariant.honest h)) (c.loop-timed.invariant.so_far h)
+returns-clause-once g c = λ h. run-extends _ _ _ _ (g.K.Kept.sound _ ((returns-clause-leaves g c).honest h)) (returns-clause-run g c h)
 
 pub returns-in_err-replies-clause-stored : goal.returns-in_err-replies-clause-stored
 returns-in_err-replies-clause-stored g c = λ h. Sound-stands_once _ (g.K.Kept.sound _ h)
@@ -94,11 +105,7 @@ pub returns-clause-days : goal.returns-clause-days
 returns-clause-days g c = λ h t late. days_joined _ t (g.K.Kept.sound _ h) late
 
 pub returns-clause-begun : goal.returns-clause-begun
-returns-clause-begun g c = λ h.
-    let all = take_all c.loop-timed.timed-index c.args.commands.now c.loop-timed-test.false in
-    run-begins _ _ _ _ (g.K.Kept.sound _ (c.loop-timed.invariant.honest h)) (subst (λ (cs : List Timed). IsRun (g.K.Kept.vault c.args.keeper.now) cs c.loop-timed.replies.items (g.K.Kept.vault c.loop-timed.keeper)) all (c.loop-timed.invariant.so_far h))
+returns-clause-begun g c = λ h. run-begins _ _ _ _ (g.K.Kept.sound _ ((returns-clause-leaves g c).honest h)) (returns-clause-run g c h)
 
 pub returns-clause-completed : goal.returns-clause-completed
-returns-clause-completed g c = λ h.
-    let all = take_all c.loop-timed.timed-index c.args.commands.now c.loop-timed-test.false in
-    run-completes _ _ _ _ (g.K.Kept.sound _ (c.loop-timed.invariant.honest h)) (subst (λ (cs : List Timed). IsRun (g.K.Kept.vault c.args.keeper.now) cs c.loop-timed.replies.items (g.K.Kept.vault c.loop-timed.keeper)) all (c.loop-timed.invariant.so_far h))
+returns-clause-completed g c = λ h. run-completes _ _ _ _ (g.K.Kept.sound _ ((returns-clause-leaves g c).honest h)) (returns-clause-run g c h)
