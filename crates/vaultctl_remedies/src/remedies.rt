@@ -78,7 +78,10 @@ const NO_SUCH_LIFECYCLE_CONFIGURATION: &str =
     "the bucket has no lifecycle rules: nothing is to be done, unless rules are set first, by set-rules in a script";
 
 const QUOTA_EXCEEDED: &str =
-    "the department that gets it would have received more than 1,000,000,000,000 bytes in all: nothing moved; add another department";
+    "the department would have admitted and received more than 1,000,000,000,000 bytes in all, those of removed versions included: nothing was admitted; add another department, with a bucket of its own";
+
+const QUOTA_EXCEEDED_BY_A_MOVE: &str =
+    "the department that gets the bucket would have admitted and received more than 1,000,000,000,000 bytes in all, those of removed versions included: nothing moved; add another department";
 
 const VAULT_FULL: &str = "the vault has no number left to give: begin another vault";
 
@@ -164,6 +167,7 @@ pub(crate) fn refused(command: &Command, refusal: Refusal) -> &'static str {
     match (refusal, command) {
         (Refusal::InvalidArgument, command) => invalid(command),
         (Refusal::NameTaken, command) => taken(command),
+        (Refusal::QuotaExceeded, Command::MoveBucket(_)) => QUOTA_EXCEEDED_BY_A_MOVE,
         (Refusal::MethodNotAllowed, Command::Certificate(_)) => {
             "that version is held still, or is a delete marker: a certificate is only of a version that was removed"
         }
