@@ -48,6 +48,8 @@ EDITS = [
      DELIVERIES + "test_a_files_name_that_isnt_utf_8_is_wrong_and_the_others_come"),
     ("output", "text.encode(\"utf-8\", \"backslashreplace\")", "text.encode(\"utf-8\", \"replace\")",
      DELIVERIES + "test_a_files_name_that_isnt_utf_8_is_wrong_and_the_others_come"),
+    ("output", "sys.stderr.write(f\"{text}\\n\")", "print(text, file=sys.stderr)",
+     "test_output.Say.test_lines_of_a_hundred_threads_are_lines"),
     # slips that would stand for ever
     ("engine", "if self.at and self.at > moments.tomorrow() and not self.is_copy:", "if False:",
      DOCUMENTS + "test_no_change_is_dated_ahead_of_the_clock"),

@@ -11,6 +11,8 @@ BUCKETS, LISTS = "test_s3_lists.Buckets.", "test_s3_lists.Lists."
 AGAIN, HEADS, PROGRAMS = "test_s3_again.Again.", "test_s3_again.Heads.", "test_s3_again.Programs."
 NOTED = "test_s3_objects.Noted."
 UNSAID, KEYS, SETTINGS = "test_s3_again.Unsaid.", "test_s3_words.Keys.", "test_s3_words.Settings."
+PLACES, TIMES, FRAMING = "test_s3_crowds.Places.", "test_s3_crowds.Times.", "test_s3_crowds.Framing."
+DOCUMENTS = "test_s3_crowds.Documents."
 
 EDITS = [
     # who asks
@@ -44,7 +46,7 @@ EDITS = [
      "        begin().read(1) if request.method == \"PUT\" else None\n        caller, signed, key = self.who(request)\n",
      REFUSED + "test_the_engine_is_asked_nothing_and_no_body_is_read"),
     ("signature", " or signed.date[:8] != signed.day", "", REFUSED + "test_the_day_of_the_credential_is_that_of_the_request"),
-    ("signature", "    if signed.expires is None and not payload_of(request, signed):\n", "    if False:\n",
+    ("signature", "    if not payload_of(request, signed):\n", "    if False:\n",
      REFUSED + "test_what_is_said_of_the_body_has_to_be_there"),
     ("signature", "        if text is not None:\n", "        if False:\n", REFUSED + "test_one_signature_alone"),
     ("signature", " or not 1 <= int(expires) <= LONGEST", "", KEPT + "test_a_presigned_url_is_good_for_seven_days_at_most"),
@@ -232,13 +234,42 @@ EDITS = [
      KEYS + "test_one_is_added_listed_and_removed"),
     ("signature", "\"the signature isn't that of this request by this access key\"", "signature_of(request, signed, key)",
      REFUSED + "test_an_unknown_key_and_another_secret"),
-    ("server", "self.server.note(f\"- {_noted(self.requestline)}", "self.server.note(f\"- {shown(self.requestline)}",
-     HEADS + "test_no_signature_is_in_the_log"),
-    ("server", "re.sub(\"(?<=[?&]X-Amz-Signature=)[^& ]*\", \"..\", text)", "text",
+    ("server", "line = _noted(self.requestline) or", "line = shown(self.requestline) or", HEADS + "test_no_signature_is_in_the_log"),
+    ("server", "return f\"{found[1]}=..\" if is_signature else found[0]", "return found[0]",
      PROGRAMS + "test_it_says_what_isnt_locked_serves_and_ends_by_a_signal"),
     ("words", "        _say_unlocked(unlocked)\n", "",
      PROGRAMS + "test_it_says_what_isnt_locked_serves_and_ends_by_a_signal"),
     ("words", "    buckets = door.open()\n", "    buckets = door.buckets()\n", PROGRAMS + "test_a_damaged_vault_keeps_it_from_starting"),
+    # strangers and crowds, and what is too slow, too much, or framed by nobody
+    ("places", "return self.served[host] < OF_ONE and", "return", PLACES + "test_silent_strangers_keep_nobody_else_out"),
+    ("places", "or of_one >= WAITING_OF_ONE:", "or False:", PLACES + "test_who_gets_no_place_is_in_the_log"),
+    ("places", "                del self.idle[found]\n", "                return True\n",
+     PLACES + "test_who_waits_has_the_place_of_one_that_asks_nothing"),
+    ("places", "if now - it.since >= seconds]", "if False]", PLACES + "test_who_waits_too_long_is_turned_away"),
+    ("places", "                self.served[found.host] += 1\n", "                pass\n",
+     PLACES + "test_who_is_answered_while_others_wait_makes_room"),
+    ("server", "or self.server.places.is_wanted(self.client_address[0])", "or False",
+     PLACES + "test_who_is_answered_while_others_wait_makes_room"),
+    ("server", "        self.note(f\"- from {guest.host} 503 SlowDown\")\n", "", PLACES + "test_who_gets_no_place_is_in_the_log"),
+    ("incoming", "LARGEST\n        self.deadline = time.monotonic() + seconds\n", "LARGEST\n        self.deadline = math.inf\n",
+     TIMES + "test_a_head_has_its_time_as_a_whole"),
+    ("incoming", "in that time.\"\"\"\n        self.deadline = time.monotonic() + seconds\n",
+     "in that time.\"\"\"\n        self.deadline = math.inf\n", TIMES + "test_a_body_has_its_time_as_a_whole"),
+    ("incoming", "        if self.room < 0:\n", "        if False:\n", TIMES + "test_a_head_has_a_size"),
+    ("server", "self.idle = HEAD if caller == \"-\" else PATIENCE", "self.idle = PATIENCE",
+     TIMES + "test_who_isnt_known_is_left_sooner_between_two_requests"),
+    ("server", "or request is None or self._may_send()", "or self._may_send()", FRAMING + "test_nothing_follows_what_cant_be_framed"),
+    ("server", "return lengths != [\"0\"] or", "return lengths[0] != \"0\" or", FRAMING + "test_nothing_follows_what_cant_be_framed"),
+    ("server", "urllib.parse.unquote(found[1]).lower()", "found[1].lower()",
+     FRAMING + "test_a_signature_is_out_of_the_log_by_its_name"),
+    ("bodies", "if size and before < CHUNK_LEAST:", "if False:", BODIES + "test_a_chunk_has_a_least_size"),
+    ("xml", "        if self.left < 0:\n", "        if False:\n",
+     DOCUMENTS + "test_a_document_has_no_more_elements_than_any_call_needs"),
+    ("xml", "self.left -= 1 + len(attributes)", "self.left -= 1",
+     DOCUMENTS + "test_a_document_has_no_more_elements_than_any_call_needs"),
+    ("lifecycle", "MOST = 16_000", "MOST = 13_000", DOCUMENTS + "test_a_thousand_rules_with_all_that_they_may_have_are_taken"),
+    ("gateway", "        if call.most <= bodies.CONTENT:\n", "        if True:\n", DOCUMENTS + "test_large_ones_come_one_after_another"),
+    ("gateway", "yield call.most, TURN", "yield call.most, BODY", DOCUMENTS + "test_who_has_its_turn_has_little_time"),
     # documents of which a part is wrong, or says more
     ("objects", "        raise xml.malformed(\"an Object has a Key\")\n", "        key = \"a\"\n",
      DELETE + "test_what_isnt_the_document"),

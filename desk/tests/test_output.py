@@ -1,10 +1,12 @@
-"""What a person at a terminal sees while a subcommand takes long."""
+"""What the desk says on standard error: lines of a log, and what a person sees while a subcommand takes long."""
 
 from __future__ import annotations
 
 import contextlib
 import io
+import time
 import unittest
+from concurrent.futures import ThreadPoolExecutor
 from unittest import mock
 
 from vaultdesk import output
@@ -13,6 +15,28 @@ from vaultdesk import output
 class Terminal(io.StringIO):
     def isatty(self) -> bool:
         return True
+
+
+class Slow(io.StringIO):
+    """Notes each write, and lets other threads write in between."""
+
+    def __init__(self) -> None:
+        super().__init__()
+        self.writes: list[str] = []
+
+    def write(self, text: str, /) -> int:
+        self.writes.append(text)
+        time.sleep(0.000_1)
+        return super().write(text)
+
+
+class Say(unittest.TestCase):
+    def test_lines_of_a_hundred_threads_are_lines(self) -> None:
+        lines = [f"line {number}" for number in range(1_000)]
+        with contextlib.redirect_stderr(Slow()) as log, ThreadPoolExecutor(100) as pool:
+            list(pool.map(output.say, lines))
+        self.assertEqual(sorted(log.getvalue().splitlines()), sorted(lines))
+        self.assertEqual(sorted(log.writes), sorted(f"{it}\n" for it in lines))
 
 
 class CountedOff(unittest.TestCase):

@@ -19,7 +19,7 @@ from pathlib import Path
 from unittest import mock
 
 from tests.office import PROGRAM
-from tests.s3_office import ANN, BEA, DATE, SECRET, GatewayTest, read_replies, request
+from tests.s3_office import ANN, BEA, DATE, SECRET, GatewayTest, request
 from vaultdesk import reading, ways
 from vaultdesk.errors import DeskError, EngineError
 from vaultdesk.s3 import again, server
@@ -337,28 +337,6 @@ class AtOnce(GatewayTest):
         self.assertEqual({it.headers["x-amz-version-id"] for it in done}, {"1"})
         self.assertEqual(len(self.entries()), 1)
 
-    def test_connections_that_are_too_many_are_told_so(self) -> None:
-        with contextlib.ExitStack() as held:
-            for _ in range(server.CONNECTIONS):
-                held.enter_context(self.connected()).sendall(request("GET", "/docs"))
-            deadline = time.monotonic() + 300
-            while True:
-                with self.connected() as connection, contextlib.suppress(OSError):
-                    connection.sendall(request("GET", "/docs"))
-                    status = next(read_replies(connection.recv(65_536)), None)
-                    if status and status.status == 503:
-                        break
-                self.assertLess(time.monotonic(), deadline)
-        deadline = time.monotonic() + 300
-        while self.ask_or_none() != 200:
-            self.assertLess(time.monotonic(), deadline)
-
-    def ask_or_none(self) -> int:
-        try:
-            return self.ask("GET", "/docs").status
-        except (OSError, ValueError):
-            return 0
-
 
 class Heads(GatewayTest):
     def test_what_is_no_request(self) -> None:
@@ -421,7 +399,7 @@ class Heads(GatewayTest):
         self.assertEqual(self.entries(), [])
 
 
-class Programs(GatewayTest):
+class ProgramTest(GatewayTest):
     """The gateway as a program."""
 
     def begin(self) -> tuple[subprocess.Popen[str], int, list[str]]:
@@ -442,6 +420,8 @@ class Programs(GatewayTest):
                 return child, int(line.rsplit(":", 1)[1]), said
         self.fail("".join(said))
 
+
+class Programs(ProgramTest):
     def test_it_says_what_isnt_locked_serves_and_ends_by_a_signal(self) -> None:
         self.stop()
         self.lines({"do": "set-default", "bucket": "docs", "mode": "GOVERNANCE", "days": 3})

@@ -10,7 +10,8 @@ import zlib
 from tests.s3_office import DATE, EMPTY, GatewayTest, read_replies, request, signature
 from vaultdesk.s3.checksums import ALGORITHMS
 
-CONTENT = b"a deed of 1924\n" * 50
+CONTENT = b"a deed of 1924\n" * 1_500
+LEAST = 8_192  # bytes of a chunk but the last
 MOST = 1_048_576
 SCOPE = f"{DATE[:8]}/us-east-1/s3/aws4_request"
 STREAM = "STREAMING-AWS4-HMAC-SHA256-PAYLOAD"
@@ -96,7 +97,7 @@ class Bodies(GatewayTest):
         self.left("InvalidArgument", whole.replace(b"content-length: ", b"content-length: +"))
 
     def test_chunks_that_are_signed(self) -> None:
-        for size in (1, 64, 749, 750, 8_192):
+        for size in (LEAST, 11_250, 22_499, 22_500, 65_536):
             for is_chunked in (False, True):
                 with self.subTest(size=size, is_chunked=is_chunked):
                     headers = head_of(STREAM, len(CONTENT))
@@ -110,10 +111,20 @@ class Bodies(GatewayTest):
                         body = b"".join(b"%x\r\n%b\r\n" % (len(it), it) for it in chunks(body, 333))
                     self.taken(head + body)
 
+    def test_a_chunk_has_a_least_size(self) -> None:
+        small = LEAST - 1
+        for size in (small, 300):
+            length = str(len(signed(b"Signature=" + b"0" * 64, CONTENT, size)))
+            head = request("PUT", "/docs/a", b"", {**head_of(STREAM, len(CONTENT)), "content-length": length})
+            self.left("InvalidChunkSizeError", head + signed(head, CONTENT, size), 403)
+            plain = streamed(head_of(UNSIGNED, len(CONTENT)), unsigned(CONTENT, size))
+            self.left("InvalidChunkSizeError", plain, 403)
+        self.taken(streamed(head_of(UNSIGNED, small), unsigned(CONTENT[:small], small)), CONTENT[:small])
+
     def test_chunks_that_are_signed_wrongly(self) -> None:
-        length = str(len(signed(b"Signature=" + b"0" * 64, CONTENT, 64)))
+        length = str(len(signed(b"Signature=" + b"0" * 64, CONTENT, LEAST)))
         head = request("PUT", "/docs/a", b"", {**head_of(STREAM, len(CONTENT)), "content-length": length})
-        body = signed(head, CONTENT, 64)
+        body = signed(head, CONTENT, LEAST)
         self.left("SignatureDoesNotMatch", head + body.replace(b"1924", b"1925", 1), 403)
         second = body.index(b"chunk-signature=", 90) + 16
         self.left("SignatureDoesNotMatch", head + body[:second] + b"0" * 64 + body[second + 64:], 403)
@@ -125,12 +136,12 @@ class Bodies(GatewayTest):
         crc = base64.b64encode(zlib.crc32(CONTENT).to_bytes(4, "big")).decode()
         trailer = f"x-amz-checksum-crc32:{crc}"
         headers = head_of(f"{STREAM}-TRAILER", len(CONTENT), {"x-amz-trailer": "x-amz-checksum-crc32"})
-        headers["content-length"] = str(len(signed(b"Signature=" + b"0" * 64, CONTENT, 512, trailer)))
+        headers["content-length"] = str(len(signed(b"Signature=" + b"0" * 64, CONTENT, LEAST, trailer)))
         head = request("PUT", "/docs/a", b"", headers)
-        self.taken(head + signed(head, CONTENT, 512, trailer))
+        self.taken(head + signed(head, CONTENT, LEAST, trailer))
         wrong = trailer.replace(crc, "AAAAAA==")
-        self.left("BadDigest", head + signed(head, CONTENT, 512, wrong))
-        body = signed(head, CONTENT, 512, trailer)
+        self.left("BadDigest", head + signed(head, CONTENT, LEAST, wrong))
+        body = signed(head, CONTENT, LEAST, trailer)
         self.left("SignatureDoesNotMatch", head + body.replace(crc.encode(), b"AAAAAA=="), 403)
 
     def test_chunks_with_a_trailer(self) -> None:
@@ -138,17 +149,17 @@ class Bodies(GatewayTest):
         trailer = b"x-amz-checksum-crc32:" + crc + b"\r\n"
         headers = head_of(UNSIGNED, len(CONTENT), {"x-amz-trailer": "x-amz-checksum-crc32"})
         for is_chunked in (False, True):
-            self.taken(streamed(headers, unsigned(CONTENT, 100, trailer), is_chunked))
-            self.left("BadDigest", streamed(headers, unsigned(CONTENT[:-1] + b"x", 100, trailer), is_chunked))
-            self.left("MalformedTrailerError", streamed(headers, unsigned(CONTENT, 100), is_chunked))
+            self.taken(streamed(headers, unsigned(CONTENT, LEAST, trailer), is_chunked))
+            self.left("BadDigest", streamed(headers, unsigned(CONTENT[:-1] + b"x", LEAST, trailer), is_chunked))
+            self.left("MalformedTrailerError", streamed(headers, unsigned(CONTENT, LEAST), is_chunked))
             other = b"x-amz-checksum-sha1:AAAA\r\n"
-            self.left("MalformedTrailerError", streamed(headers, unsigned(CONTENT, 100, trailer + other), is_chunked))
-            self.left("IncompleteBody", streamed(headers, unsigned(CONTENT[:-1], 100, trailer), is_chunked))
-            self.left("IncompleteBody", streamed(headers, unsigned(CONTENT, 100, trailer)[:300], is_chunked))
-        cut = streamed(headers, unsigned(CONTENT, 100, trailer), True)
+            self.left("MalformedTrailerError", streamed(headers, unsigned(CONTENT, LEAST, trailer + other), is_chunked))
+            self.left("IncompleteBody", streamed(headers, unsigned(CONTENT[:-1], LEAST, trailer), is_chunked))
+            self.left("IncompleteBody", streamed(headers, unsigned(CONTENT, LEAST, trailer)[:300], is_chunked))
+        cut = streamed(headers, unsigned(CONTENT, LEAST, trailer), True)
         self.left("IncompleteBody", cut[: cut.index(b"1924") + 2])
         unknown = head_of(UNSIGNED, len(CONTENT), {"x-amz-trailer": "x-amz-meta-a"})
-        self.left("InvalidRequest", streamed(unknown, unsigned(CONTENT, 100, b"x-amz-meta-a:b\r\n")))
+        self.left("InvalidRequest", streamed(unknown, unsigned(CONTENT, LEAST, b"x-amz-meta-a:b\r\n")))
 
     def test_each_checksum(self) -> None:
         for name, algorithm in ALGORITHMS.items():
@@ -167,7 +178,7 @@ class Bodies(GatewayTest):
         self.left("InvalidRequest", request("PUT", "/docs/a", CONTENT, {"x-amz-sdk-checksum-algorithm": "CRC32"}))
         self.left("InvalidRequest", request("PUT", "/docs/a", CONTENT, {"content-encoding": "aws-chunked"}))
         ecdsa = head_of("STREAMING-AWS4-ECDSA-P256-SHA256-PAYLOAD", len(CONTENT))
-        self.left("InvalidRequest", streamed(ecdsa, unsigned(CONTENT, 100)))
+        self.left("InvalidRequest", streamed(ecdsa, unsigned(CONTENT, LEAST)))
 
     def test_a_content_has_its_limit(self) -> None:
         most = b"x" * MOST

@@ -4,10 +4,12 @@ from __future__ import annotations
 
 import json
 import sys
+import threading
 import time
 from collections.abc import Iterable, Iterator, Mapping, Sequence, Sized
 from typing import Any, TypeVar
 
+_TURN = threading.Lock()  # of those who say a line
 EACH = 2.0  # seconds between two lines that say how far a subcommand has come
 It = TypeVar("It")
 
@@ -18,9 +20,13 @@ def shown(text: str) -> str:
 
 
 def say(text: str) -> None:
-    """Prints a line on standard error, after what was printed on standard output until then."""
-    sys.stdout.flush()
-    print(text, file=sys.stderr, flush=True)
+    """Prints a line on standard error, after what was printed on standard output until then.
+
+    It is one write, so that the lines of several threads stay lines."""
+    with _TURN:
+        sys.stdout.flush()
+        sys.stderr.write(f"{text}\n")
+        sys.stderr.flush()
 
 
 def print_json(value: Any) -> None:

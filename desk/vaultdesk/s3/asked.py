@@ -50,9 +50,9 @@ class Asked:
         """What the engine answers to a line of the caller. `Fault` where it refuses."""
         return self.vault.door.ask(self.caller, do, **members).value
 
-    def document(self, name: str) -> xml.Element:
-        """The body as XML. `Fault` where it isn't a document of that name."""
-        return xml.read(self.body.content, name)
+    def document(self, name: str, most: int = xml.MOST) -> xml.Element:
+        """The body as XML. `Fault` where it isn't a document of that name, or has more than `most` elements."""
+        return xml.read(self.body.content, name, most)
 
 
 def xml_answer(name: str, content: xml.Content) -> Answer:

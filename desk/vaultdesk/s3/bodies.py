@@ -5,7 +5,6 @@ from __future__ import annotations
 import hashlib
 import hmac
 import re
-import time
 from collections.abc import Callable, Iterator, Mapping
 from dataclasses import dataclass
 from typing import Protocol
@@ -22,11 +21,16 @@ STREAMS = (SIGNED_CHUNKS, SIGNED_TRAILER, UNSIGNED_TRAILER)
 LINE = 1_024  # bytes of a chunk's first line
 TRAILER = 4_096  # bytes of a trailer
 PIECE = 65_536  # bytes that are read at once
-PATIENCE = 120  # seconds for a whole body
 CHUNK = re.compile(rb"([0-9A-Fa-f]{1,8})(?:;chunk-signature=([0-9a-f]{64}))?")
+CHUNK_LEAST = 8_192  # bytes of each of them but the last
 CONTENT = 1_048_576  # bytes of a version
-DOCUMENT = 4_194_304  # bytes of an XML document
-TOO_LARGE = f"a version has at most {CONTENT:,} bytes: cut the content into parts of your own; multipart isn't taken"
+SMALL = 65_536  # bytes of an XML document that isn't large
+DOCUMENT = 4_194_304  # bytes of a large one
+TOO_LARGE = f"a version has at most {CONTENT:,} bytes: cut the content into parts, each a version of a key of its own"
+IN_PARTS = (
+    f"uploads in parts (multipart) aren't taken, of any size: send the content as one put that says its length, "
+    f"at most {CONTENT:,} bytes; a client that doesn't know the length beforehand sends parts"
+)
 
 
 class Source(Protocol):
@@ -154,10 +158,8 @@ class Chain:
         self._follow("TRAILER", (hashlib.sha256(lines).hexdigest(),), signature)
 
 
-def _pieces(source: Source, count: int, deadline: float) -> Iterator[bytes]:
+def _pieces(source: Source, count: int) -> Iterator[bytes]:
     while count:
-        if time.monotonic() > deadline:
-            raise Fault("RequestTimeout", f"the body didn't come within {PATIENCE} seconds")
         found = source.read(min(count, PIECE))
         if not found:
             raise _cut()
@@ -165,21 +167,25 @@ def _pieces(source: Source, count: int, deadline: float) -> Iterator[bytes]:
         yield found
 
 
-def _chunks(source: Source, chain: Chain | None, most: int, deadline: float) -> bytes:
-    """The content of all chunks up to the last one, which has no byte."""
-    content = b""
+def _chunks(source: Source, chain: Chain | None, most: int) -> bytes:
+    """The content of all chunks up to the last one, which has no byte. Each but the one before that has its least size,
+    as each costs a signature."""
+    content = bytearray()
+    size = CHUNK_LEAST
     while True:
         found = CHUNK.fullmatch(source.readline(LINE).removesuffix(b"\r\n"))
         if not found or (found[2] is None) != (chain is None):
             raise _cut()
-        size = int(found[1], 16)
+        before, size = size, int(found[1], 16)
+        if size and before < CHUNK_LEAST:
+            raise Fault("InvalidChunkSizeError", f"only the last chunk may have less than {CHUNK_LEAST:,} bytes")
         if len(content) + size > most:
             raise _too_large(most)
-        chunk = b"".join(_pieces(source, size, deadline))
+        chunk = b"".join(_pieces(source, size))
         if chain:
             chain.chunk(chunk, found[2].decode())
         if not size:
-            return content
+            return bytes(content)
         content += chunk
         if source.readline(2) != b"\r\n":
             raise _cut()
@@ -212,12 +218,10 @@ def _trailer(rest: bytes, names: list[str], chain: Chain | None) -> dict[str, st
     return found
 
 
-def _streamed(
-    request: Request, source: Source, chain: Chain, most: int, deadline: float
-) -> tuple[bytes, dict[str, str]]:
+def _streamed(request: Request, source: Source, chain: Chain, most: int) -> tuple[bytes, dict[str, str]]:
     """The content of a body in `aws-chunked`, and its trailer."""
     form = request.headers["x-amz-content-sha256"]
-    content = _chunks(source, None if form == UNSIGNED_TRAILER else chain, most, deadline)
+    content = _chunks(source, None if form == UNSIGNED_TRAILER else chain, most)
     wanted = request.headers.get("x-amz-decoded-content-length")
     if wanted is not None and wanted != str(len(content)):
         raise _cut()
@@ -254,6 +258,11 @@ def declared(request: Request) -> int:
     return int(length) if re.fullmatch("[0-9]{1,19}", length) else 0
 
 
+def may_be_large(request: Request) -> bool:
+    """Whether the head declares a large document, or no length."""
+    return declared(request) > SMALL or not declared(request) and "transfer-encoding" in request.headers
+
+
 def read(request: Request, signed: Signed, key: bytes, most: int, begin: Callable[[], Source]) -> Body:
     """The body of a request whose signature is right, at most that many bytes of content.
 
@@ -269,12 +278,11 @@ def read(request: Request, signed: Signed, key: bytes, most: int, begin: Callabl
     if declared(request) > most:
         raise _too_large(most)
     source = _framed(request, _Begun(begin))
-    deadline = time.monotonic() + PATIENCE
     trailer: dict[str, str] = {}
     if is_streamed:
-        content, trailer = _streamed(request, source, Chain(signed, key), most, deadline)
+        content, trailer = _streamed(request, source, Chain(signed, key), most)
     else:
-        content = _plain(source, most, deadline)
+        content = _plain(source, most)
         if payload != UNSIGNED and hashlib.sha256(content).hexdigest() != payload:
             raise Fault("XAmzContentSHA256Mismatch", "the body doesn't have the digest of x-amz-content-sha256")
     return Body(content, checksums.check(request.headers, trailer, content))
@@ -300,14 +308,12 @@ class _Begun:
         return self._there().readline(most) if most else b""
 
 
-def _plain(source: Counted | Chunked, most: int, deadline: float) -> bytes:
-    content = b""
+def _plain(source: Counted | Chunked, most: int) -> bytes:
+    content = bytearray()
     while True:
-        if time.monotonic() > deadline:
-            raise Fault("RequestTimeout", f"the body didn't come within {PATIENCE} seconds")
         found = source.read(PIECE)
         if not found:
-            return content
+            return bytes(content)
         content += found
         if len(content) > most:
             raise _too_large(most)

@@ -13,6 +13,7 @@ STATUSES = {
     "BucketAlreadyOwnedByYou": 409,
     "InternalError": 500,
     "InvalidAccessKeyId": 403,
+    "InvalidChunkSizeError": 403,
     "InvalidRange": 416,
     "MethodNotAllowed": 405,
     "MissingContentLength": 411,

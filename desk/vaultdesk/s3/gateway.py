@@ -3,8 +3,10 @@
 from __future__ import annotations
 
 import secrets
+import threading
 import time
-from collections.abc import Callable
+from collections.abc import Callable, Iterator
+from contextlib import contextmanager
 from dataclasses import replace
 
 from vaultdesk.errors import DeskError
@@ -17,6 +19,10 @@ from vaultdesk.s3.keys import Key, Keys
 from vaultdesk.s3.request import Answer, Request
 from vaultdesk.s3.signature import Signed
 
+BODY = 120  # seconds for a body
+TURN = 30  # seconds for a large document, as nobody else can send one meanwhile
+WAIT = 60  # seconds that one waits for its turn
+
 
 class Gateway:
     """Translates requests for a vault into lines of the engine, for the callers of a file of keys."""
@@ -25,6 +31,7 @@ class Gateway:
         self.vault = vault
         self.keys = keys
         self.clock = clock
+        self.large = threading.Lock()
 
     def _key_of(self, signed: Signed) -> Key:
         try:
@@ -46,17 +53,35 @@ class Gateway:
         signature.check(request, signed, key, self.clock())
         return found.caller, signed, key
 
+    @contextmanager
+    def _turn_of(self, request: Request, call: routes.Call) -> Iterator[tuple[int, float]]:
+        """The bytes that a body may have, and the seconds. Large documents are read and carried out one after another:
+        together they would take the memory of the machine."""
+        if call.most <= bodies.CONTENT:
+            yield call.most, BODY
+        elif not bodies.may_be_large(request):
+            yield bodies.SMALL, BODY
+        elif self.large.acquire(timeout=WAIT):
+            try:
+                yield call.most, TURN
+            finally:
+                self.large.release()
+        else:
+            raise Fault("SlowDown", f"other large documents took {WAIT} seconds")
+
     def carry_out(
-        self, request: Request, begin: Callable[[], bodies.Source], client: Client | None = None
+        self, request: Request, begin: Callable[[float], bodies.Source], client: Client | None = None
     ) -> tuple[str, Answer]:
-        """The caller, and the answer. `begin` has the client send its body. `Fault` where the request is refused."""
+        """The caller, and the answer. `begin` has the client send its body, within that many seconds. `Fault` where the
+        request is refused."""
         caller, signed, key = self.who(request)
+        signature = signed.signature if signed.expires is None else None
         try:
             call = routes.call_of(request)
             heads.look_at_names(request, call.look(request, self.vault.settings))
-            body = bodies.read(request, signed, key, call.most, begin)
-            signature = signed.signature if signed.expires is None else None
-            return caller, call.do(Asked(request, caller, body, self.vault, signature, client or Client()))
+            with self._turn_of(request, call) as (most, seconds):
+                body = bodies.read(request, signed, key, most, lambda: begin(seconds))
+                return caller, call.do(Asked(request, caller, body, self.vault, signature, client or Client()))
         except Fault as fault:
             fault.caller = caller
             raise

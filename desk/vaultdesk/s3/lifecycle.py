@@ -10,6 +10,7 @@ from vaultdesk.s3.request import Answer, number
 
 SIZES = ("ObjectSizeGreaterThan", "ObjectSizeLessThan")
 LATER = ("NoncurrentDays", "NewerNoncurrentVersions")
+MOST = 16_000  # elements: a bucket has up to 1,000 rules, and a rule up to 14 of them
 
 
 def _numbers(element: xml.Element, names: tuple[str, ...]) -> dict[str, int]:
@@ -62,7 +63,7 @@ def _rule(rule: xml.Element, place: int) -> dict[str, Any]:
 
 def put(asked: Asked) -> Answer:
     """Sets the rules of a bucket in the place of those that it has."""
-    document = asked.document("LifecycleConfiguration")
+    document = asked.document("LifecycleConfiguration", MOST)
     document.only("Rule")
     rules = [_rule(it, place) for place, it in enumerate(document.all("Rule"), start=1)]
     asked.ask("set-rules", bucket=asked.request.bucket, rules=rules)

@@ -7,7 +7,7 @@ from dataclasses import dataclass
 
 from vaultdesk.s3 import bodies, buckets, heads, lifecycle, listings, locks, objects
 from vaultdesk.s3.asked import Asked
-from vaultdesk.s3.bodies import CONTENT, DOCUMENT
+from vaultdesk.s3.bodies import CONTENT, DOCUMENT, SMALL
 from vaultdesk.s3.faults import Fault, not_there
 from vaultdesk.s3.request import Answer, Request
 from vaultdesk.s3.settings import Settings
@@ -54,7 +54,7 @@ LISTED = frozenset({"prefix", "delimiter", "max-keys", "encoding-type"})
 CALLS: Mapping[tuple[str, str, str], Call] = {
     ("GET", "service", ""): Call("ListBuckets", buckets.list_all),
     ("HEAD", "bucket", ""): Call("HeadBucket", buckets.head),
-    ("PUT", "bucket", ""): Call("CreateBucket", buckets.create, most=DOCUMENT, look=lambda *_: {"x-amz-acl"}),
+    ("PUT", "bucket", ""): Call("CreateBucket", buckets.create, most=SMALL, look=lambda *_: {"x-amz-acl"}),
     ("GET", "bucket", ""): Call("ListObjects", listings.objects_v1, LISTED | {"marker"}),
     ("GET", "bucket", "list-type"): Call(
         "ListObjectsV2", listings.objects_v2, LISTED | {"continuation-token", "start-after", "fetch-owner"}
@@ -66,7 +66,7 @@ CALLS: Mapping[tuple[str, str, str], Call] = {
     ("GET", "bucket", "versioning"): Call("GetBucketVersioning", buckets.versioning),
     ("GET", "bucket", "object-lock"): Call("GetObjectLockConfiguration", locks.get_default),
     ("PUT", "bucket", "object-lock"): Call(
-        "PutObjectLockConfiguration", locks.put_default, look=_change, most=DOCUMENT
+        "PutObjectLockConfiguration", locks.put_default, look=_change, most=SMALL
     ),
     ("GET", "bucket", "lifecycle"): Call("GetBucketLifecycleConfiguration", lifecycle.get),
     ("PUT", "bucket", "lifecycle"): Call(
@@ -80,10 +80,10 @@ CALLS: Mapping[tuple[str, str, str], Call] = {
     ("DELETE", "key", ""): Call("DeleteObject", objects.delete, VERSION, look=_change),
     ("GET", "key", "retention"): Call("GetObjectRetention", locks.get_retention, VERSION),
     ("PUT", "key", "retention"): Call(
-        "PutObjectRetention", locks.put_retention, VERSION, look=_change, most=DOCUMENT
+        "PutObjectRetention", locks.put_retention, VERSION, look=_change, most=SMALL
     ),
     ("GET", "key", "legal-hold"): Call("GetObjectLegalHold", locks.get_hold, VERSION),
-    ("PUT", "key", "legal-hold"): Call("PutObjectLegalHold", locks.put_hold, VERSION, look=_change, most=DOCUMENT),
+    ("PUT", "key", "legal-hold"): Call("PutObjectLegalHold", locks.put_hold, VERSION, look=_change, most=SMALL),
     **{("GET", "bucket", it): Call(f"of {it}", buckets.absent) for it in buckets.ABSENT},
 }
 COPY = Call("CopyObject", objects.copy, look=_copy)
@@ -109,7 +109,7 @@ def call_of(request: Request) -> Call:
     """The call that a request is. `Fault` where it is none of those that are translated."""
     names = set(request.query) - SIGNING
     if {"uploads", "uploadId", "partNumber"} & names and request.method != "GET":
-        raise Fault("EntityTooLarge", bodies.TOO_LARGE)
+        raise Fault("EntityTooLarge", bodies.IN_PARTS)
     target = _target(request)
     selecting = [it for it in SELECTING & names if it != "versions" or target == "bucket"]
     if len(selecting) > 1:

@@ -16,6 +16,7 @@ import sys
 import termios
 import threading
 import time
+import urllib.parse
 from contextlib import suppress
 from http import HTTPStatus
 from typing import Any
@@ -27,11 +28,13 @@ from vaultdesk.s3.again import Client, Put
 from vaultdesk.s3.bodies import Source
 from vaultdesk.s3.faults import Fault
 from vaultdesk.s3.gateway import Gateway, of_fault, without_body
+from vaultdesk.s3.incoming import Incoming
+from vaultdesk.s3.places import CONNECTIONS, Guest, Places
 from vaultdesk.s3.request import Answer, Request
 from vaultdesk.s3.settings import Settings
 
-CONNECTIONS = 128  # at once; one more is answered that it should come later
-PATIENCE = 60  # seconds for the next bytes of a client
+PATIENCE = 60  # seconds for the next bytes of a client, and between two requests
+HEAD = 10  # seconds for a whole head
 LINGER = 5  # seconds in which a body that isn't wanted is read past, so that the answer arrives
 PAST = 33_554_432  # bytes of it, at most
 BUSY = b"HTTP/1.1 503 Service Unavailable\r\nConnection: close\r\nContent-Length: 0\r\n\r\n"
@@ -39,7 +42,13 @@ BUSY = b"HTTP/1.1 503 Service Unavailable\r\nConnection: close\r\nContent-Length
 
 def _noted(text: str) -> str:
     """A target, or a request's first line, for the log: without a signature, by which its reader could ask the same."""
-    return shown(re.sub("(?<=[?&]X-Amz-Signature=)[^& ]*", "..", text))
+
+    def said(found: re.Match[str]) -> str:
+        # It is known by its name as that is read: X%2DAmz%2DSignature is the same.
+        is_signature = urllib.parse.unquote(found[1]).lower() == "x-amz-signature"
+        return f"{found[1]}=.." if is_signature else found[0]
+
+    return shown(re.sub("(?<=[?&])([^=&? ]*)=([^& ]*)", said, text))
 
 
 class _Arriving:
@@ -65,9 +74,39 @@ class Handler(http.server.BaseHTTPRequestHandler):
     disable_nagle_algorithm = True
     server: Server
     rfile: io.BufferedReader
+    idle: float | None = None  # seconds between two requests; before the first of a connection there are none
     is_begun = False
     is_answered = False
     put: Put | None = None  # the put that was answered last, until it is known whether the answer arrived
+
+    def setup(self) -> None:
+        """Has the bytes of the connection come in their time."""
+        super().setup()
+        self.rfile.close()
+        self.incoming = Incoming(self.connection, self.client_address[0], self.server.places, self.timeout)
+        self.rfile = io.BufferedReader(self.incoming)
+
+    def handle_one_request(self) -> None:
+        """One request: its head, which has its time, and its answer."""
+        self.requestline, self.command, self.headers = "", "", self.MessageClass()
+        self.incoming.await_head(HEAD, self.idle)
+        try:
+            super().handle_one_request()
+        except Fault as fault:
+            self._turn_away(fault)
+
+    def _turn_away(self, fault: Fault) -> None:
+        """Answers a head that doesn't come, or is none, notes that in the log, and ends the connection."""
+        self.close_connection = True
+        self.command = self.command or "-"
+        answer = of_fault(fault, None)
+        line = _noted(self.requestline) or f"from {self.client_address[0]}"
+        try:
+            self._send(answer)
+            if fault.code == "RequestHeaderSectionTooLarge":
+                self._linger()
+        finally:
+            self.server.note(f"- {line} {answer.status} {fault.code}")
 
     def finish(self) -> None:
         """Ends the connection, and notes a put whose answer didn't arrive."""
@@ -107,15 +146,18 @@ class Handler(http.server.BaseHTTPRequestHandler):
         """The client goes on once the head has nothing that is refused."""
         return True
 
-    def _begin(self) -> Source:
-        """Has the client send its body."""
+    def _begin(self, seconds: float) -> Source:
+        """Has the client send its body, for which it has that many seconds."""
         self.is_begun = True
+        self.incoming.await_body(seconds)
         if self.headers.get("Expect", "").lower() == "100-continue" and self.request_version != "HTTP/1.0":
             self.wfile.write(b"HTTP/1.1 100 Continue\r\n\r\n")
         return _Arriving(self.rfile)
 
     def _has_body(self) -> bool:
-        return self.headers.get("Content-Length", "0") != "0" or "Transfer-Encoding" in self.headers
+        """Whether a body may come, by any of what the head says of its length."""
+        lengths = [it.strip() for it in self.headers.get_all("Content-Length", ["0"])]
+        return lengths != ["0"] or "Transfer-Encoding" in self.headers
 
     def _may_send(self) -> bool:
         """Whether more may come of the request: what is left of a body is no next request."""
@@ -133,6 +175,7 @@ class Handler(http.server.BaseHTTPRequestHandler):
         """Carries out the request, answers it, and notes it in the log."""
         request, caller, code = None, "-", "-"
         self.is_begun, self.is_answered, self.put = False, False, None  # who goes on has the answer before
+        self.incoming.end_head()
         client = Client(self._is_lost)
         with self.server.at_work():
             try:
@@ -142,7 +185,8 @@ class Handler(http.server.BaseHTTPRequestHandler):
                     self.close_connection = True
             except Fault as fault:
                 answer, caller, code = of_fault(fault, request), fault.caller, fault.code
-                self.close_connection = self.close_connection or self._may_send()
+                # Of a head that can't be read nobody knows where it ends.
+                self.close_connection = self.close_connection or request is None or self._may_send()
             except OSError:
                 raise
             except Exception as error:
@@ -150,12 +194,19 @@ class Handler(http.server.BaseHTTPRequestHandler):
                 unknown = Fault("InternalError", "the gateway met what it doesn't know: its log says what")
                 answer, code, self.close_connection = of_fault(unknown, request), unknown.code, True
             self.put = client.put
-            self._send(answer)
-        self.server.note(f"{caller} {self.command} {_noted(self.requestline.split()[1])} {answer.status} {code}")
+            self.idle = HEAD if caller == "-" else PATIENCE
+            try:
+                self._send(answer)
+            finally:
+                target = _noted(self.requestline.split()[1])
+                self.server.note(f"{caller} {self.command} {target} {answer.status} {code}")
 
     def _send(self, answer: Answer) -> None:
         if self.command == "HEAD":
             answer = without_body(answer)
+        is_lingering = self.close_connection and self._may_send()
+        # Whoever waits has the place next: there is no other request over this connection.
+        self.close_connection = self.close_connection or self.server.places.is_wanted(self.client_address[0])
         headers = {
             "Date": self.date_time_string(),
             "Server": "vaultdesk",
@@ -171,16 +222,17 @@ class Handler(http.server.BaseHTTPRequestHandler):
         self.wfile.write(head.encode("latin-1") + answer.body)
         if self.put:
             self.server.gateway.vault.unanswered.end(self.put)
-        if self.close_connection and self._may_send():
+        if is_lingering:
             self._look_after_put()
             self._linger()
 
     def _linger(self) -> None:
         """Reads past what the client still sends: a connection that is closed before would lose it the answer."""
-        with suppress(OSError):
+        with suppress(OSError, Fault):
             if self.server.context is None:
                 self.connection.shutdown(socket.SHUT_WR)
-            self.connection.settimeout(1)
+            self.incoming.end_head()
+            self.incoming.patience = 1
             deadline, left = time.monotonic() + LINGER, PAST
             while left > 0 and time.monotonic() < deadline:
                 found = self.rfile.read1(65_536)
@@ -192,13 +244,9 @@ class Handler(http.server.BaseHTTPRequestHandler):
 
     def send_error(self, code: int, message: str | None = None, explain: str | None = None) -> None:
         """What isn't a head of a request that is taken."""
-        self.close_connection = True
-        fault = Fault("NotImplemented" if code == 501 else "InvalidRequest", message or "the head can't be read")
-        answer = of_fault(fault, None)
-        self.headers = self.headers if hasattr(self, "headers") else self.MessageClass()
-        self.command = self.command or "-"
-        self._send(answer)
-        self.server.note(f"- {_noted(self.requestline)} {answer.status} {fault.code}")
+        self._turn_away(
+            Fault("NotImplemented" if code == 501 else "InvalidRequest", message or "the head can't be read")
+        )
 
     def log_message(self, format: str, *args: Any) -> None:
         """What `http.server` would say; each request has its line already."""
@@ -215,7 +263,7 @@ class Server(socketserver.ThreadingTCPServer):
     def __init__(self, settings: Settings, gateway: Gateway, is_quiet: bool) -> None:
         self.gateway = gateway
         self.is_quiet = is_quiet
-        self.places = threading.BoundedSemaphore(CONNECTIONS)
+        self.places = Places()
         self.working = 0
         self.idle = threading.Condition()
         self.context: ssl.SSLContext | None = None
@@ -240,29 +288,55 @@ class Server(socketserver.ThreadingTCPServer):
                 say(f"{moments.now()} {line}")
 
     def process_request(self, request: Any, client_address: Any) -> None:
-        """Gives a connection its thread, where there is room."""
-        if self.places.acquire(blocking=False):
+        """Gives a connection its thread, where there is room; else it waits for a place."""
+        guest = Guest(request, client_address)
+        if self.places.take(guest):
             super().process_request(request, client_address)
-            return
-        with suppress(OSError):
-            request.settimeout(0)
-            request.sendall(BUSY)
-        self.shutdown_request(request)
+        elif not self.places.wait(guest):
+            self._turn_away(guest)
 
     def process_request_thread(self, request: Any, client_address: Any) -> None:
-        """A connection, in its thread."""
-        try:
-            super().process_request_thread(request, client_address)
-        finally:
-            self.places.release()
+        """A connection, in its thread, and after it those that wait for its place."""
+        guest: Guest | None = Guest(request, client_address)
+        while guest:
+            try:
+                super().process_request_thread(guest.connection, guest.address)
+            finally:
+                guest = self.places.leave(guest.host)
+
+    def service_actions(self) -> None:
+        """Turns those away who have waited too long."""
+        for it in self.places.late():
+            self._turn_away(it)
+
+    def server_close(self) -> None:
+        """Listens no more; nobody who waits gets a place."""
+        super().server_close()
+        for it in self.places.late(0):
+            self.shutdown_request(it.connection)
+
+    def _turn_away(self, guest: Guest) -> None:
+        """Answers who gets no place that it should come later, and notes that in the log."""
+        self.note(f"- from {guest.host} 503 SlowDown")
+        with suppress(OSError):
+            guest.connection.setblocking(False)
+            if self.context is None:
+                guest.connection.sendall(BUSY)
+                guest.connection.recv(65_536)  # what has come and isn't read would lose it the answer
+        self.shutdown_request(guest.connection)
 
     def finish_request(self, request: Any, client_address: Any) -> None:
         """Serves a connection; with TLS, once it is agreed on."""
         if self.context is None:
             super().finish_request(request, client_address)
             return
-        request.settimeout(PATIENCE)
-        with self.context.wrap_socket(request, server_side=True) as secured:
+        request.settimeout(HEAD)
+        try:
+            secured = self.context.wrap_socket(request, server_side=True)
+        except OSError:
+            self.note(f"- from {client_address[0]} - no TLS")
+            raise
+        with secured:
             super().finish_request(secured, client_address)
 
     def handle_error(self, request: Any, client_address: Any) -> None:

@@ -22,6 +22,7 @@ LONGEST = 604_800  # seconds for which a presigned URL may be good
 DATE = re.compile(r"\d{8}T\d{6}Z")
 SCOPE = re.compile(r"([^/]+)/(\d{8})/([^/]+)/s3/aws4_request")
 PARTS = re.compile(r"Credential=([^,\s]+),\s*SignedHeaders=([^,\s]+),\s*Signature=([0-9a-f]{64})")
+NO_PAYLOAD = f"x-amz-content-sha256 is missing: send and sign it, with the SHA-256 of the body or {UNSIGNED}"
 OTHERS = "the signature isn't AWS4-HMAC-SHA256: set the client to signature version 4 (s3v4)"
 
 
@@ -158,8 +159,6 @@ def _look_at_headers(request: Request, signed: Signed) -> None:
     unsigned = [it for it in request.headers if it.startswith("x-amz-") and it not in signed.headers]
     if unsigned:
         raise Fault("AccessDenied", f"these headers aren't signed: {', '.join(unsigned)}")
-    if signed.expires is None and not payload_of(request, signed):
-        raise Fault("InvalidRequest", "x-amz-content-sha256 is missing")
 
 
 def _look_at_time(signed: Signed, now: float) -> None:
@@ -181,6 +180,8 @@ def _look_at_time(signed: Signed, now: float) -> None:
 
 def check(request: Request, signed: Signed, key: bytes, now: float) -> None:
     """`Fault` where the signature isn't that of the key, is of another time, or leaves out what it has to sign."""
+    if not payload_of(request, signed):
+        raise Fault("InvalidRequest", NO_PAYLOAD)
     if not hmac.compare_digest(signature_of(request, signed, key), signed.signature):
         raise Fault("SignatureDoesNotMatch", "the signature isn't that of this request by this access key")
     _look_at_headers(request, signed)

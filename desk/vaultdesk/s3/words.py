@@ -3,10 +3,12 @@
 from __future__ import annotations
 
 import argparse
+import ctypes
 import signal
 import sys
 import threading
 from collections.abc import Sequence
+from contextlib import suppress
 from pathlib import Path
 
 from vaultdesk import config, reading
@@ -24,6 +26,7 @@ from vaultdesk.s3.keys import Keys
 from vaultdesk.s3.server import Server
 from vaultdesk.s3.settings import Settings
 
+LARGE_PIECES, PIECE = -3, 131_072  # glibc's M_MMAP_THRESHOLD, and the bytes from which on a piece is a large one
 LAST_ANSWERS = 10  # seconds for requests that are under way as it ends
 ABOUT = """A gateway for clients of Amazon S3: boto3, aws, s3cmd, rclone and others as they come. It translates their
 requests for one vault and decides nothing: each refusal is the engine's. It is tried and not proved."""
@@ -56,8 +59,16 @@ def _say_unlocked(buckets: Sequence[str]) -> None:
         say(f"vaultdesk s3: bucket {bucket} has no default retention: {why}")
 
 
+def _give_back() -> None:
+    """Has each large piece of memory go back to the machine as it is free. Otherwise every thread keeps what the
+    largest of its bodies took."""
+    with suppress(OSError, AttributeError, MemoryError):  # another C library has its own way
+        ctypes.CDLL(None).mallopt(LARGE_PIECES, PIECE)
+
+
 def serve(words: argparse.Namespace) -> int:
     """Serves a vault to clients of S3."""
+    _give_back()
     given = settings.read(Path(words.settings))
     there = Keys(given.keys)
     desk = config.Desk(config.program(), config.settings().file_of(given.vault), None, given.door)

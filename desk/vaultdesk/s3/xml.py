@@ -12,6 +12,8 @@ from vaultdesk.s3.faults import Fault
 
 NAMESPACE = "http://s3.amazonaws.com/doc/2006-03-01/"
 DEEPEST = 16  # elements within one another
+MOST = 3_200  # elements and attributes of a document
+TAG = re.compile(rb"<[^>]{4096}")  # one that no call needs
 # What no XML 1.0 can carry, of that which a key may have.
 UNWRITABLE = re.compile("[\ufffe\uffff]")
 
@@ -21,8 +23,13 @@ class Element:
     """An element that was read: its name without a namespace, its text, and what is in it."""
 
     name: str
-    text: str = ""
+    texts: list[str] = field(default_factory=list)
     children: list[Element] = field(default_factory=list)
+
+    @property
+    def text(self) -> str:
+        """Its text, of which a parser finds one part after another."""
+        return "".join(self.texts)
 
     def find(self, name: str) -> Element | None:
         """The element of that name in it, if there is one. `Fault` where there are several."""
@@ -55,13 +62,17 @@ def malformed(why: str) -> Fault:
 
 
 class _Reading:
-    """Builds elements as a parser finds them."""
+    """Builds elements as a parser finds them, and no more than there may be."""
 
-    def __init__(self) -> None:
+    def __init__(self, most: int) -> None:
         self.open: list[Element] = [Element("")]
+        self.most = self.left = most
 
-    def begin(self, name: str, _: dict[str, str]) -> None:
+    def begin(self, name: str, attributes: dict[str, str]) -> None:
         """An element begins."""
+        self.left -= 1 + len(attributes)
+        if self.left < 0:
+            raise malformed(f"the document has more than {self.most:,} elements and attributes")
         if len(self.open) > DEEPEST:
             raise malformed("the document is nested too deeply")
         found = Element(name.rpartition(" ")[2])
@@ -74,17 +85,23 @@ class _Reading:
 
     def text(self, data: str) -> None:
         """Text of the innermost element."""
-        self.open[-1].text += data
+        self.open[-1].texts.append(data)
 
     def doctype(self, *_: object) -> None:
         """A document type, which could define entities."""
         raise malformed("a document type isn't taken")
 
 
-def read(document: bytes, name: str) -> Element:
-    """The document's one element. `Fault` where it is no XML, has a document type, or is of another name."""
-    reading = _Reading()
-    parser = xml.parsers.expat.ParserCreate(namespace_separator=" ")
+def read(document: bytes, name: str, most: int = MOST) -> Element:
+    """The document's one element, which is in UTF-8.
+
+    `Fault` where it is no XML, has a document type, is of another name, or has more than `most` elements."""
+    if b"\0" in document:
+        raise malformed("the body is no XML in UTF-8")
+    if TAG.search(document):
+        raise malformed("the document has a tag that is too long")
+    reading = _Reading(most)
+    parser = xml.parsers.expat.ParserCreate("UTF-8", " ", intern=None)
     parser.buffer_text = True
     parser.StartElementHandler, parser.EndElementHandler = reading.begin, reading.end
     parser.CharacterDataHandler, parser.StartDoctypeDeclHandler = reading.text, reading.doctype
