@@ -35,8 +35,8 @@ class Say(unittest.TestCase):
         lines = [f"line {number}" for number in range(1_000)]
         with contextlib.redirect_stderr(Slow()) as log, ThreadPoolExecutor(100) as pool:
             list(pool.map(output.say, lines))
-        self.assertEqual(sorted(log.getvalue().splitlines()), sorted(lines))
-        self.assertEqual(sorted(log.writes), sorted(f"{it}\n" for it in lines))
+        self.assertTrue(set(log.getvalue().splitlines()) == set(lines), log.getvalue()[:300])
+        self.assertTrue(sorted(log.writes) == sorted(f"{it}\n" for it in lines), log.writes[:9])
 
 
 class CountedOff(unittest.TestCase):
