@@ -50,6 +50,7 @@ EDITS = [
      DELIVERIES + "test_a_files_name_that_isnt_utf_8_is_wrong_and_the_others_come"),
     ("output", "sys.stderr.write(f\"{text}\\n\")", "print(text, file=sys.stderr)",
      "test_output.Say.test_lines_of_a_hundred_threads_are_lines"),
+    ("replacing", "                os.fsync(file.fileno())\n", "", "test_s3_objects.Noted.test_what_is_written_is_on_the_disk_before_it_counts"),
     # slips that would stand for ever
     ("engine", "if self.at and self.at > moments.tomorrow() and not self.is_copy:", "if False:",
      DOCUMENTS + "test_no_change_is_dated_ahead_of_the_clock"),

@@ -12,7 +12,7 @@ AGAIN, HEADS, PROGRAMS = "test_s3_again.Again.", "test_s3_again.Heads.", "test_s
 NOTED = "test_s3_objects.Noted."
 UNSAID, KEYS, SETTINGS = "test_s3_again.Unsaid.", "test_s3_words.Keys.", "test_s3_words.Settings."
 PLACES, TIMES, FRAMING = "test_s3_crowds.Places.", "test_s3_crowds.Times.", "test_s3_crowds.Framing."
-DOCUMENTS = "test_s3_crowds.Documents."
+DOCUMENTS, GUARDS = "test_s3_crowds.Documents.", "test_s3_objects.Guards."
 
 EDITS = [
     # who asks
@@ -247,7 +247,7 @@ EDITS = [
      PLACES + "test_who_waits_has_the_place_of_one_that_asks_nothing"),
     ("places", "if now - it.since >= seconds]", "if False]", PLACES + "test_who_waits_too_long_is_turned_away"),
     ("places", "                self.served[found.host] += 1\n", "                pass\n",
-     PLACES + "test_who_is_answered_while_others_wait_makes_room"),
+     PLACES + "test_one_address_has_no_more_than_its_places"),
     ("server", "or self.server.places.is_wanted(self.client_address[0])", "or False",
      PLACES + "test_who_is_answered_while_others_wait_makes_room"),
     ("server", "        self.note(f\"- from {guest.host} 503 SlowDown\")\n", "", PLACES + "test_who_gets_no_place_is_in_the_log"),
@@ -270,6 +270,27 @@ EDITS = [
     ("lifecycle", "MOST = 16_000", "MOST = 13_000", DOCUMENTS + "test_a_thousand_rules_with_all_that_they_may_have_are_taken"),
     ("gateway", "        if call.most <= bodies.CONTENT:\n", "        if True:\n", DOCUMENTS + "test_large_ones_come_one_after_another"),
     ("gateway", "yield call.most, TURN", "yield call.most, BODY", DOCUMENTS + "test_who_has_its_turn_has_little_time"),
+    # what nobody could guess, see or keep in mind
+    ("keys", "    if short:\n", "    if False:\n", KEYS + "test_a_secret_that_can_be_guessed_is_refused"),
+    ("request", "    if found:\n        why", "    if False:\n        why", PUT + "test_a_control_character_in_a_key_is_named"),
+    ("objects", "        look_at_key(it.key)\n", "", PUT + "test_a_control_character_in_a_key_is_named"),
+    ("heads", "    if (\"x-amz-object-lock-mode\" in headers) != (\"x-amz-object-lock-retain-until-date\" in headers):\n", "    if False:\n",
+     PUT + "test_a_mode_and_an_end_go_together"),
+    ("objects", "if not asked.ask(\"head\", **asked.place, id=version)[\"retention\"]:", "if False:", GUARDS + "test_once_of_a_bucket"),
+    ("objects", " or headers.get(\"x-amz-object-lock-legal-hold\") == \"ON\"\n", "\n", GUARDS + "test_once_of_a_bucket"),
+    ("objects", "    with suppress(Fault):\n", "    with suppress(ArithmeticError):\n", GUARDS + "test_who_may_not_look_puts_all_the_same"),
+    ("unguarded", "                self.later[bucket] = now + AGAIN\n", "                pass\n",
+     GUARDS + "test_what_a_default_guards_is_looked_at_again_later"),
+    ("unguarded", "now) <= now\n", "now) == now\n", GUARDS + "test_what_a_default_guards_is_looked_at_again_later"),
+    ("etags", "            os.fchmod(file.fileno(), 0o600)\n", "            pass\n", NOTED + "test_the_file_is_its_owners_alone"),
+    ("etags", "                self.known.pop(it, None)\n", "                pass\n", NOTED + "test_the_file_is_shortened_to_what_is_held"),
+    ("etags", " or self.lines == len(self.known):", ":", NOTED + "test_the_file_is_shortened_to_what_is_held"),
+    ("etags", "self._appended(self.path), len(self.known)", "self.file, 0", NOTED + "test_the_file_is_shortened_to_what_is_held"),
+    ("etags", "except (DeskError, OSError) as error:", "except ArithmeticError as error:", NOTED + "test_a_file_that_cant_be_written_anew_stays"),
+    ("door", "            after = part[\"next\"]\n", "            after = None\n",
+     "test_s3_served.OfAServer.test_what_was_removed_comes_page_after_page"),
+    ("routes", "raise Fault(\"EntityTooLarge\", bodies.IN_PARTS)", "raise Fault(\"EntityTooLarge\", bodies.TOO_LARGE)",
+     BODIES + "test_parts_are_refused"),
     # documents of which a part is wrong, or says more
     ("objects", "        raise xml.malformed(\"an Object has a Key\")\n", "        key = \"a\"\n",
      DELETE + "test_what_isnt_the_document"),
@@ -321,7 +342,7 @@ EDITS = [
     ("listings", "most = min(int(text), MOST) if text else MOST", "most = int(text) if text else MOST",
      LISTS + "test_values_that_arent_any"),
     # ETags after a line that was cut, and what a client tries again
-    ("etags", "        if text and not text.endswith(\"\\n\"):\n", "        if False:\n",
+    ("etags", "        if not line.endswith(\"\\n\"):\n", "        if False:\n",
      NOTED + "test_what_comes_after_a_line_that_was_cut_is_a_line"),
     ("etags", "self.known[int(found[1])] = found[2], found[3]", "self.known[int(found[1]) + 1] = found[2], found[3]",
      NOTED + "test_what_comes_after_a_line_that_was_cut_is_a_line"),

@@ -26,6 +26,7 @@ from vaultdesk.s3.gateway import Gateway
 from vaultdesk.s3.keys import Keys
 from vaultdesk.s3.server import Server
 from vaultdesk.s3.settings import Settings
+from vaultdesk.s3.unguarded import Unguarded
 
 AT = "2024-01-15T10:00:00Z"  # of the vault
 NOW = 1_795_828_320  # 2026-11-28T01:12:00Z, of the gateway: when the kept requests were signed
@@ -126,6 +127,7 @@ class GatewayTest(OfficeTest):
 
     PRESIGNED = False
     DROPPED: frozenset[str] = frozenset()
+    UNGUARDED: tuple[str, ...] = ("docs", "cases", "maps")  # of which it was said that nothing guards what comes in
     made: dict[str, bytes] = {}  # the files of the vault, which is made once for all tests
 
     def make(self) -> None:
@@ -169,7 +171,7 @@ class GatewayTest(OfficeTest):
         )  # fmt: skip
         self.door = OwnEngine(Engine(Desk(PROGRAM, self.file), self.at))
         notes = Unanswered(given.unanswered)
-        self.vault = Vault(self.door, Etags(given.etags), given, notes)
+        self.vault = Vault(self.door, Etags(given.etags), given, notes, Unguarded(self.UNGUARDED))
         self.server = Server(given, Gateway(self.vault, Keys(self.keys), lambda: self.now), is_quiet=True)
         threading.Thread(target=self.server.serve_forever, args=(0.01,), daemon=True).start()
 

@@ -183,7 +183,9 @@ class Bodies(GatewayTest):
     def test_a_content_has_its_limit(self) -> None:
         most = b"x" * MOST
         self.taken(request("PUT", "/docs/a", most), most)
-        self.left("EntityTooLarge", request("PUT", "/docs/a", most + b"x"))
+        large = request("PUT", "/docs/a", most + b"x")
+        self.left("EntityTooLarge", large)
+        self.assertNotIn(b"multipart", self.send(large)[0].body)
         headers = head_of(UNSIGNED, MOST + 1)
         self.left("EntityTooLarge", streamed(headers, unsigned(most + b"x", 65_536)))
         # Where the head says a length that isn't true, the chunks are counted.
@@ -218,5 +220,6 @@ class Bodies(GatewayTest):
         for method, target in (("POST", "/docs/a?uploads"), ("PUT", "/docs/a?partNumber=1&uploadId=x")):
             reply = self.ask(method, target, b"x")
             self.refused("EntityTooLarge", 400, reply)
+            self.assertIn(b"multipart", reply.body)
             self.assertIn(b"1,048,576", reply.body)
         self.assertEqual(self.entries(), [])

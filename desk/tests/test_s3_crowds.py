@@ -115,13 +115,15 @@ class Places(CrowdTest):
 
     def test_one_address_has_no_more_than_its_places(self) -> None:
         held = places.Places()
-        guests = [places.Guest(mock.Mock(), (f"10.0.0.{number % 5}", 1)) for number in range(400)]
+        guests = [places.Guest(mock.Mock(), (f"10.0.0.{number // 100}", 1)) for number in range(500)]
         self.assertEqual(sum(held.take(it) for it in guests), places.CONNECTIONS)
         self.assertLessEqual(max(held.served.values()), places.OF_ONE)
         waiting = [it for it in guests if it.host == "10.0.0.4"]
         self.assertEqual(sum(held.wait(it) for it in [*waiting, *waiting]), places.WAITING_OF_ONE)
         # A place that is free is the first one's who may have it.
         self.assertIs(held.leave("10.0.0.0"), waiting[0])
+        self.assertEqual((held.served["10.0.0.0"], held.served["10.0.0.4"]), (places.OF_ONE - 1, 1))
+        self.assertEqual(held.served.total(), places.CONNECTIONS)
 
 
 class Times(CrowdTest):
@@ -131,19 +133,19 @@ class Times(CrowdTest):
         connection.settimeout(0.05)
         answer = b""
         with self.within(), contextlib.suppress(ConnectionError):
-            for it in whole * 100:
+            for it in whole:
                 connection.sendall(bytes([it]))
                 with contextlib.suppress(TimeoutError):
                     answer = connection.recv(65_536)
                     break
-            connection.settimeout(100)
+            connection.settimeout(SOON)
             while part := connection.recv(65_536):
                 answer += part
         return answer
 
     def test_a_head_has_its_time_as_a_whole(self) -> None:
         with mock.patch.object(server, "HEAD", 0.5):
-            self.assertIn(b"RequestTimeout", self.trickled(b"G" * 1_000))
+            self.assertIn(b"RequestTimeout", self.trickled(b"G" * 100))
         self.assertTrue(self.noted(f"- from {STRANGER} 400 RequestTimeout"), self.log.getvalue())
 
     def test_a_body_has_its_time_as_a_whole(self) -> None:

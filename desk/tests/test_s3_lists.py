@@ -25,11 +25,14 @@ class Buckets(GatewayTest):
         self.assertEqual(self.ask("HEAD", "/nothing").status, 404)
         self.assertEqual(self.ask("HEAD", "/cases").status, 403)
         self.assertEqual(self.done("GET", "/docs?versioning").all("Status"), ["Enabled"])
+        uploads = self.done("GET", "/docs?uploads&prefix=a&max-uploads=7")
+        self.assertEqual((uploads.all("Bucket"), uploads.all("IsTruncated")), (["docs"], ["false"]))
+        self.assertNotIn(b"<Upload>", uploads.body)
         self.assertIn(b"<LocationConstraint", self.done("GET", "/docs?location").body)
         for name, code in (("policy", "NoSuchBucketPolicy"), ("tagging", "NoSuchTagSet"),
                            ("encryption", "ServerSideEncryptionConfigurationNotFoundError")):
             self.refused(code, 404, self.ask("GET", f"/docs?{name}"))
-        for name in ("location", "versioning", "policy", "tagging"):
+        for name in ("location", "versioning", "policy", "tagging", "uploads"):
             self.refused("NoSuchBucket", 404, self.ask("GET", f"/nothing?{name}"))
             self.refused("AccessDenied", 403, self.ask("GET", f"/cases?{name}"))
 

@@ -2,15 +2,20 @@
 
 from __future__ import annotations
 
+import contextlib
 import hashlib
+import io
+import os
 import tempfile
 import unittest
 from pathlib import Path
+from unittest import mock
 
-from tests.s3_office import GatewayTest, quoted, request
+from tests.s3_office import ANN, BEA, CID, GatewayTest, quoted, request
 from vaultdesk.refusals import refused
-from vaultdesk.s3 import etags, faults
+from vaultdesk.s3 import etags, faults, unguarded
 
+LOCK = {"x-amz-object-lock-mode": "GOVERNANCE", "x-amz-object-lock-retain-until-date": "2034-01-01T00:00:00Z"}
 HELLO = hashlib.md5(b"hello").hexdigest()
 KEYS = (
     "a", "2024/a b", "a+b", "100%", "%2F", "?", "#", ";=:@&$,!*'()", '"quoted"', " blanks ", "a//b", "../up", "./x",
@@ -35,8 +40,8 @@ REFUSED = (
     ({"x-amz-anything-new": "1"}, "InvalidRequest"),
     ({"x-amz-bypass-governance-retention": "true"}, "InvalidRequest"),
     ({"x-amz-expected-bucket-owner": "123456789012"}, "AccessDenied"),
-    ({"x-amz-object-lock-mode": "COMPLIANCE"}, "InvalidArgument"),
-    ({"x-amz-object-lock-retain-until-date": "2034-01-01T00:00:00Z"}, "InvalidArgument"),
+    ({"x-amz-object-lock-mode": "COMPLIANCE"}, "InvalidRequest"),
+    ({"x-amz-object-lock-retain-until-date": "2034-01-01T00:00:00Z"}, "InvalidRequest"),
     ({"x-amz-object-lock-legal-hold": "MAYBE"}, "InvalidArgument"),
 )
 
@@ -83,6 +88,28 @@ class Put(GatewayTest):
         self.refused("InvalidBucketName", 400, self.ask("GET", "//docs"))
         self.assertEqual(self.entries(), [])
 
+    def test_a_control_character_in_a_key_is_named(self) -> None:
+        for key, name in (("a\n", "U+000A"), ("\t", "U+0009"), ("a\0b", "U+0000"), ("\x7f", "U+007F")):
+            for method in ("PUT", "GET", "DELETE"):
+                reply = self.ask(method, f"/docs/{quoted(key)}")
+                self.refused("InvalidArgument", 400, reply)
+                self.assertIn(name.encode(), reply.body)
+        self.done("PUT", "/docs/a", b"hello")
+        reply = self.ask("PUT", "/docs/b", b"", {"x-amz-copy-source": "/docs/a%0A"})
+        self.assertIn(b"U+000A", reply.body)
+        many = b"<Delete><Object><Key>a&#10;</Key></Object><Object><Key>b</Key></Object></Delete>"
+        done = self.done("POST", "/docs?delete", many)
+        self.assertEqual((done.all("Code"), done.all("DeleteMarkerVersionId")), (["InvalidArgument"], ["2"]))
+        self.assertIn("U+000A", done.all("Message")[0])
+
+    def test_a_mode_and_an_end_go_together(self) -> None:
+        for headers, _ in (it for it in REFUSED if it[1] == "InvalidRequest" and "x-amz-object-lock-" in str(it[0])):
+            waits = {**headers, "expect": "100-continue"}
+            with self.connected() as connection:
+                connection.sendall(request("PUT", "/docs/a", b"hello", waits).removesuffix(b"hello"))
+                self.assertIn(b"go together", connection.recv(65_536))
+        self.assertEqual(self.entries(), [])
+
     def test_what_cant_be_kept_is_refused(self) -> None:
         self.done("PUT", "/docs/source", b"hello")
         for headers, code in REFUSED:
@@ -107,7 +134,7 @@ class Put(GatewayTest):
         for method, target in (
             ("PUT", "/docs/a?tagging"), ("PUT", "/docs/a?acl"), ("GET", "/docs/a?attributes"), ("DELETE", "/docs"),
             ("PUT", "/docs?versioning"), ("PUT", "/docs?policy"), ("POST", "/docs/a?select&select-type=2"),
-            ("POST", "/docs/a?restore"), ("POST", "/docs"), ("GET", "/docs/a?partNumber=1"), ("GET", "/docs?uploads"),
+            ("POST", "/docs/a?restore"), ("POST", "/docs"), ("GET", "/docs/a?partNumber=1"),
             ("PUT", "/docs/a?unknown"), ("DELETE", "/docs/a?unknown"),
         ):  # fmt: skip
             with self.subTest(target):
@@ -305,21 +332,114 @@ class Delete(GatewayTest):
         self.assertEqual(self.entries(), before)
 
 
+class Guards(GatewayTest):
+    """The log says where nothing guards what comes in."""
+
+    UNGUARDED = ()
+
+    def said(self, target: str, headers: dict[str, str] | None = None, who: str = ANN) -> str:
+        """What the gateway says as that is put."""
+        with contextlib.redirect_stderr(io.StringIO()) as log:
+            self.done("PUT", target, b"hello", headers, who)
+        return log.getvalue()
+
+    def test_once_of_a_bucket(self) -> None:
+        for headers in ({"x-amz-object-lock-legal-hold": "ON"}, LOCK):
+            self.assertEqual(self.said("/docs/a", headers), "")
+        said = self.said("/docs/a", {"x-amz-object-lock-legal-hold": "OFF"})
+        self.assertIn("bucket docs: nothing guards what comes in, as version 3", said)
+        self.assertEqual(self.said("/docs/b"), "")
+        self.assertIn("bucket cases: nothing guards", self.said("/cases/b", who=CID))
+
+    def test_what_a_default_guards_is_looked_at_again_later(self) -> None:
+        self.door.ask("ann", "set-default", bucket="docs", mode="GOVERNANCE", days=3)
+        self.assertEqual(self.said("/docs/a"), "")
+        self.door.ask("ann", "set-default", bucket="docs")
+        with mock.patch.object(self.door, "ask", side_effect=self.door.ask) as asked:
+            self.assertEqual(self.said("/docs/a"), "")
+            self.assertEqual([it.args[1] for it in asked.call_args_list], ["intake"])
+        self.vault.unguarded.later["docs"] -= unguarded.AGAIN
+        self.assertIn("nothing guards what comes in, as version 3", self.said("/docs/a"))
+
+    def test_what_was_said_at_the_start_isnt_said_again(self) -> None:
+        noted = unguarded.Unguarded(["docs"])
+        self.assertEqual((noted.is_due("docs"), noted.is_due("cases"), noted.is_due("cases")), (False, True, False))
+
+    def test_who_may_not_look_puts_all_the_same(self) -> None:
+        self.lines({"do": "add-caller", "as": "registrar", "caller": "dan", "dept": "records", "rights": ["put"]})
+        self.keys.write_text(self.keys.read_text().replace('caller = "bea"', 'caller = "dan"'))
+        self.assertEqual(self.said("/docs/a", who=BEA), "")
+
+
 class Noted(unittest.TestCase):
     """ETags that are noted in a file, and what S3's clients are answered to the engine's refusals."""
 
+    AT = "2024-01-15T10:00:00Z"
+
+    def setUp(self) -> None:
+        self.path = Path(self.enterContext(tempfile.TemporaryDirectory())) / "etags"
+        self.addCleanup(os.umask, os.umask(0o022))
+
+    def test_the_file_is_its_owners_alone(self) -> None:
+        etags.Etags(self.path).close()
+        self.assertEqual(self.path.stat().st_mode & 0o777, 0o600)
+        self.path.chmod(0o644)
+        noted = etags.Etags(self.path)
+        noted.note(1, self.AT, b"hello")
+        self.assertEqual(self.path.stat().st_mode & 0o777, 0o600)
+        noted.drop([1])
+        noted.close()
+        self.assertEqual((self.path.stat().st_mode & 0o777, self.path.read_text()), (0o600, ""))
+
+    def test_the_file_is_shortened_to_what_is_held(self) -> None:
+        self.path.write_text("".join(f"{it} {self.AT} {HELLO}\n" for it in (1, 2, 3, 3)) + "nonsense")
+        noted = etags.Etags(self.path)
+        noted.drop([2, 99])
+        noted.note(4, self.AT, b"hello")
+        noted.close()
+        lines = [f"{it} {self.AT} {HELLO}" for it in (1, 3, 4)]
+        self.assertEqual(self.path.read_text().splitlines(), lines)
+        again = etags.Etags(self.path)
+        before = self.path.stat().st_ino
+        again.drop([2])
+        self.assertEqual((sorted(again.known), self.path.stat().st_ino), ([1, 3, 4], before))
+        again.close()
+
+    def test_a_file_that_cant_be_written_anew_stays(self) -> None:
+        noted = etags.Etags(self.path)
+        for it in (1, 2):
+            noted.note(it, self.AT, b"hello")
+        before = self.path.read_text()
+        for broken in ("pathlib.Path.replace", "os.fsync"):
+            failing = mock.patch(broken, side_effect=OSError(28, "No space left on device"))
+            with failing, contextlib.redirect_stderr(io.StringIO()) as log:
+                noted.drop([1])
+            self.assertIn("No space left on device", log.getvalue())
+            self.assertEqual([it.name for it in self.path.parent.iterdir()], ["etags"])
+            self.assertEqual(self.path.read_text(), before)
+        noted.note(3, self.AT, b"hello")
+        self.assertTrue(self.path.read_text().startswith(before))
+        noted.close()
+
+    def test_what_is_written_is_on_the_disk_before_it_counts(self) -> None:
+        done: list[str] = []
+        noted = etags.Etags(self.path)
+        noted.note(1, self.AT, b"hello")
+        with mock.patch("os.fsync", side_effect=lambda _: done.append(self.path.read_text())):
+            noted.drop([1])
+        self.assertEqual(len(done), 1)
+        self.assertNotEqual(done[0], "")
+        noted.close()
+
     def test_what_comes_after_a_line_that_was_cut_is_a_line(self) -> None:
-        at = "2024-01-15T10:00:00Z"
-        with tempfile.TemporaryDirectory() as name:
-            path = Path(name) / "etags"
-            path.write_text(f"1 {at} {HELLO}\n2 {at} {HELLO[:9]}")
-            noted = etags.Etags(path)
-            noted.note(3, at, b"hello")
-            noted.close()
-            again = etags.Etags(path)
-            self.assertEqual([again.find(it, at) for it in (1, 2, 3)], [HELLO, None, HELLO])
-            self.assertIsNone(again.find(1, "2024-01-15T10:00:01Z"))
-            again.close()
+        self.path.write_text(f"1 {self.AT} {HELLO}\n2 {self.AT} {HELLO[:9]}")
+        noted = etags.Etags(self.path)
+        noted.note(3, self.AT, b"hello")
+        noted.close()
+        again = etags.Etags(self.path)
+        self.assertEqual([again.find(it, self.AT) for it in (1, 2, 3)], [HELLO, None, HELLO])
+        self.assertIsNone(again.find(1, "2024-01-15T10:00:01Z"))
+        again.close()
 
     def test_a_refusal_is_tried_again_only_where_that_may_help(self) -> None:
         for code, named, status in (

@@ -72,6 +72,19 @@ class Served(GatewayTest):
 
         return answered
 
+    def test_what_was_removed_is_asked_of_the_server(self) -> None:
+        for key in ("a%22%2Cb", "b", "c"):
+            self.done("PUT", f"/docs/{key}", key.encode())
+        for target in ("a%22%2Cb?versionId=1", "c?versionId=3"):
+            self.done("DELETE", f"/docs/{target}")
+        self.assertEqual(list(self.door.removed()), [1, 3])
+        words._shorten(self.vault.etags, self.door)
+        self.assertEqual(sorted(self.vault.etags.known), [2])
+        self.end_server()
+        with contextlib.redirect_stderr(io.StringIO()) as said:
+            words._shorten(self.vault.etags, self.door)
+        self.assertIn("isn't shortened", said.getvalue())
+
     def test_others_work_on_the_vault_meanwhile(self) -> None:
         self.done("PUT", "/docs/a", b"hello")
         listed = json.loads(self.desk("ls", "docs", "--json", at=None).out)
@@ -115,6 +128,14 @@ class OwnBuckets(GatewayTest):
             self.refused("InternalError", 500, self.ask("GET", "/docs"))
         self.assertEqual(self.done("GET", "/").all("Name"), ["docs", "maps"])
 
+    def test_what_was_removed_is_read_before_the_vault_is_open(self) -> None:
+        for _ in range(2):
+            self.done("PUT", "/docs/a", b"hello")
+        self.done("DELETE", "/docs/a?versionId=1")
+        self.stop()
+        self.assertEqual(list(self.door.removed()), [1])
+        self.start()
+
     def test_those_without_a_default_retention_are_said(self) -> None:
         self.stop()
         self.assertEqual(words._unlocked(self.door.engine), ["cases", "docs"])
@@ -149,6 +170,11 @@ class OfAServer(GatewayTest):
 
     def answer(self, line: dict[str, Any]) -> dict[str, Any]:
         """The reply of a server, of whose buckets each third is one of the caller's department."""
+        if line["do"] == "register":
+            first = line["after"]
+            text = "".join(f"{it},docs,k\n" for it in range(first + 1, first + 3))
+            text = text if first else f"version,bucket,key\n{text}"
+            return {"ok": {"text": text, "next": None if first else 1_000}}
         if line["do"] != "buckets":
             is_own = int(line["bucket"][1:]) % 3 == 0
             denied = {"code": "AccessDenied", "n": 1, "reason": "department"}
@@ -164,6 +190,10 @@ class OfAServer(GatewayTest):
         self.assertEqual([it.get("after") for it in asked], [None, NAMES[999], NAMES[1_999]])
         self.assertEqual({it["as"] for it in asked}, {"chief"})
         self.assertEqual({it["as"] for it in self.false.lines if it["do"] != "buckets"}, {"ann"})
+
+    def test_what_was_removed_comes_page_after_page(self) -> None:
+        self.assertEqual(list(self.door.removed()), [1, 2, 1_001, 1_002])
+        self.assertEqual({it["as"] for it in self.false.lines}, {"chief"})
 
     def test_who_may_not_ask_is_said_in_the_log_alone(self) -> None:
         for refusal, said in (

@@ -262,6 +262,11 @@ class Refused(GatewayTest):
 
     def test_what_is_said_of_the_body_has_to_be_there(self) -> None:
         self.refused("InvalidRequest", 400, self.send(self.put(x_amz_content_sha256=""))[0])
+        # Some sign the digest and don't send it, as curl does.
+        unsaid = re.sub(rb"x-amz-content-sha256: \w+\r\n", b"", self.put()).replace(b";x-amz-content-sha256", b"")
+        reply = self.send(unsaid)[0]
+        self.refused("InvalidRequest", 400, reply)
+        self.assertIn(b"x-amz-content-sha256 is missing", reply.body)
 
     def test_one_signature_alone(self) -> None:
         twice = request("PUT", f"/docs/a?X-Amz-Signature={'0' * 64}", b"hello")

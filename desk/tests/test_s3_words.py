@@ -62,6 +62,17 @@ class Keys(OfficeTest):
             self.keys.chmod(0o600)
             self.assertEqual(self.desk("s3", "key", "list", "--settings", self.settings, at=None).status, 1, text)
 
+    def test_a_secret_that_can_be_guessed_is_refused(self) -> None:
+        for secret in ("", "changeme", "x" * 15):
+            self.keys.write_text(f'[VKTESTKEYOFANNANN234]\ncaller = "ann"\nsecret = "{secret}"\n')
+            self.keys.chmod(0o600)
+            for words in (("key", "list"), ("key", "add", "bea"), ("serve",)):
+                done = self.desk("s3", *words, "--settings", self.settings, at=None)
+                self.assertEqual((done.status, done.out), (1, ""))
+                self.assertIn("VKTESTKEYOFANNANN234 has less than 16 characters", done.err)
+        self.keys.write_text(self.keys.read_text().replace("x" * 15, "x" * 16))
+        self.assertIn("ann", self.key("list"))
+
     def test_a_disk_that_is_full_leaves_the_old_keys(self) -> None:
         self.key("add", "ann", "--json")
         before = self.keys.read_bytes()

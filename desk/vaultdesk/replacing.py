@@ -2,22 +2,26 @@
 
 from __future__ import annotations
 
+import os
 import tempfile
-from collections.abc import Callable
+from collections.abc import Callable, Iterable
 from pathlib import Path
 
 from vaultdesk.errors import DeskError
 
 
-def write_anew(path: Path, text: str, place: Callable[[Path], None]) -> None:
+def write_anew(path: Path, text: Iterable[str], place: Callable[[Path], None]) -> None:
     """Writes the text to a new file of mode 0600 beside `path`, has `place` set its mode and owner, and puts it in the
-    place of `path`: a reader finds the old file or the new one. `DeskError` where it can't be written."""
+    place of `path`: a reader finds the old file or the new one, also after the power failed. `DeskError` where it can't
+    be written."""
     try:
         descriptor, name = tempfile.mkstemp(dir=path.parent, prefix=f".{path.name}-")
         new = Path(name)
         try:
             with open(descriptor, "w", encoding="utf-8") as file:
-                file.write(text)
+                file.writelines(text)
+                file.flush()
+                os.fsync(file.fileno())
             place(new)
             new.replace(path)
         except BaseException:

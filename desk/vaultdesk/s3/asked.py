@@ -2,7 +2,7 @@
 
 from __future__ import annotations
 
-from dataclasses import dataclass
+from dataclasses import dataclass, field
 from typing import Any
 
 from vaultdesk.s3 import xml
@@ -12,16 +12,19 @@ from vaultdesk.s3.door import Door
 from vaultdesk.s3.etags import Etags
 from vaultdesk.s3.request import Answer, Request
 from vaultdesk.s3.settings import Settings
+from vaultdesk.s3.unguarded import Unguarded
 
 
 @dataclass(frozen=True)
 class Vault:
-    """What the gateway stands before: the way to the engine, noted ETags, settings, and puts without an answer."""
+    """What the gateway stands before: the way to the engine, noted ETags, settings, puts without an answer, and buckets
+    in which nothing guards what comes in."""
 
     door: Door
     etags: Etags
     settings: Settings
     unanswered: Unanswered
+    unguarded: Unguarded = field(default_factory=Unguarded)
 
 
 @dataclass(frozen=True)

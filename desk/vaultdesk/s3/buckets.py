@@ -76,6 +76,13 @@ def versioning(asked: Asked) -> Answer:
     return xml_answer("VersioningConfiguration", [("Status", "Enabled")])
 
 
+def uploads(asked: Asked) -> Answer:
+    """That no upload in parts is under way: none is taken."""
+    _look_at(asked)
+    markers: list[xml.Node] = [("KeyMarker", ""), ("UploadIdMarker", ""), ("MaxUploads", 1_000), ("IsTruncated", False)]
+    return xml_answer("ListMultipartUploadsResult", [("Bucket", asked.request.bucket), *markers])
+
+
 def absent(asked: Asked) -> Answer:
     """What no bucket has."""
     _look_at(asked)

@@ -2,6 +2,8 @@
 
 from __future__ import annotations
 
+import csv
+import io
 import threading
 from collections.abc import Iterator
 from contextlib import contextmanager, suppress
@@ -94,6 +96,21 @@ class OwnEngine:
             raise of_engine(error) from error
         finally:
             self.turn.release()
+
+    def removed(self) -> Iterator[int]:
+        """The numbers of the versions that were removed, some or all; before a vault that the gateway has to itself is
+        open. `Fault` or `EngineError` where nobody says which."""
+        if not self.engine.is_served:
+            there = reading.rows(self.engine.tables, "SELECT id FROM entries WHERE removed IS NOT NULL")
+            yield from (int(it) for (it,) in there)
+            return
+        after: int | None = 0
+        while after is not None:
+            with self._in_turn():
+                part = self.engine.ask("register", self.admin, after=after)
+            rows = csv.reader(io.StringIO(part["text"], newline=""))
+            yield from (int(row[0]) for row in rows if row[0].isdecimal())  # the first one may be the header
+            after = part["next"]
 
     def _names(self) -> list[str]:
         if self.engine.is_served:

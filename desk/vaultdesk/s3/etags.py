@@ -8,13 +8,17 @@ admission tells a version from one that had its number before an older copy of t
 from __future__ import annotations
 
 import hashlib
+import os
 import re
 import threading
+from collections.abc import Iterable
+from contextlib import suppress
 from pathlib import Path
 from typing import TextIO
 
 from vaultdesk.errors import DeskError
 from vaultdesk.output import say
+from vaultdesk.replacing import write_anew
 
 LINE = re.compile(r"(\d{1,10}) (\d{4}-\d\d-\d\dT\d\d:\d\d:\d\dZ) ([0-9a-f]{32})\n")
 
@@ -32,6 +36,7 @@ class Etags:
         self.turn = threading.Lock()
         self.known: dict[int, tuple[str, str]] = {}
         self.file: TextIO | None = None
+        self.lines = 0  # of the file, also those that count no more
         if path:
             try:
                 self._read(path)
@@ -39,15 +44,41 @@ class Etags:
                 raise DeskError(f"{path}: {error.strerror}") from error
 
     def _read(self, path: Path) -> None:
-        """Reads what is noted, and goes on behind it; what isn't a line is read past."""
-        text = path.read_text(encoding="ascii", errors="replace") if path.exists() else ""
-        for line in text.splitlines(keepends=True):
-            found = LINE.fullmatch(line)
-            if found:
-                self.known[int(found[1])] = found[2], found[3]
-        self.file = path.open("a", encoding="ascii")
-        if text and not text.endswith("\n"):
+        """Reads what is noted, and goes on after it; what isn't a line is read past."""
+        line = "\n"
+        if path.exists():
+            with path.open(encoding="ascii", errors="replace") as file:
+                for line in file:
+                    self.lines += 1
+                    found = LINE.fullmatch(line)
+                    if found:
+                        self.known[int(found[1])] = found[2], found[3]
+        self.file = self._appended(path)
+        if not line.endswith("\n"):
             self.file.write("\n")
+
+    @staticmethod
+    def _appended(path: Path) -> TextIO:
+        """The file, to be written on; nobody else may read what contents are like."""
+        file = open(os.open(path, os.O_WRONLY | os.O_APPEND | os.O_CREAT, 0o600), "a", encoding="ascii")
+        with suppress(PermissionError):  # it is another user's, who lets this one write
+            os.fchmod(file.fileno(), 0o600)
+        return file
+
+    def drop(self, gone: Iterable[int]) -> None:
+        """Forgets versions that are held no more, and shortens the file to what is known. One that can't be written
+        anew stays as it is."""
+        with self.turn:
+            for it in gone:
+                self.known.pop(it, None)
+            if not self.path or not self.file or self.lines == len(self.known):
+                return
+            try:
+                write_anew(self.path, (f"{it} {at} {md5}\n" for it, (at, md5) in self.known.items()), lambda _: None)
+                self.file.close()
+                self.file, self.lines = self._appended(self.path), len(self.known)
+            except (DeskError, OSError) as error:
+                say(f"vaultdesk s3: {error}: the file of ETags isn't shortened")
 
     def find(self, version: int, admitted: str) -> str | None:
         """The MD5 of the version that was admitted then, if it is noted."""
@@ -65,6 +96,7 @@ class Etags:
                 try:
                     self.file.write(f"{version} {admitted} {md5}\n")
                     self.file.flush()
+                    self.lines += 1
                 except OSError as error:
                     say(f"vaultdesk s3: {self.path}: {error.strerror}: no more ETags are noted there")
                     self.file = None

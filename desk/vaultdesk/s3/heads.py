@@ -27,6 +27,7 @@ DROPPED = {"x-amz-storage-class"}
 CONDITIONS = ("if-match", "if-none-match", "if-modified-since", "if-unmodified-since")
 DESCRIBING = ("content-disposition", "content-language", "x-amz-website-redirect-location", "x-amz-tagging")
 ACLS = ("private", "bucket-owner-full-control")
+ONE_ALONE = "x-amz-object-lock-mode and x-amz-object-lock-retain-until-date go together, so nothing was put"
 MOMENT = re.compile(r"(\d{4}-\d\d-\d\dT\d\d:\d\d:\d\d)\.(\d+)(Z|[+-]\d\d:\d\d)")
 
 
@@ -65,6 +66,8 @@ def look_at_upload(request: Request, settings: Settings) -> set[str]:
         raise Fault("InvalidEncryptionAlgorithmError", "the vault doesn't encrypt, so nothing was put")
     if headers.get("x-amz-acl", "private") not in ACLS or any(it.startswith("x-amz-grant-") for it in headers):
         raise Fault("AccessControlListNotSupported", "the vault has no access control lists, so nothing was put")
+    if ("x-amz-object-lock-mode" in headers) != ("x-amz-object-lock-retain-until-date" in headers):
+        raise Fault("InvalidRequest", ONE_ALONE)
     metadata = {it for it in headers if it.startswith("x-amz-meta-")}
     kept = {it for it in metadata if it.removeprefix("x-amz-meta-") not in settings.dropped_metadata}
     if kept:

@@ -21,6 +21,7 @@ from vaultdesk.errors import DeskError, UsageError
 from vaultdesk.replacing import write_anew
 
 KEY = re.compile(r"[A-Za-z0-9]{16,64}")
+SHORTEST = 16  # characters of a secret
 LETTERS = "ABCDEFGHIJKLMNOPQRSTUVWXYZ234567"
 
 
@@ -33,7 +34,9 @@ class Key:
 
 
 def read(path: Path) -> dict[str, Key]:
-    """The keys of the file. `DeskError` where others than its owner may read it, or it isn't understood."""
+    """The keys of the file.
+
+    `DeskError` where others than its owner may read it, it isn't understood, or a secret in it can be guessed."""
     try:
         mode = path.stat().st_mode
         if mode & 0o077:
@@ -47,6 +50,10 @@ def read(path: Path) -> dict[str, Key]:
     wrong = [name for name, it in keys.items() if not KEY.fullmatch(name) or not conf.CALLER.fullmatch(it.caller)]
     if wrong:
         raise DeskError(f"{path}: {wrong[0]} is no access key of a caller")
+    short = [name for name, it in keys.items() if len(it.secret) < SHORTEST]
+    if short:
+        why = f"the secret of {short[0]} has less than {SHORTEST} characters, so anybody may find it"
+        raise DeskError(f"{path}: {why}: take the key out of the file; vaultdesk s3 key add makes one")
     return keys
 
 

@@ -7,6 +7,7 @@ import email.utils
 import hashlib
 import re
 from collections.abc import Mapping
+from contextlib import suppress
 from dataclasses import replace
 from typing import Any, NamedTuple
 
@@ -15,7 +16,7 @@ from vaultdesk.s3.asked import Asked, xml_answer
 from vaultdesk.s3.checksums import base64_of
 from vaultdesk.s3.door import Told
 from vaultdesk.s3.faults import Fault
-from vaultdesk.s3.request import Answer, Request, number, read as read_request
+from vaultdesk.s3.request import Answer, Request, look_at_key, number, read as read_request
 
 MOST_DELETED = 1_000  # keys of one DeleteObjects
 RANGE = re.compile(r"bytes=(\d{0,19})-(\d{0,19})")
@@ -109,6 +110,8 @@ def _admitted(asked: Asked, content: bytes) -> Admitted:
         raise Fault("InvalidArgument", "no list could show a key with U+FFFE or U+FFFF")
     told = _put_once(asked, content)
     version = int(told.value["version_id"])
+    if not told.value["again"]:
+        _look_at_guard(asked, version)
     if told.value["again"]:
         # Admitted by an earlier request; it may be gone by now, so nothing more is asked of it.
         return Admitted(version, etags.md5_of(content), told.at)
@@ -117,6 +120,17 @@ def _admitted(asked: Asked, content: bytes) -> Admitted:
         # By a second the MD5 would be noted of another moment: it is noted as the version is read.
         return Admitted(version, etags.md5_of(content), told.at)
     return Admitted(version, asked.vault.etags.note(version, moment, content), moment)
+
+
+def _look_at_guard(asked: Asked, version: int) -> None:
+    """Has the log say where nothing guards what came in, as far as the caller may look."""
+    headers, bucket = asked.request.headers, asked.request.bucket
+    is_asked = "x-amz-object-lock-mode" in headers or headers.get("x-amz-object-lock-legal-hold") == "ON"
+    if is_asked or not asked.vault.unguarded.is_due(bucket):
+        return
+    with suppress(Fault):
+        if not asked.ask("head", **asked.place, id=version)["retention"]:
+            asked.vault.unguarded.say(bucket, version)
 
 
 def put(asked: Asked) -> Answer:
@@ -132,6 +146,7 @@ def _source(text: str) -> Request:
     source = read_request("GET", f"/{path.removeprefix('/')}{query}", [])
     if "?" in path or not source.key:
         raise Fault("InvalidArgument", "x-amz-copy-source is BUCKET/KEY, or BUCKET/KEY?versionId=ID")
+    look_at_key(source.key)
     return source
 
 
@@ -311,6 +326,7 @@ def _result(asked: Asked, it: Named) -> xml.Node:
     version = it.version
     named: list[xml.Node] = [("Key", it.key), *([("VersionId", version)] if version is not None else [])]
     try:
+        look_at_key(it.key)
         place = {"bucket": asked.request.bucket, "key": it.key}
         one = {} if version is None else {"id": number(version, "VersionId")}
         done = _deleted(asked, {**place, **one}, asked.request.bypass)

@@ -2,11 +2,14 @@
 
 from __future__ import annotations
 
+import re
 import urllib.parse
 from collections.abc import Mapping, Sequence
 from dataclasses import dataclass, field
 
 from vaultdesk.s3.faults import Fault
+
+CONTROL = re.compile("[\0-\x1f\x7f]")  # what no key may have
 
 
 @dataclass(frozen=True)
@@ -79,6 +82,14 @@ def number(text: str, name: str) -> int:
     if not (text.isascii() and text.isdecimal() and len(text) <= 10):
         raise Fault("InvalidArgument", f"{name} is no whole number")
     return int(text)
+
+
+def look_at_key(key: str) -> None:
+    """`Fault` where a key has a control character."""
+    found = CONTROL.search(key)
+    if found:
+        why = f"the key has the control character U+{ord(found[0]):04X} in it"
+        raise Fault("InvalidArgument", f"{why}, and no key may have one: name it otherwise")
 
 
 def read(method: str, target: str, headers: Sequence[tuple[str, str]]) -> Request:

@@ -9,7 +9,7 @@ from vaultdesk.s3 import bodies, buckets, heads, lifecycle, listings, locks, obj
 from vaultdesk.s3.asked import Asked
 from vaultdesk.s3.bodies import CONTENT, DOCUMENT, SMALL
 from vaultdesk.s3.faults import Fault, not_there
-from vaultdesk.s3.request import Answer, Request
+from vaultdesk.s3.request import Answer, Request, look_at_key
 from vaultdesk.s3.settings import Settings
 
 
@@ -50,6 +50,7 @@ class Call:
 
 VERSION = frozenset({"versionId"})
 LISTED = frozenset({"prefix", "delimiter", "max-keys", "encoding-type"})
+UPLOADS = frozenset({"key-marker", "upload-id-marker", "max-uploads"})
 # By method, what the target names (a service, a bucket, or a key), and the name in its query that selects the call.
 CALLS: Mapping[tuple[str, str, str], Call] = {
     ("GET", "service", ""): Call("ListBuckets", buckets.list_all),
@@ -62,6 +63,7 @@ CALLS: Mapping[tuple[str, str, str], Call] = {
     ("GET", "bucket", "versions"): Call(
         "ListObjectVersions", listings.versions, LISTED | {"key-marker", "version-id-marker"}
     ),
+    ("GET", "bucket", "uploads"): Call("ListMultipartUploads", buckets.uploads, LISTED | UPLOADS),
     ("GET", "bucket", "location"): Call("GetBucketLocation", buckets.location),
     ("GET", "bucket", "versioning"): Call("GetBucketVersioning", buckets.versioning),
     ("GET", "bucket", "object-lock"): Call("GetObjectLockConfiguration", locks.get_default),
@@ -111,6 +113,7 @@ def call_of(request: Request) -> Call:
     if {"uploads", "uploadId", "partNumber"} & names and request.method != "GET":
         raise Fault("EntityTooLarge", bodies.IN_PARTS)
     target = _target(request)
+    look_at_key(request.key)
     selecting = [it for it in SELECTING & names if it != "versions" or target == "bucket"]
     if len(selecting) > 1:
         raise Fault("InvalidArgument", f"{' and '.join(sorted(selecting))} are two calls")

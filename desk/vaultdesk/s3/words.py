@@ -21,10 +21,12 @@ from vaultdesk.s3.again import Unanswered
 from vaultdesk.s3.asked import Vault
 from vaultdesk.s3.door import OwnEngine
 from vaultdesk.s3.etags import Etags
+from vaultdesk.s3.faults import Fault
 from vaultdesk.s3.gateway import Gateway
 from vaultdesk.s3.keys import Keys
 from vaultdesk.s3.server import Server
 from vaultdesk.s3.settings import Settings
+from vaultdesk.s3.unguarded import Unguarded
 
 LARGE_PIECES, PIECE = -3, 131_072  # glibc's M_MMAP_THRESHOLD, and the bytes from which on a piece is a large one
 LAST_ANSWERS = 10  # seconds for requests that are under way as it ends
@@ -75,11 +77,15 @@ def serve(words: argparse.Namespace) -> int:
     engine = Engine(desk)
     unlocked = _unlocked(engine)
     door = OwnEngine(engine, given.admin)
-    buckets = door.open()
     etags = Etags(given.etags)
-    vault = Vault(door, etags, given, Unanswered(given.unanswered))
+    if not engine.is_served:  # which has the file from now on
+        _shorten(etags, door)
+    buckets = door.open()
+    vault = Vault(door, etags, given, Unanswered(given.unanswered), Unguarded(unlocked))
     with _listening(given, Gateway(vault, there), words.quiet) as server:
         _stop_at_signals(server)  # before it is said that it serves
+        if engine.is_served:
+            threading.Thread(target=_shorten, args=(etags, door), daemon=True).start()
         _say_unlocked(unlocked)
         scheme = "https" if given.certificate else "http"
         where = f"{scheme}://{given.address}:{server.server_address[1]}"
@@ -91,6 +97,14 @@ def serve(words: argparse.Namespace) -> int:
     door.close()
     etags.close()
     return 0
+
+
+def _shorten(etags: Etags, door: OwnEngine) -> None:
+    """Drops what is noted of versions that are held no more."""
+    try:
+        etags.drop(list(door.removed()))
+    except (Fault, EngineError) as error:
+        say(f"vaultdesk s3: the file of ETags isn't shortened: {error}")
 
 
 def _listening(given: Settings, gateway: Gateway, is_quiet: bool) -> Server:
