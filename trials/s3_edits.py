@@ -12,6 +12,7 @@ AGAIN, HEADS, PROGRAMS = "test_s3_again.Again.", "test_s3_again.Heads.", "test_s
 NOTED = "test_s3_objects.Noted."
 UNSAID, KEYS, SETTINGS = "test_s3_again.Unsaid.", "test_s3_words.Keys.", "test_s3_words.Settings."
 PLACES, TIMES, FRAMING = "test_s3_crowds.Places.", "test_s3_crowds.Times.", "test_s3_crowds.Framing."
+CHECKSUMS = "test_s3_bodies.Checksums."
 DOCUMENTS, GUARDS = "test_s3_crowds.Documents.", "test_s3_objects.Guards."
 
 EDITS = [
@@ -270,6 +271,15 @@ EDITS = [
     ("lifecycle", "MOST = 16_000", "MOST = 13_000", DOCUMENTS + "test_a_thousand_rules_with_all_that_they_may_have_are_taken"),
     ("gateway", "        if call.most <= bodies.CONTENT:\n", "        if True:\n", DOCUMENTS + "test_large_ones_come_one_after_another"),
     ("gateway", "yield call.most, TURN", "yield call.most, BODY", DOCUMENTS + "test_who_has_its_turn_has_little_time"),
+    ("checksums", "for bit in reversed(range(8 * self.size)):", "for bit in range(8 * self.size):",
+     CHECKSUMS + "test_long_contents_have_the_checks_that_come_byte_by_byte"),
+    ("checksums", "int.from_bytes(content[: self.size], \"little\") ^ value", "int.from_bytes(content[: self.size], \"little\")",
+     CHECKSUMS + "test_long_contents_have_the_checks_that_come_byte_by_byte"),
+    ("checksums", "        while len(content) >= self.LONG:\n", "        while False:\n",
+     CHECKSUMS + "test_a_long_content_takes_less_than_its_bytes_one_by_one"),
+    ("server", "            self.note(f\"- from {client_address[0]} - no TLS\")\n", "", TIMES + "test_who_agrees_on_no_tls_is_in_the_log"),
+    ("server", "        request.settimeout(HEAD)\n", "", TIMES + "test_who_agrees_on_no_tls_is_in_the_log"),
+    ("buckets", "    _look_at(asked)\n    markers", "    markers", BUCKETS + "test_what_is_asked_of_a_bucket"),
     # what nobody could guess, see or keep in mind
     ("keys", "    if short:\n", "    if False:\n", KEYS + "test_a_secret_that_can_be_guessed_is_refused"),
     ("request", "    if found:\n        why", "    if False:\n        why", PUT + "test_a_control_character_in_a_key_is_named"),

@@ -4,11 +4,13 @@ from __future__ import annotations
 
 import base64
 import hashlib
+import random
+import time
 import unittest
 import zlib
 
 from tests.s3_office import DATE, EMPTY, GatewayTest, read_replies, request, signature
-from vaultdesk.s3.checksums import ALGORITHMS
+from vaultdesk.s3.checksums import ALGORITHMS, CRC32C, CRC64NVME, Crc
 
 CONTENT = b"a deed of 1924\n" * 1_500
 LEAST = 8_192  # bytes of a chunk but the last
@@ -65,6 +67,29 @@ class Checksums(unittest.TestCase):
         wanted = {"crc32": "cbf43926", "crc32c": "e3069283", "crc64nvme": "ae8b14860a799888"}
         for name, value in wanted.items():
             self.assertEqual(ALGORITHMS[name](b"123456789").hex(), value)
+
+    def test_long_contents_have_the_checks_that_come_byte_by_byte(self) -> None:
+        chance = random.Random(7)
+        for crc in (CRC32C, CRC64NVME, Crc(32, 0xEDB88320)):
+            for size in (1_023, 1_024, 1_025, 1_031, 2_047, 4_096, 65_537):
+                content = chance.randbytes(size)
+                value = crc.ones
+                for it in content:
+                    value = crc.table[(value ^ it) & 255] ^ value >> 8
+                self.assertEqual(crc.digest(content), (value ^ crc.ones).to_bytes(crc.size, "big"), size)
+        content = chance.randbytes(100_001)
+        self.assertEqual(Crc(32, 0xEDB88320).digest(content), zlib.crc32(content).to_bytes(4, "big"))
+
+    def test_a_long_content_takes_less_than_its_bytes_one_by_one(self) -> None:
+        content = bytes(MOST)
+        for crc in (CRC32C, CRC64NVME):
+            begun = time.process_time()
+            crc.digest(content)
+            folded = time.process_time() - begun
+            value, begun = 0, time.process_time()
+            for it in content:
+                value = crc.table[(value ^ it) & 255] ^ value >> 8
+            self.assertLess(folded, (time.process_time() - begun) * 0.7)
 
 
 class Bodies(GatewayTest):

@@ -6,6 +6,7 @@ import contextlib
 import io
 import re
 import socket
+import ssl
 import threading
 import time
 from collections.abc import Iterator
@@ -187,6 +188,12 @@ class Times(CrowdTest):
             connection.sendall(b"GET / HTTP/1.1\r\nhost: a\r\n" + fields[:100_000])
             (reply,) = read_replies(connection.recv(65_536))
         self.refused("RequestHeaderSectionTooLarge", 400, reply)
+
+    def test_who_agrees_on_no_tls_is_in_the_log(self) -> None:
+        self.server.context = ssl.SSLContext(ssl.PROTOCOL_TLS_SERVER)
+        with mock.patch.object(server, "HEAD", 0.3), self.within():
+            self.assertEqual(self.come().recv(65_536), b"")
+        self.assertTrue(self.noted(f"- from {STRANGER} - no TLS"), self.log.getvalue())
 
     def test_an_answer_that_nobody_takes_is_in_the_log(self) -> None:
         with mock.patch.object(server.Handler, "_send", side_effect=ConnectionResetError):

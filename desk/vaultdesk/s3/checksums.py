@@ -14,28 +14,76 @@ PREFIX = "x-amz-checksum-"
 OTHERS = ("x-amz-checksum-algorithm", "x-amz-checksum-mode", "x-amz-checksum-type")
 
 
-def _table(polynomial: int) -> list[int]:
-    """The values of the 256 bytes, for a polynomial whose bits are reversed."""
-    table = list(range(256))
-    for _ in range(8):
-        table = [it >> 1 ^ polynomial * (it & 1) for it in table]
-    return table
+class Crc:
+    """A cyclic redundancy check (CRC) of so many bits, by a polynomial. In all numbers here the lowest bit is of the
+    highest power, as checks of this kind have it."""
+
+    LONG = 1_024  # bytes of a content that is folded; a shorter one takes no longer byte by byte
+
+    def __init__(self, bits: int, polynomial: int) -> None:
+        self.size = bits // 8
+        self.ones = (1 << bits) - 1
+        self.polynomial = polynomial
+        self.table = list(range(256))
+        for _ in range(8):
+            self.table = [self._shifted(it) for it in self.table]
+
+    def _shifted(self, value: int) -> int:
+        """The value times x, modulo the polynomial."""
+        return value >> 1 ^ self.polynomial * (value & 1)
+
+    def _product(self, one: int, other: int) -> int:
+        product = 0
+        for bit in reversed(range(8 * self.size)):
+            product ^= other * (one >> bit & 1)
+            other = self._shifted(other)
+        return product
+
+    def _power(self, exponent: int) -> int:
+        """That power of x, modulo the polynomial."""
+        power, square = 1 << 8 * self.size - 1, 1 << 8 * self.size - 2  # one, and x
+        while exponent:
+            power = self._product(power, square) if exponent & 1 else power
+            square, exponent = self._product(square, square), exponent >> 1
+        return power
+
+    def _maps(self, factor: int) -> list[bytes]:
+        """For each byte of the products of all bytes with that factor, the table by which bytes become it."""
+        products = [0]
+        for bit in range(8):
+            products += [it ^ factor << bit + 1 for it in products]
+        return [bytes(it >> 8 * place & 255 for it in products) for place in range(self.size + 1)]
+
+    def _folded(self, content: bytes) -> bytes:
+        """About half as many bytes with the same remainder: the first half is multiplied by what it is away from the
+        end, all its bytes at once, and added to the second."""
+        half = len(content) // 2
+        first, second = content[:-half], content[-half:]
+        total = int.from_bytes(second, "little") << 8 * (len(first) + self.size - half)
+        for place, table in enumerate(self._maps(self._power(8 * half))):
+            total ^= int.from_bytes(first.translate(table), "little") << 8 * place
+        return total.to_bytes(len(first) + self.size, "little")
+
+    def digest(self, content: bytes) -> bytes:
+        """The check of a content, as headers have it before base64."""
+        value = self.ones
+        if len(content) >= self.LONG:
+            begun = int.from_bytes(content[: self.size], "little") ^ value
+            content, value = begun.to_bytes(self.size, "little") + content[self.size:], 0
+        while len(content) >= self.LONG:
+            content = self._folded(content)
+        for it in content:
+            value = self.table[(value ^ it) & 255] ^ value >> 8
+        return (value ^ self.ones).to_bytes(self.size, "big")
 
 
-def _crc(table: list[int], start: int, content: bytes) -> int:
-    value = start
-    for it in content:
-        value = table[(value ^ it) & 255] ^ value >> 8
-    return value ^ start
-
-
-CRC32C = _table(0x82F63B78)
-CRC64NVME = _table(0x9A6C9329AC4BC9B5)
+CRC32C = Crc(32, 0x82F63B78)
+CRC64NVME = Crc(64, 0x9A6C9329AC4BC9B5)
 
 ALGORITHMS: Mapping[str, Callable[[bytes], bytes]] = {
     "crc32": lambda it: zlib.crc32(it).to_bytes(4, "big"),
-    "crc32c": lambda it: _crc(CRC32C, 0xFFFF_FFFF, it).to_bytes(4, "big"),
-    "crc64nvme": lambda it: _crc(CRC64NVME, 0xFFFF_FFFF_FFFF_FFFF, it).to_bytes(8, "big"),
+    "crc32c": CRC32C.digest,
+    "crc64nvme": CRC64NVME.digest,
     "sha1": lambda it: hashlib.sha1(it).digest(),
     "sha256": lambda it: hashlib.sha256(it).digest(),
 }
