@@ -247,6 +247,8 @@ EDITS = [
     ("places", "                del self.idle[found]\n", "                return True\n",
      PLACES + "test_who_waits_has_the_place_of_one_that_asks_nothing"),
     ("places", "if now - it.since >= seconds]", "if False]", PLACES + "test_who_waits_too_long_is_turned_away"),
+    ("server", "            guest = self.places.leave(guest.host)\n\n    def _turn_away(self, guest: Guest)",
+     "            guest = None\n\n    def _turn_away(self, guest: Guest)", PLACES + "test_where_there_is_no_thread_nobody_loses_a_place"),
     ("places", "                self.served[found.host] += 1\n", "                pass\n",
      PLACES + "test_one_address_has_no_more_than_its_places"),
     ("server", "or self.server.places.is_wanted(self.client_address[0])", "or False",

@@ -80,6 +80,12 @@ class Places(CrowdTest):
                 self.assertEqual(self.come().recv(65_536), server.BUSY)
             self.assertTrue(self.noted(f"- from {STRANGER} 503 SlowDown"), self.log.getvalue())
 
+    def test_where_there_is_no_thread_nobody_loses_a_place(self) -> None:
+        with mock.patch.object(places, "OF_ONE", 1):
+            with mock.patch("threading.Thread.start", side_effect=RuntimeError("can't start new thread")):
+                self.assertEqual(self.come().recv(65_536), server.BUSY)
+            self.assertEqual(replies(self.come(), request("GET", "/docs"))[0].status, 200)
+
     def test_who_waits_too_long_is_turned_away(self) -> None:
         with mock.patch.multiple(places, OF_ONE=1), mock.patch.object(places.Places.late, "__defaults__", (0.2,)):
             self.come()

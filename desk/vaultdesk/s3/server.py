@@ -291,7 +291,10 @@ class Server(socketserver.ThreadingTCPServer):
         """Gives a connection its thread, where there is room; else it waits for a place."""
         guest = Guest(request, client_address)
         if self.places.take(guest):
-            super().process_request(request, client_address)
+            try:
+                super().process_request(request, client_address)
+            except RuntimeError:  # the machine has no thread for it, nor for those who wait
+                self._turn_away_all(guest)
         elif not self.places.wait(guest):
             self._turn_away(guest)
 
@@ -314,6 +317,11 @@ class Server(socketserver.ThreadingTCPServer):
         super().server_close()
         for it in self.places.late(0):
             self.shutdown_request(it.connection)
+
+    def _turn_away_all(self, guest: Guest | None) -> None:
+        while guest:
+            self._turn_away(guest)
+            guest = self.places.leave(guest.host)
 
     def _turn_away(self, guest: Guest) -> None:
         """Answers who gets no place that it should come later, and notes that in the log."""
