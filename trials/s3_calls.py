@@ -59,7 +59,7 @@ CALLS = [
     Call("put_bucket_acl", {**DOCS, **ACL}, "NotImplemented"), Call("get_bucket_acl", DOCS, "NotImplemented"),
     Call("put_object_acl", {**DEED, **ACL}, "NotImplemented"), Call("get_object_acl", DEED, "NotImplemented"),
     Call("put_object_tagging", {**DEED, "Tagging": {"TagSet": []}}, "NotImplemented"),
-    Call("get_object_tagging", DEED, "NotImplemented"), Call("list_multipart_uploads", DOCS, "NotImplemented"),
+    Call("get_object_tagging", DEED, "NotImplemented"), Call("list_multipart_uploads", DOCS),
     Call("get_object_attributes", {**DEED, "ObjectAttributes": ["ETag"]}, "NotImplemented"),
     Call("restore_object", {**DEED, "RestoreRequest": {"Days": 1}}, "NotImplemented"),
 ]
@@ -77,7 +77,7 @@ S3CMD = [
     ("EntityTooLarge", "put", "--no-preserve", "--multipart-chunk-size-mb=5", "huge", "s3://docs/refused"),
     ("NotImplemented", "setacl", "--acl-public", "s3://docs/draft"),
     ("NotImplemented", "setpolicy", "policy", "s3://docs"), ("NotImplemented", "rb", "s3://docs"),
-    ("NotImplemented", "multipart", "s3://docs"),
+    ("", "multipart", "s3://docs"),
 ]
 RCLONE = [
     ("", "lsd", "v:"), ("", "lsf", "v:docs"), ("", "lsf", "--s3-versions", "v:docs"), ("", "size", "v:docs"),
@@ -87,7 +87,7 @@ RCLONE = [
     ("", "moveto", "v:docs/copy", "v:docs/moved"), ("copy an object to itself", "touch", "v:docs/draft"), ("", "deletefile", "v:docs/moved"),
     ("", "delete", "v:docs/sub"), ("", "hashsum", "MD5", "v:docs"),
     ("EntityTooLarge", "copyto", "--s3-upload-cutoff", "5M", "huge", "v:docs/refused"), ("NotImplemented", "rmdir", "v:docs"),
-    ("NotImplemented", "cleanup", "v:docs"),
+    ("", "cleanup", "v:docs"),
 ]
 
 
