@@ -29,6 +29,7 @@ class CrowdTest(GatewayTest):
         self.log = io.StringIO()
         self.server.is_quiet = False
         self.enterContext(contextlib.redirect_stderr(self.log))
+        self.addCleanup(setattr, self.server, "is_quiet", True)
 
     def come(self, host: str = STRANGER, port: int | None = None) -> socket.socket:
         """A connection from that address of this machine, which lasts as long as the test."""
