@@ -14,3 +14,6 @@ pub mod ByIds
 pub mod Samples
 pub mod PartLemmas
 pub mod JudgedParts
+pub mod DepartmentTests
+pub mod HolderLemmas
+pub mod DepartmentRuns

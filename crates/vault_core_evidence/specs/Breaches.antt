@@ -27,7 +27,8 @@ use Rattle.vault_core_evidence.specs.declared.breach.Breach.{Breach}
 use Rattle.vault_core_evidence.specs.declared.breach.Law.{Law}
 use Rattle.vault_core_evidence.specs.declared.breach.Law.TheVariants as law
 use Rattle.vault_core_evidence.specs.declared.seen_moves.Move.{Move}
-use Rattle.vault_core_evidence.specs.Lawful.{department_of, last_at}
+use Rattle.vault_core_evidence.specs.Departments.{agrees_with}
+use Rattle.vault_core_evidence.specs.Lawful.{department_of, has_registrar, last_at}
 use Rattle.vault_core_evidence.specs.Moves.{are_as_seen, none_seen, seen_after}
 
 -- the name of each law
@@ -40,6 +41,8 @@ law_name law.Setter = codes "setter"
 law_name law.Removal = codes "removal"
 law_name law.Remover = codes "remover"
 law_name law.Move = codes "move"
+law_name law.Department = codes "department"
+law_name law.Registrar = codes "registrar"
 
 -- a test, and the law that is broken where it fails
 pub record Test : Type 0 where
@@ -180,24 +183,34 @@ rule_tests v e settings tenures =
 abbrev pub move_tests : (ℕ → Option Move) → List ℕ → List Tenure → List Test
 move_tests seen bucket tenures = test (are_as_seen seen bucket tenures) law.Move ∷ []
 
-abbrev pub tests : Vault → (ℕ → Option Move) → History → List Test
-tests v seen h = rule_tests v h.entry h.settings h.tenures ++ move_tests seen h.entry.bucket h.tenures
+-- and beside the versions before it
+abbrev pub department_tests : List History → History → List Test
+department_tests before h = test (agrees_with before h) law.Department ∷ []
+
+abbrev pub tests : Vault → (ℕ → Option Move) → List History → History → List Test
+tests v seen before h =
+    rule_tests v h.entry h.settings h.tenures ++ (move_tests seen h.entry.bucket h.tenures ++ department_tests before h)
 
 -- the first law that the history breaks
-abbrev pub breach : Vault → (ℕ → Option Move) → History → Option Law
-breach v seen h = broken (tests v seen h)
+abbrev pub breach : Vault → (ℕ → Option Move) → List History → History → Option Law
+breach v seen before h = broken (tests v seen before h)
 
 -- that law of that entry; where it breaks none, what the entries after it break
 abbrev pub breach_or : ℕ → Option Law → Option Breach → Option Breach
 breach_or id None later = later
 breach_or id (Some l) later = Some (record { id = id; law = l })
 
--- the first breach of these histories, after the moves that were seen
-abbrev pub first_breach_after : Vault → (ℕ → Option Move) → List History → Option Breach
-first_breach_after v seen [] = None
-first_breach_after v seen (h ∷ hs) =
-    breach_or h.entry.id (breach v seen h) (first_breach_after v (seen_after seen h.entry.bucket h.tenures) hs)
+-- the first breach of these histories, after the moves that were seen, beside those before them
+abbrev pub first_breach_after : Vault → (ℕ → Option Move) → List History → List History → Option Breach
+first_breach_after v seen before [] = None
+first_breach_after v seen before (h ∷ hs) =
+    breach_or h.entry.id (breach v seen before h) (first_breach_after v (seen_after seen h.entry.bucket h.tenures) (h ∷ before) hs)
+
+-- the same, once the vault has the caller whom a new vault has; else no command can have made its first entry
+abbrev pub breach_of_list : Vault → List History → Option Breach
+breach_of_list v hs =
+    if has_registrar v then first_breach_after v none_seen [] hs else Some (record { id = 1; law = law.Registrar })
 
 -- the first entry that breaks a law, and which
 abbrev pub first_breach : Vault → Option Breach
-first_breach v = first_breach_after v none_seen v.histories
+first_breach v = breach_of_list v v.histories

@@ -1,16 +1,18 @@
 -- A history that commands can have made: every setting and every removal keeps the lock rules.
-use Rattle.std.specs.Prelude.{◌≡◌, ◌≤◌, ◌<◌, ℕ, Bool, true, false, List, [], ◌∷◌, Option, Some, None, IsSome, option_and_then, option_map, unwrap_or}
+use Rattle.std.specs.Prelude.{◌≡◌, ◌≤◌, ◌<◌, ◌==◌, ◌&&◌, ℕ, Bool, true, false, not, is_some, List, [], ◌∷◌, Option, Some, None, IsSome, option_and_then, option_map, unwrap_or}
 use Rattle.std.specs.List.{AllByRecursion, last_or}
 use Rattle.vault_lock.specs.declared.lock.Lock.{Lock}
 use Rattle.vault_lock.specs.declared.retention.Retention.{Retention}
 use Rattle.vault_lock.specs.Lock.{guards}
 use Rattle.vault_core_model.specs.declared.records.Author.{Author}
 use Rattle.vault_core_model.specs.declared.records.Author.TheVariants as author
+use Rattle.vault_core_model.specs.declared.records.Caller.{Caller}
 use Rattle.vault_core_model.specs.declared.records.History.{History}
 use Rattle.vault_core_model.specs.declared.records.Removal.{Removal}
 use Rattle.vault_core_model.specs.declared.records.Setting.{Setting}
 use Rattle.vault_core_model.specs.declared.records.Tenure.{Tenure}
-use Rattle.vault_core_model.specs.Vault.{Vault, caller_of, last_lock}
+use Rattle.vault_core_model.specs.Rights.{rights_number}
+use Rattle.vault_core_model.specs.Vault.{Vault, caller_of, last_lock, registrar, registrar_name}
 use Rattle.vault_core_worm_laws.specs.Entitled.{IsAdmitter, IsFirstBy, IsSetByRight, IsCausedByRight}
 use Rattle.vault_core_worm_laws.specs.Permits.{IsPermittedSetting}
 use Rattle.vault_core_worm_laws.specs.Removals.{IsPermittedUnder}
@@ -68,6 +70,15 @@ pub record IsLawful (v : Vault) (h : History) : Type 0 where
   pub department : IsOfDepartment v h.entry.marker h.entry.by h.tenures
   pub settings : AreLawful v h.entry.admitted h.entry.by h.settings
   pub end : IsLawfulEnd v (last_at h.entry.admitted h.settings) (last_lock h.settings) h.entry.removal
+
+-- the caller has no department, and the rights that the one caller of a new vault has
+abbrev pub is_registrar : Option Caller → Bool
+is_registrar None = false
+is_registrar (Some c) = not (is_some c.dept) && rights_number c.rights == rights_number registrar.rights
+
+-- that caller is there; it may be closed
+abbrev pub has_registrar : Vault → Bool
+has_registrar v = is_registrar (caller_of v registrar_name)
 
 -- every history of the vault
 abbrev pub Lawful : Vault → Type 0

@@ -5,9 +5,8 @@ use Rattle.vault_core_model.specs.declared.records.History.{History}
 use Rattle.vault_core_model.specs.Vault.{Vault}
 use Rattle.vault_core_evidence.specs.declared.breach.Breach.{Breach}
 use Rattle.vault_core_evidence.specs.declared.walk.JudgedPart.{JudgedPart}
-use Rattle.vault_core_evidence.specs.Breaches.{first_breach_after}
+use Rattle.vault_core_evidence.specs.Breaches.{breach_of_list}
 use Rattle.vault_core_evidence.specs.Lawful.{IsLawful}
-use Rattle.vault_core_evidence.specs.Moves.{none_seen}
 
 -- how many entries the part after an id has: those that are left, and 1,000 at most
 abbrev pub most_of : ℕ → ℕ → ℕ
@@ -25,12 +24,12 @@ range v after most = take most (drop after v.histories)
 abbrev pub part : ℕ → Vault → List History
 part after v = range v after (most_of (length v.histories) after)
 
--- the first breach of those entries, beside the moves that their own tenures show
+-- the first breach of those entries, beside what their own tenures show
 abbrev pub range_breach : Vault → ℕ → ℕ → Option Breach
-range_breach v after most = first_breach_after v none_seen (range v after most)
+range_breach v after most = breach_of_list v (range v after most)
 
 abbrev pub part_breach : ℕ → Vault → Option Breach
-part_breach after v = first_breach_after v none_seen (part after v)
+part_breach after v = breach_of_list v (part after v)
 
 -- the judgement of the part after an id, and where the next one begins
 abbrev pub judged_part : ℕ → Vault → JudgedPart

@@ -7,8 +7,8 @@ use vault_base::name::VersionId;
 /// What commands keep of every entry.
 #[derive(Clone, Copy, Debug, PartialEq, Eq)]
 pub enum Law {
-    /// Its author is a caller who may admit that kind of entry: a version, where the caller is of the department that
-    /// had the bucket then; a marker, which has no tenure, where the caller is of any department. A rule admits markers.
+    /// Its author is a caller who may admit that kind of entry: a version, where the caller is of the department of its
+    /// first tenure; a marker, which has no tenure, where the caller is of any department. A rule admits markers.
     Admission,
     /// Its first setting is of the moment and the caller of its admission, and by no bypass; its retention ends after that.
     FirstSetting,
@@ -16,7 +16,8 @@ pub enum Law {
     Order,
     /// Each later setting gives a retention or a hold that the lock before it permits.
     Setting,
-    /// Each setting is by a caller who has the right to it.
+    /// Each setting is by a caller who has the right to it; of a first setting a hold alone wants one, as its retention
+    /// may be the bucket's default.
     Setter,
     /// Its removal was permitted by the last lock.
     Removal,
@@ -24,6 +25,10 @@ pub enum Law {
     Remover,
     /// Tenures of one number are of one bucket, one department and one moment.
     Move,
+    /// As each second ended, it was of the department of the other versions of its bucket that were held then.
+    Department,
+    /// The vault has the caller whom a new vault has, of no department and with the right to administer alone.
+    Registrar,
 }
 
 impl Law {
@@ -40,6 +45,8 @@ impl Law {
             Law::Removal => "removal",
             Law::Remover => "remover",
             Law::Move => "move",
+            Law::Department => "department",
+            Law::Registrar => "registrar",
         }
     }
 }

@@ -1,5 +1,6 @@
 //! Laws of histories. Each is the contract of a public function that does nothing.
-ghost use Rattle.std.specs.Prelude.{◌≡◌, ◌≤◌, ◌≡◌, ℕ, List, length, Option, Some, None, true};
+ghost use Rattle.std.specs.Prelude.{◌≡◌, ◌≤◌, ℕ, List, length, Option, Some, None, IsTrue, true};
+ghost use Rattle.std.specs.List.{AllByRecursion};
 ghost use Rattle.vault_core_model.specs.declared.change.Change.{Change};
 ghost use Rattle.vault_core_model.specs.declared.command.Timed.{Timed};
 ghost use Rattle.vault_core_model.specs.declared.records.History.{History};
@@ -14,7 +15,8 @@ ghost use Rattle.vault_core_worm_laws.specs.Worm.{Worm};
 ghost use Rattle.vault_core_evidence.specs.declared.seen_moves.Move.{Move};
 ghost use Rattle.vault_core_evidence.specs.Breaches.{breach, first_breach};
 ghost use Rattle.vault_core_evidence.specs.Events.{events_before};
-ghost use Rattle.vault_core_evidence.specs.Lawful.{IsLawful, Lawful};
+ghost use Rattle.vault_core_evidence.specs.Departments.{Agree, DepartmentsAgree};
+ghost use Rattle.vault_core_evidence.specs.Lawful.{IsLawful, Lawful, has_registrar};
 ghost use Rattle.vault_core_evidence.specs.Moves.{MovesAgree, are_as_seen};
 ghost use Rattle.vault_core_evidence.specs.Parts.{LawfulAfter, next_of, part_breach};
 
@@ -39,6 +41,17 @@ pub fn moves_agree()
     ensures { (v : Vault) → Reached v → MovesAgree v }
 {}
 
+/// In every vault that is reached, two versions of one bucket are of one department as each second ends in which both are
+/// held.
+pub fn departments_agree()
+    ensures { (v : Vault) → Reached v → DepartmentsAgree v }
+{}
+
+/// Every vault that is reached has the caller of a new vault, open or closed, of no department and with the same rights.
+pub fn the_registrar_stays()
+    ensures { (v : Vault) → Reached v → IsTrue (has_registrar v) }
+{}
+
 /// In a lawful vault each removal was permitted by the lock, and each retention and hold was kept, whoever
 /// wrote its rows.
 pub fn lawful_vaults_kept_the_rules()
@@ -46,20 +59,22 @@ pub fn lawful_vaults_kept_the_rules()
     ensures worm { (v : Vault) → Lawful v → Worm v }
 {}
 
-/// The tests find no breach exactly where every history is lawful and tenures of one number agree. So they find
-/// none in a vault that is reached.
+/// The tests find no breach exactly where every history is lawful, tenures of one number agree, versions of one bucket
+/// agree on its department, and the caller of a new vault is there. So they find none in a vault that is reached.
 pub fn breaches_are_decided()
-    ensures one { (v : Vault) (seen : ℕ → Option Move) (h : History) →
-        breach v seen h ≡ None → IsLawful v h × (are_as_seen seen h.entry.bucket h.tenures ≡ true) }
+    ensures one { (v : Vault) (seen : ℕ → Option Move) (before : List History) (h : History) →
+        breach v seen before h ≡ None → IsLawful v h × (are_as_seen seen h.entry.bucket h.tenures ≡ true) × AllByRecursion (λ g. Agree g h) before }
     ensures lawful { (v : Vault) → first_breach v ≡ None → Lawful v }
     ensures moves { (v : Vault) → first_breach v ≡ None → MovesAgree v }
-    ensures none { (v : Vault) → Lawful v → MovesAgree v → first_breach v ≡ None }
+    ensures departments { (v : Vault) → first_breach v ≡ None → DepartmentsAgree v }
+    ensures registrar { (v : Vault) → first_breach v ≡ None → IsTrue (has_registrar v) }
+    ensures none { (v : Vault) → Lawful v → MovesAgree v → DepartmentsAgree v → IsTrue (has_registrar v) → first_breach v ≡ None }
     ensures reached { (v : Vault) → Reached v → first_breach v ≡ None }
 {}
 
 /// Parts of a vault are judged, each after the id that the one before it names. Where none of them has a breach, every
-/// history is lawful; and where the vault has none, no part has one. That tenures of one number agree shows within a part
-/// alone, and not between two.
+/// history is lawful; and where the vault has none, no part has one. That tenures of one number agree, and versions of one
+/// bucket, shows within a part alone, and not between two.
 pub fn parts_are_judged()
     ensures whole { (v : Vault) → LawfulAfter 0 v → Lawful v }
     ensures next { (v : Vault) (after next : ℕ) → next_of (length v.histories) after ≡ Some next → part_breach after v ≡ None → LawfulAfter next v → LawfulAfter after v }

@@ -4,6 +4,7 @@
 
 pub mod breach;
 mod history;
+pub mod holders;
 pub mod laws;
 mod locks;
 pub mod parts;

@@ -7,11 +7,15 @@ ghost use Rattle.vault_core_worm_laws.specs.Bypass.{has_bypass};
 ghost use Rattle.vault_core_worm_laws.specs.Entitled.{has_right};
 ghost use Rattle.vault_core_model.specs.declared.records.Author.TheVariants as authors;
 ghost use Rattle.vault_core_evidence.specs.Breaches as spec;
+ghost use Rattle.vault_core_evidence.specs.Lawful.{has_registrar, is_registrar};
 
+use std::alloc::Global;
 use vault_base::name::CallerName;
+use vault_base::right::Right;
 use vault_core_model::halt::Fault;
 use vault_core_model::keeper::Keeper;
 use vault_core_model::records::{Author, Caller, Cause, Entry, Tenure};
+use vault_core_model::rights::Rights;
 
 /// Whether the caller may bypass governance.
 pub(crate) fn may_bypass(caller: &Option<Caller>) -> bool
@@ -86,7 +90,7 @@ fn is_of_department(caller: &Option<Caller>, marker: bool, tenures: &[Tenure]) -
     *dept == first.dept
 }
 
-/// Whether the author may admit such an entry, and is of the department that had the bucket then.
+/// Whether the author may admit such an entry, and is of the department of its first tenure.
 pub(crate) fn is_admitted<K: Keeper>(
     keeper: &mut K,
     entry: &Entry,
@@ -100,6 +104,29 @@ pub(crate) fn is_admitted<K: Keeper>(
     };
     let caller = keeper.caller(name)?;
     Ok(may_admit(&caller, entry.marker) && is_of_department(&caller, entry.marker, tenures))
+}
+
+/// Whether the caller has no department, and the right to administer alone.
+fn is_first_caller(caller: &Option<Caller>) -> bool
+    ensures { result ≡ is_registrar caller.now }
+{
+    match caller {
+        Some(caller) => {
+            let first = Rights::none().with(Right::Admin);
+            caller.dept.is_none() && caller.rights.number() == first.number()
+        }
+        None => false,
+    }
+}
+
+/// Whether the vault has the caller whom a new vault has.
+pub(crate) fn has_registrar<K: Keeper>(alloc: Global, keeper: &mut K) -> Result<bool, Fault>
+    ensures value { K.is_honest keeper.new → IfOk result (λ has. has ≡ has_registrar (K.vault keeper.old)) }
+    ensures leaves { ReadsAs K.Kept keeper.old keeper.new result }
+{
+    let name = CallerName::read(alloc, "registrar")?.unwrap();
+    let caller = keeper.caller(&name)?;
+    Ok(is_first_caller(&caller))
 }
 
 /// Whether the author is the caller of that name.

@@ -1,14 +1,18 @@
 //! The first entry that breaks a law, of a vault or of a part of it: a walk over ids.
-ghost use Rattle.std.specs.Prelude.{◌≡◌, ◌≤◌, ◌-◌, IfOk, Some, length};
+ghost use Rattle.std.specs.Prelude.{◌≡◌, ◌≤◌, ◌-◌, IfOk, Ok, Some, length};
 ghost use Rattle.vault_core_model.specs.Leaves.{ReadsAs};
 ghost use Rattle.vault_core_model.specs.Reads.{entry_of, settings_of, tenures_of};
+ghost use Rattle.vault_core_evidence.specs.declared.breach.Law.TheVariants as law;
 ghost use Rattle.vault_core_evidence.specs.Breaches.{first_breach};
+ghost use Rattle.vault_core_evidence.specs.Departments.{removed_at};
 ghost use Rattle.vault_core_evidence.specs.Parts.{judged_part, range_breach};
-ghost use Rattle.vault_core_evidence.specs.Walk.{FindsAt, FindsMoves};
+ghost use Rattle.vault_core_evidence.specs.Walk.{FindsAt, FindsDepartments, FindsMoves};
 
 use crate::breach::{Breach, Law};
 use crate::history::rule_breach;
+use crate::holders::Holders;
 use crate::parts::{count_entries, most_of, next_of};
+use crate::rights::has_registrar;
 use crate::seen_moves::SeenMoves;
 use std::alloc::{AllocError, Global};
 use vault_base::moment::Moment;
@@ -66,16 +70,43 @@ fn move_breach(
     }
 }
 
-/// The first law that the entry of that id breaks, after the moves that were seen. `now` is the last moment.
+/// When an entry was removed, if it was.
+fn removed_at(entry: &Entry) -> Option<Moment>
+    ensures { result ≡ removed_at entry.now }
+{
+    match &entry.removal {
+        Some(removal) => Some(removal.at),
+        None => None,
+    }
+}
+
+/// What an entry with these tenures breaks beside the versions that were seen.
+fn department_breach(
+    holders: &mut Holders,
+    entry: &Entry,
+    tenures: Tenures,
+) -> Result<Option<Law>, AllocError>
+    ensures { IfOk result (λ found. FindsDepartments holders.old entry.now tenures found holders.new) }
+{
+    if holders.see(&entry.bucket, tenures, removed_at(entry))? {
+        Ok(None)
+    } else {
+        Ok(Some(Law::Department))
+    }
+}
+
+/// The first law that the entry of that id breaks, after the moves and the versions that were seen. `now` is the last
+/// moment.
 fn breach_of<K: Keeper>(
     alloc: Global,
     keeper: &mut K,
     seen: &mut SeenMoves,
+    holders: &mut Holders,
     now: Moment,
     id: VersionId,
 ) -> Result<Option<Law>, Fault>
     requires now { K.is_honest keeper.old → now ≡ (K.vault keeper.old).last }
-    ensures value { K.is_honest keeper.new → IfOk result (λ found. FindsAt (K.vault keeper.old) seen.old id found seen.new) }
+    ensures value { K.is_honest keeper.new → IfOk result (λ found. FindsAt (K.vault keeper.old) seen.old holders.old id found seen.new holders.new) }
     ensures leaves { ReadsAs K.Kept keeper.old keeper.new result }
 {
     let Some(entry) = keeper.entry(id)? else {
@@ -87,11 +118,25 @@ fn breach_of<K: Keeper>(
     if found.is_some() {
         return Ok(found);
     }
-    Ok(move_breach(seen, &entry, tenures.as_slice())?)
+    let found = move_breach(seen, &entry, tenures.as_slice())?;
+    if found.is_some() {
+        return Ok(found);
+    }
+    Ok(department_breach(holders, &entry, tenures)?)
 }
 
-/// The first of the `most` entries after an id that breaks a law, beside the moves that these entries show. `now` is the
-/// last moment.
+/// The breach of a vault without the caller whom a new vault has.
+fn without_registrar() -> Result<Option<Breach>, Fault>
+    ensures { result ≡ Ok (Some (record { id = 1; law = law.Registrar })) }
+{
+    let Some(id) = VersionId::new(1) else {
+        return Err(Fault::Memory);
+    };
+    let law = Law::Registrar;
+    Ok(Some(Breach { id, law }))
+}
+
+/// The first of the `most` entries after an id that breaks a law, beside what these entries show. `now` is the last moment.
 fn find_breach<K: Keeper>(
     alloc: Global,
     keeper: &mut K,
@@ -104,7 +149,11 @@ fn find_breach<K: Keeper>(
     ensures value { K.is_honest keeper.new → IfOk result (λ found. found ≡ range_breach (K.vault keeper.old) after most) }
     ensures leaves { ReadsAs K.Kept keeper.old keeper.new result }
 {
+    if !has_registrar(alloc, keeper)? {
+        return without_registrar();
+    }
     let mut seen = SeenMoves::new(alloc);
+    let mut holders = Holders::new(alloc);
     for place in 0..most {
         let Some(number) = after.checked_add(place + 1) else {
             return Err(Fault::Memory);
@@ -112,7 +161,7 @@ fn find_breach<K: Keeper>(
         let Some(id) = VersionId::new(number) else {
             return Err(Fault::Memory);
         };
-        if let Some(law) = breach_of(alloc, keeper, &mut seen, now, id)? {
+        if let Some(law) = breach_of(alloc, keeper, &mut seen, &mut holders, now, id)? {
             return Ok(Some(Breach { id, law }));
         }
     }
@@ -120,10 +169,11 @@ fn find_breach<K: Keeper>(
 }
 
 /// The first entry that breaks a law, and the first law that it breaks; none where the history is one that
-/// commands can have made, as far as its admissions, settings, removals and tenures show.
+/// commands can have made, as far as its admissions, settings, removals and tenures show. Without the caller `registrar`
+/// of a new vault it is entry 1, whether it is there or not.
 ///
 /// It goes over the entries by rising id and has one of them in memory, beside a record of each move of a
-/// bucket.
+/// bucket, and the tenures of one version of each bucket.
 pub fn lawful<K: Keeper>(alloc: Global, keeper: &mut K) -> Result<Option<Breach>, Fault>
     ensures value { K.is_honest keeper.new → IfOk result (λ found. found ≡ first_breach (K.vault keeper.old)) }
     ensures leaves { ReadsAs K.Kept keeper.old keeper.new result }
@@ -142,8 +192,8 @@ pub struct JudgedPart {
     pub next: Option<u32>,
 }
 
-/// Judges the entries after an id, 1,000 of them at most, as `lawful` does, beside the moves that these entries show. The
-/// part after 0 is the first.
+/// Judges the entries after an id, 1,000 of them at most, as `lawful` does, beside what these entries show. The part after
+/// 0 is the first.
 pub fn lawful_part<K: Keeper>(
     alloc: Global,
     keeper: &mut K,
