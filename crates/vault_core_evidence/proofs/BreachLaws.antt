@@ -31,12 +31,14 @@ use Rattle.vault_core_worm_laws.specs.Permits.{IsRetentionSetting, IsHoldSetting
 use Rattle.vault_core_worm_laws.specs.Removals.{IsPermittedUnder}
 use Rattle.vault_core_worm_laws.proofs.EntryChanges.{Permitted, permit_under-is}
 use Rattle.vault_core_worm_laws.proofs.LockChanges.{Retained, retainable-is, is-keeps}
+use Rattle.vault_core_evidence.specs.Departments.{Agree}
 use Rattle.vault_core_evidence.specs.Lawful.{EndsAfter, IsLawfulFirst, AreLawfulAfter, AreLawful, IsOfDepartment, department_of, last_at, IsLawfulEnd, IsLawful}
 use Rattle.vault_core_evidence.specs.declared.breach.Law.{Law}
 use Rattle.vault_core_evidence.specs.declared.breach.Law.TheVariants as law
 use Rattle.vault_core_evidence.specs.declared.seen_moves.Move.{Move}
 use Rattle.vault_core_evidence.specs.Moves.{are_as_seen}
-use Rattle.vault_core_evidence.specs.Breaches.{Test, test, broken, same_bool, ends_after, same_retention, gives, retains_by, retains, holds, is_permitted, is_by_right, is_admitter, is_author, is_of_department, is_permitted_removal, is_remover, first_tests, next_tests, after_tests, settings_tests, end_tests, rule_tests, tests, breach}
+use Rattle.vault_core_evidence.specs.Breaches.{Test, test, broken, same_bool, ends_after, same_retention, gives, retains_by, retains, holds, is_permitted, is_by_right, is_admitter, is_author, is_of_department, is_permitted_removal, is_remover, first_tests, next_tests, after_tests, settings_tests, end_tests, rule_tests, move_tests, department_tests, tests, breach}
+use Rattle.vault_core_evidence.proofs.DepartmentTests.{agrees_is, is_agrees}
 
 -- ---- tests and lists of them
 
@@ -411,11 +413,15 @@ rules_are v h all =
       end = end_is v (last_at h.entry.admitted h.settings) (last_lock h.settings) h.entry.removal rest.1;
     }
 
-pub breach-lawful : (v : Vault) (seen : ℕ → Option Move) (h : History) → breach v seen h ≡ None → IsLawful v h × (are_as_seen seen h.entry.bucket h.tenures ≡ true)
-breach-lawful v seen h e =
-    let parts = parts_pass (rule_tests v h.entry h.settings h.tenures) (test (are_as_seen seen h.entry.bucket h.tenures) law.Move ∷ []) (all_pass (tests v seen h) e) in
-    (rules_are v h parts.0, parts.1.0)
+-- the tests beside other entries
+abbrev beside_tests : (ℕ → Option Move) → List History → History → List Test
+beside_tests seen before h = move_tests seen h.entry.bucket h.tenures ++ department_tests before h
 
-pub lawful-breach : (v : Vault) (seen : ℕ → Option Move) (h : History) → IsLawful v h → are_as_seen seen h.entry.bucket h.tenures ≡ true → breach v seen h ≡ None
-lawful-breach v seen h is as_seen =
-    none_fails (tests v seen h) (both_pass (rule_tests v h.entry h.settings h.tenures) (test (are_as_seen seen h.entry.bucket h.tenures) law.Move ∷ []) (rules_pass v h is) (as_seen, tt))
+pub breach-lawful : (v : Vault) (seen : ℕ → Option Move) (before : List History) (h : History) → breach v seen before h ≡ None → IsLawful v h × (are_as_seen seen h.entry.bucket h.tenures ≡ true) × AllByRecursion (λ g. Agree g h) before
+breach-lawful v seen before h e =
+    let parts = parts_pass (rule_tests v h.entry h.settings h.tenures) (beside_tests seen before h) (all_pass (tests v seen before h) e) in
+    (rules_are v h parts.0, parts.1.0, agrees_is before h parts.1.1.0)
+
+pub lawful-breach : (v : Vault) (seen : ℕ → Option Move) (before : List History) (h : History) → IsLawful v h → are_as_seen seen h.entry.bucket h.tenures ≡ true → AllByRecursion (λ g. Agree g h) before → breach v seen before h ≡ None
+lawful-breach v seen before h is as_seen agree =
+    none_fails (tests v seen before h) (both_pass (rule_tests v h.entry h.settings h.tenures) (beside_tests seen before h) (rules_pass v h is) (as_seen, (is_agrees before h agree, tt)))

@@ -1,21 +1,28 @@
 -- The history at a place of a sound vault is found by its id: so a walk over ids is one over histories.
 use Rattle.std.proofs.Common.{◌≡◌, ℕ, zero, suc, ◌+◌, ◌-◌, ◌≤◌, ◌<◌, List, [], ◌∷◌, ◌++◌, Bool, true, false, Option, Some, None, refl, sym, ap, subst, ◌∙◌, arith, drop, take, length, length-drop, length-take-le}
 use Rattle.std.specs.Prelude.{if◌then◌else◌, find, option_map, unwrap_or, ◌==◌, slice_get}
+use Rattle.std.specs.List.{AllByRecursion}
 use Rattle.std.proofs.lemmas.List.{drop_all}
 use Rattle.vault_core_model.specs.declared.records.History.{History}
 use Rattle.vault_core_model.specs.Reads.{entry_of, settings_of, tenures_of}
 use Rattle.vault_core_model.specs.Vault.{Vault, history_of}
-use Rattle.vault_core_model.specs.Sound.{AreIdsFrom, Sound}
+use Rattle.vault_core_model.specs.Sound.{AreIdsFrom, AreInOrder, HasTenures, Sound}
+use Rattle.vault_core_laws.proofs.Lists.{All-both}
 use Rattle.vault_core_evidence.specs.declared.breach.Breach.{Breach}
 use Rattle.vault_core_evidence.specs.declared.breach.Law.{Law}
 use Rattle.vault_core_evidence.specs.declared.breach.Law.TheVariants as law
+use Rattle.vault_core_evidence.specs.declared.holders.Holders.{Holders}
 use Rattle.vault_core_evidence.specs.declared.seen_moves.Move.{Move}
 use Rattle.vault_core_evidence.specs.declared.seen_moves.SeenMoves.{SeenMoves}
+use Rattle.vault_core_evidence.specs.Departments.{agrees_with}
+use Rattle.vault_core_evidence.specs.Holders.{holder_of}
+use Rattle.vault_core_evidence.specs.Lawful.{has_registrar}
 use Rattle.vault_core_evidence.specs.Moves.{none_seen, seen_after, seen_of}
-use Rattle.vault_core_evidence.specs.Parts.{range}
-use Rattle.vault_core_evidence.specs.Breaches.{test, broken, breach, breach_or, first_breach_after, rule_tests}
+use Rattle.vault_core_evidence.specs.Parts.{range, range_breach}
+use Rattle.vault_core_evidence.specs.Breaches.{Test, test, broken, breach, breach_or, department_tests, first_breach_after, move_tests, rule_tests}
 use Rattle.vault_core_evidence.specs.Walk.{Finds}
 use Rattle.vault_core_evidence.proofs.MoveTests.{IsSameBook, are_seen-same, after-same}
+use Rattle.vault_core_evidence.proofs.HolderLemmas.{AreBy, IsTimely, Knows, knows_next, knows_none, same_test, timely}
 
 same_id : (a n : ℕ) → a ≡ n → (a == n + 0) ≡ true
 same_id a n e = grind (arith, e)
@@ -63,102 +70,202 @@ in_range v from most i low = get-take most i (drop from v.histories) low ∙ get
 length_of : (v : Vault) (from most : ℕ) → most ≤ length v.histories - from → length (range v from most) ≡ most
 length_of v from most within = length-take-le most (drop from v.histories) (omega (arith, within, length-drop from v.histories))
 
--- ---- a walk over ids
+-- ---- the order of admissions
 
-breach-same : (v : Vault) (book other : ℕ → Option Move) (h : History) → IsSameBook book other → breach v book h ≡ breach v other h
-breach-same v book other h same =
-    ap (λ b. broken (rule_tests v h.entry h.settings h.tenures ++ test b law.Move ∷ [])) (are_seen-same book other h.entry.bucket h.tenures same)
+abbrev IsLater : History → History → Type 0
+IsLater h g = h.entry.admitted ≤ g.entry.admitted
 
-first-same : (v : Vault) (book other : ℕ → Option Move) (hs : List History) → IsSameBook book other → first_breach_after v book hs ≡ first_breach_after v other hs
-first-same v book other [] same = refl
-first-same v book other (h ∷ hs) same =
-    ap (λ (o : Option Law). breach_or h.entry.id o (first_breach_after v (seen_after book h.entry.bucket h.tenures) hs)) (breach-same v book other h same)
-    ∙ ap (λ (o : Option Breach). breach_or h.entry.id (breach v other h) o)
-    (first-same v (seen_after book h.entry.bucket h.tenures) (seen_after other h.entry.bucket h.tenures) hs (after-same book other h.entry.bucket h.tenures same))
+abbrev Sorted : List History → Type 0
+Sorted [] = Unit {0}
+Sorted (h ∷ hs) = AllByRecursion (IsLater h) hs × Sorted hs
 
--- the first breach of the histories of a range from a place on
-abbrev pub left_from : Vault → ℕ → ℕ → SeenMoves → ℕ → Option Breach
-left_from v from most seen i = first_breach_after v (seen_of seen) (drop i (range v from most))
+all_later : (from last t : ℕ) (hs : List History) → t ≤ from → AreInOrder from last hs → AllByRecursion (λ g. t ≤ g.entry.admitted) hs
+all_later from last t [] le order = tt
+all_later from last t (h ∷ hs) le order = (omega (arith, le, order.0), all_later h.entry.admitted last t hs (omega (arith, le, order.0)) order.1)
 
--- a history and those after it
-abbrev with_rest : Vault → (ℕ → Option Move) → Option History → List History → Option Breach
-with_rest v book None rest = first_breach_after v book rest
-with_rest v book (Some h) rest = first_breach_after v book (h ∷ rest)
+sorted : (from last : ℕ) (hs : List History) → AreInOrder from last hs → Sorted hs
+sorted from last [] order = tt
+sorted from last (h ∷ hs) order = (all_later h.entry.admitted last h.entry.admitted hs (omega arith) order.1, sorted h.entry.admitted last hs order.1)
 
-one_on : (v : Vault) (book : ℕ → Option Move) (hs : List History) (i : ℕ) → i < length hs → first_breach_after v book (drop i hs) ≡ with_rest v book (slice_get hs i) (drop (suc i) hs)
-one_on v book [] i low = absurd (omega (arith, low))
-one_on v book (h ∷ hs) zero low = refl
-one_on v book (h ∷ hs) (suc i) low = one_on v book hs i (omega (arith, low))
+All-take : (P : History → Type 0) (n : ℕ) (hs : List History) → AllByRecursion P hs → AllByRecursion P (take n hs)
+All-take P zero hs all = tt
+All-take P (suc n) [] all = tt
+All-take P (suc n) (h ∷ hs) all = (all.0, All-take P n hs all.1)
+
+Sorted-take : (n : ℕ) (hs : List History) → Sorted hs → Sorted (take n hs)
+Sorted-take zero hs all = tt
+Sorted-take (suc n) [] all = tt
+Sorted-take (suc n) (h ∷ hs) all = (All-take (IsLater h) n hs all.0, Sorted-take n hs all.1)
+
+Sorted-drop : (n : ℕ) (hs : List History) → Sorted hs → Sorted (drop n hs)
+Sorted-drop zero hs all = all
+Sorted-drop (suc n) [] all = tt
+Sorted-drop (suc n) (h ∷ hs) all = Sorted-drop n hs all.1
+
+sorted_range : (v : Vault) (from most : ℕ) → Sound v → Sorted (range v from most)
+sorted_range v from most sound = Sorted-take most (drop from v.histories) (Sorted-drop from v.histories (sorted 0 v.last v.histories sound.order))
+
+-- ---- the one at a place
+
+drop_is : (hs : List History) (i : ℕ) (h : History) → slice_get hs i ≡ Some h → drop i hs ≡ h ∷ drop (suc i) hs
+drop_is [] i h is = absurd (cc is)
+drop_is (g ∷ gs) zero h is = let same : g ≡ h = cc is in ap (λ (x : History). x ∷ gs) same
+drop_is (g ∷ gs) (suc i) h is = drop_is gs i h is
+
+All-get : (P : History → Type 0) (hs : List History) (i : ℕ) (h : History) → AllByRecursion P hs → slice_get hs i ≡ Some h → P h
+All-get P [] i h all is = absurd (cc is)
+All-get P (g ∷ gs) zero h all is = let same : g ≡ h = cc is in subst P same all.0
+All-get P (g ∷ gs) (suc i) h all is = All-get P gs i h all.1 is
 
 no_history : (hs : List History) (i : ℕ) → i < length hs → slice_get hs i ≡ None → ⊥
 no_history [] i low is = absurd (omega (arith, low))
 no_history (h ∷ hs) zero low is = absurd (cc is)
 no_history (h ∷ hs) (suc i) low is = no_history hs i (omega (arith, low)) is
 
+-- ---- books with the same moves
+
+breach-same : (v : Vault) (book other : ℕ → Option Move) (before : List History) (h : History) → IsSameBook book other → breach v book before h ≡ breach v other before h
+breach-same v book other before h same =
+    ap (λ b. broken (rule_tests v h.entry h.settings h.tenures ++ (test b law.Move ∷ [] ++ department_tests before h))) (are_seen-same book other h.entry.bucket h.tenures same)
+
+first-same : (v : Vault) (book other : ℕ → Option Move) (before hs : List History) → IsSameBook book other → first_breach_after v book before hs ≡ first_breach_after v other before hs
+first-same v book other before [] same = refl
+first-same v book other before (h ∷ hs) same =
+    ap (λ (o : Option Law). breach_or h.entry.id o (first_breach_after v (seen_after book h.entry.bucket h.tenures) (h ∷ before) hs)) (breach-same v book other before h same)
+    ∙ ap (λ (o : Option Breach). breach_or h.entry.id (breach v other before h) o)
+    (first-same v (seen_after book h.entry.bucket h.tenures) (seen_after other h.entry.bucket h.tenures) (h ∷ before) hs (after-same book other h.entry.bucket h.tenures same))
+
+-- ---- a walk over ids
+
+-- those before were admitted before each of the others
+abbrev pub AreBefore : List History → List History → Type 0
+AreBefore before hs = AllByRecursion (λ h. AreBy h.entry.admitted before) hs
+
+-- the breach is the first of the histories of a range from a place on, beside those before it, of which the code knows enough
+pub record IsLeft (v : Vault) (from most : ℕ) (seen : SeenMoves) (k : Holders) (i : ℕ) (found : Option Breach) : Type 0 where
+  pub before : List History
+  pub knows : Knows k before
+  pub order : AreBefore before (drop i (range v from most))
+  pub rest : found ≡ first_breach_after v (seen_of seen) before (drop i (range v from most))
+
 -- what is found of an entry by its id
-abbrev pub FindsAt : Vault → SeenMoves → ℕ → Option Law → SeenMoves → Type 0
-FindsAt v seen id found after = Finds v seen (entry_of v id) (settings_of v id) (tenures_of v id) found after
+abbrev pub FindsAt : Vault → SeenMoves → Holders → ℕ → Option Law → SeenMoves → Holders → Type 0
+FindsAt v seen k id found after next = Finds v seen k (entry_of v id) (settings_of v id) (tenures_of v id) found after next
 
-abbrev FindsOf : Vault → SeenMoves → Option History → Option Law → SeenMoves → Type 0
-FindsOf v seen o found after =
-    Finds v seen (option_map (λ h. h.entry) o) (unwrap_or (option_map (λ h. h.settings) o) []) (unwrap_or (option_map (λ h. h.tenures) o) []) found after
+abbrev FindsOf : Vault → SeenMoves → Holders → Option History → Option Law → SeenMoves → Holders → Type 0
+FindsOf v seen k o found after next =
+    Finds v seen k (option_map (λ h. h.entry) o) (unwrap_or (option_map (λ h. h.settings) o) []) (unwrap_or (option_map (λ h. h.tenures) o) []) found after next
 
-finds_its : (v : Vault) (seen after : SeenMoves) (i id : ℕ) (found : Option Law) (o : Option History) → Sound v → i + 1 ≡ id → slice_get v.histories i ≡ o → FindsAt v seen id found after → FindsOf v seen o found after
-finds_its v seen after i id found o sound same is finds =
-    let P : Option History → Type 0 = λ p. FindsOf v seen p found after in
+finds_its : (v : Vault) (seen after : SeenMoves) (k next : Holders) (i id : ℕ) (found : Option Law) (o : Option History) → Sound v → i + 1 ≡ id → slice_get v.histories i ≡ o → FindsAt v seen k id found after next → FindsOf v seen k o found after next
+finds_its v seen after k next i id found o sound same is finds =
+    let P : Option History → Type 0 = λ p. FindsOf v seen k p found after next in
     subst P (history_at v i id sound same ∙ is) finds
 
-pub left_stops : (v : Vault) (from most : ℕ) (seen after : SeenMoves) (i id : ℕ) (found : Option Law) (l : Law) → Sound v → most ≤ length v.histories - from → i < most → from + (i + 1) ≡ id
-    → FindsAt v seen id found after → found ≡ Some l → left_from v from most seen i ≡ Some (record { id = id; law = l })
-left_stops v from most seen after i id found l sound within below same finds some = by (slice_get hs i) refl
-  where
-    hs : List History
-    hs = range v from most
+-- the history at a place of the range, and what the code found of it
+record IsAtPlace (v : Vault) (from most : ℕ) (seen : SeenMoves) (k : Holders) (i id : ℕ) (found : Option Law) (after : SeenMoves) (next : Holders) : Type 0 where
+  h : History
+  at : drop i (range v from most) ≡ h ∷ drop (suc i) (range v from most)
+  own : h.entry.id ≡ id
+  timely : IsTimely h
+  finds : FindsOf v seen k (Some h) found after next
 
-    low : i < length hs
+at_its_place : (v : Vault) (from most : ℕ) (seen after : SeenMoves) (k next : Holders) (i id : ℕ) (found : Option Law) → Sound v → most ≤ length v.histories - from → i < most → from + (i + 1) ≡ id
+    → FindsAt v seen k id found after next → IsAtPlace v from most seen k i id found after next
+at_its_place v from most seen after k next i id found sound within below same finds = by (slice_get (range v from most) i) refl
+  where
+    low : i < length (range v from most)
     low = omega (arith, below, length_of v from most within)
 
-    by : (o : Option History) → slice_get hs i ≡ o → left_from v from most seen i ≡ Some (record { id = id; law = l })
-    by None is = absurd (no_history hs i low is)
+    by : (o : Option History) → slice_get (range v from most) i ≡ o → IsAtPlace v from most seen k i id found after next
+    by None is = absurd (no_history (range v from most) i low is)
     by (Some h) is =
         let there = sym (in_range v from most i below) ∙ is in
-        let its = finds_its v seen after (from + i) id found (Some h) sound (omega (arith, same)) there finds in
-        let own : h.entry.id ≡ id = omega (arith, own_id 1 (from + i) v.histories h sound.ids there, same) in
-        one_on v (seen_of seen) hs i low
-        ∙ (ap (λ (o : Option History). with_rest v (seen_of seen) o (drop (suc i) hs)) is
-        ∙ (ap (λ (o : Option Law). breach_or h.entry.id o (first_breach_after v (seen_after (seen_of seen) h.entry.bucket h.tenures) (drop (suc i) hs))) (sym its.0 ∙ some)
-        ∙ ap (λ (n : ℕ). Some (record { id = n; law = l })) own))
+        record {
+          h = h;
+          at = drop_is (range v from most) i h is;
+          own = omega (arith, own_id 1 (from + i) v.histories h sound.ids there, same);
+          timely = timely v h (All-get (HasTenures v) v.histories (from + i) h sound.tenured there);
+          finds = finds_its v seen after k next (from + i) id found (Some h) sound (omega (arith, same)) there finds;
+        }
 
-pub left_goes_on : (v : Vault) (from most : ℕ) (seen after : SeenMoves) (i id : ℕ) (found : Option Law) → Sound v → most ≤ length v.histories - from → i < most → from + (i + 1) ≡ id
-    → FindsAt v seen id found after → found ≡ None → left_from v from most seen i ≡ left_from v from most after (i + 1)
-left_goes_on v from most seen after i id found sound within below same finds none = by (slice_get hs i) refl
+-- the code finds what the history breaks
+finds_breach : (v : Vault) (seen after : SeenMoves) (k next : Holders) (before : List History) (h : History) (found : Option Law) → IsTimely h → AreBy h.entry.admitted before → Knows k before → FindsOf v seen k (Some h) found after next → breach v (seen_of seen) before h ≡ found
+finds_breach v seen after k next before h found timely by knows finds =
+    sym (finds.0 ∙ ap (λ b. broken (rule_tests v h.entry h.settings h.tenures ++ (move_tests (seen_of seen) h.entry.bucket h.tenures ++ test b law.Department ∷ []))) (same_test k before h timely by knows))
+
+pub left_stops : (v : Vault) (from most : ℕ) (seen after : SeenMoves) (k next : Holders) (i id : ℕ) (found : Option Law) (l : Law) (first : Option Breach) → Sound v → most ≤ length v.histories - from → i < most → from + (i + 1) ≡ id
+    → FindsAt v seen k id found after next → found ≡ Some l → IsLeft v from most seen k i first → first ≡ Some (record { id = id; law = l })
+left_stops v from most seen after k next i id found l first sound within below same finds some left =
+    let place = at_its_place v from most seen after k next i id found sound within below same finds in
+    let h = place.h in
+    let rest = drop (suc i) (range v from most) in
+    let order : AreBefore left.before (h ∷ rest) = subst (λ (hs : List History). AreBefore left.before hs) place.at left.order in
+    let broke = finds_breach v seen after k next left.before h found place.timely order.0 left.knows place.finds in
+    left.rest
+    ∙ (ap (λ (hs : List History). first_breach_after v (seen_of seen) left.before hs) place.at
+    ∙ (ap (λ (o : Option Law). breach_or h.entry.id o (first_breach_after v (seen_after (seen_of seen) h.entry.bucket h.tenures) (h ∷ left.before) rest)) (broke ∙ some)
+    ∙ ap (λ (n : ℕ). Some (record { id = n; law = l })) place.own))
+
+rest_none : (b : Bool) (l : Law) (rest : Option Law) → (if b then rest else Some l) ≡ None → rest ≡ None
+rest_none true l rest e = e
+rest_none false l rest e = absurd (cc e)
+
+last_passes : (b : Bool) (l : Law) (one two : List Test) → broken (one ++ (two ++ test b l ∷ [])) ≡ None → b ≡ true
+last_passes b l [] [] e = by b e
   where
-    hs : List History
-    hs = range v from most
+    by : (c : Bool) → (if c then None else Some l) ≡ None → c ≡ true
+    by true e = refl
+    by false e = absurd (cc e)
+last_passes b l [] (t ∷ ts) e = last_passes b l [] ts (rest_none t.passes t.law (broken (ts ++ test b l ∷ [])) e)
+last_passes b l (t ∷ ts) two e = last_passes b l ts two (rest_none t.passes t.law (broken (ts ++ (two ++ test b l ∷ []))) e)
 
-    low : i < length hs
-    low = omega (arith, below, length_of v from most within)
+pub left_goes_on : (v : Vault) (from most : ℕ) (seen after : SeenMoves) (k next : Holders) (i id : ℕ) (found : Option Law) (first : Option Breach) → Sound v → most ≤ length v.histories - from → i < most → from + (i + 1) ≡ id
+    → FindsAt v seen k id found after next → found ≡ None → IsLeft v from most seen k i first → IsLeft v from most after next (i + 1) first
+left_goes_on v from most seen after k next i id found first sound within below same finds none left =
+    let place = at_its_place v from most seen after k next i id found sound within below same finds in
+    let h = place.h in
+    let rest = drop (suc i) (range v from most) in
+    let order : AreBefore left.before (h ∷ rest) = subst (λ (hs : List History). AreBefore left.before hs) place.at left.order in
+    let broke = finds_breach v seen after k next left.before h found place.timely order.0 left.knows place.finds in
+    let agree = last_passes (agrees_with left.before h) law.Department (rule_tests v h.entry h.settings h.tenures) (move_tests (seen_of seen) h.entry.bucket h.tenures) (broke ∙ none) in
+    let later : Sorted (h ∷ rest) = subst (λ (hs : List History). Sorted hs) place.at (Sorted-drop i (range v from most) (sorted_range v from most sound)) in
+    let step : suc i ≡ i + 1 = omega arith in
+    let one : IsLeft v from most after next (suc i) first = record {
+      before = h ∷ left.before;
+      knows = knows_next k next left.before h place.timely order.0 left.knows agree (place.finds.2 none);
+      order = All-both (IsLater h) (λ g. AreBy g.entry.admitted left.before) (λ g. AreBy g.entry.admitted (h ∷ left.before)) (λ g a b. (a, b)) rest later.0 order.1;
+      rest = left.rest
+          ∙ (ap (λ (hs : List History). first_breach_after v (seen_of seen) left.before hs) place.at
+          ∙ (ap (λ (o : Option Law). breach_or h.entry.id o (first_breach_after v (seen_after (seen_of seen) h.entry.bucket h.tenures) (h ∷ left.before) rest)) (broke ∙ none)
+          ∙ first-same v (seen_after (seen_of seen) h.entry.bucket h.tenures) (seen_of after) (h ∷ left.before) rest (λ n. sym (place.finds.1 none n))));
+    } in
+    subst (λ n. IsLeft v from most after next n first) step one
 
-    by : (o : Option History) → slice_get hs i ≡ o → left_from v from most seen i ≡ left_from v from most after (i + 1)
-    by None is = absurd (no_history hs i low is)
-    by (Some h) is =
-        let there = sym (in_range v from most i below) ∙ is in
-        let its = finds_its v seen after (from + i) id found (Some h) sound (omega (arith, same)) there finds in
-        let next : suc i ≡ i + 1 = omega arith in
-        one_on v (seen_of seen) hs i low
-        ∙ (ap (λ (o : Option History). with_rest v (seen_of seen) o (drop (suc i) hs)) is
-        ∙ (ap (λ (o : Option Law). breach_or h.entry.id o (first_breach_after v (seen_after (seen_of seen) h.entry.bucket h.tenures) (drop (suc i) hs))) (sym its.0 ∙ none)
-        ∙ (first-same v (seen_after (seen_of seen) h.entry.bucket h.tenures) (seen_of after) (drop (suc i) hs) (λ n. sym (its.1 none n))
-        ∙ ap (λ k. left_from v from most after k) next)))
-
-pub left_none : (v : Vault) (from most : ℕ) (seen : SeenMoves) (i : ℕ) → most ≤ length v.histories - from → most ≤ i → left_from v from most seen i ≡ None
-left_none v from most seen i within le =
+pub left_none : (v : Vault) (from most : ℕ) (seen : SeenMoves) (k : Holders) (i : ℕ) (first : Option Breach) → most ≤ length v.histories - from → most ≤ i → IsLeft v from most seen k i first → first ≡ None
+left_none v from most seen k i first within le left =
     let high : length (range v from most) ≤ i = omega (arith, le, length_of v from most within) in
-    ap (λ (hs : List History). first_breach_after v (seen_of seen) hs) (drop_all i (range v from most) high)
+    left.rest ∙ ap (λ (hs : List History). first_breach_after v (seen_of seen) left.before hs) (drop_all i (range v from most) high)
+
+nothing_before : (hs : List History) → AreBefore [] hs
+nothing_before [] = tt
+nothing_before (h ∷ hs) = (tt, nothing_before hs)
+
+with_registrar : (b : Bool) (o : Option Breach) (other : Breach) → b ≡ true → (if b then o else Some other) ≡ o
+with_registrar true o other e = refl
+with_registrar false o other e = absurd (cc e)
+
+pub without_registrar : (v : Vault) (from most : ℕ) → has_registrar v ≡ false → range_breach v from most ≡ Some (record { id = 1; law = law.Registrar })
+without_registrar v from most e = rw e refl
 
 -- before the walk nothing was seen
-pub left_first : (v : Vault) (from most : ℕ) (seen : SeenMoves) → ((n : ℕ) → seen_of seen n ≡ None) → first_breach_after v none_seen (range v from most) ≡ left_from v from most seen 0
-left_first v from most seen none = first-same v none_seen (seen_of seen) (range v from most) (λ n. sym (none n))
+pub left_first : (v : Vault) (from most : ℕ) (seen : SeenMoves) (k : Holders) → has_registrar v ≡ true → ((n : ℕ) → seen_of seen n ≡ None) → ((name : List ℕ) → holder_of k name ≡ None) → IsLeft v from most seen k 0 (range_breach v from most)
+left_first v from most seen k registrar none nobody = record {
+  before = [];
+  knows = knows_none k nobody;
+  order = nothing_before (range v from most);
+  rest = with_registrar (has_registrar v) (first_breach_after v none_seen [] (range v from most)) (record { id = 1; law = law.Registrar }) registrar
+      ∙ first-same v none_seen (seen_of seen) [] (range v from most) (λ n. sym (none n));
+}
 
 pub its_id : (b : Bool) (n id : ℕ) (o : Option ℕ) → o ≡ (if b then Some n else None) → o ≡ Some id → n ≡ id
 its_id true n id o new some = cc (sym new ∙ some)

@@ -77,18 +77,15 @@ share_is from begin to end e = by_order (nat_le from begin) refl
 abbrev FitsIn : ℕ → Option ℕ → List ℕ → List Tenure → Option ℕ → Type 0
 FitsIn from to dept ts end = (s : ℕ) (other : List ℕ) → from ≤ s → IsBefore s to → WasOf ts end s other → dept ≡ other
 
+tenure_parts : (from : ℕ) (to : Option ℕ) (dept : List ℕ) (t : Tenure) (ts : List Tenure) (end : Option ℕ) → tenure_fits from to dept (t ∷ ts) end ≡ true → ((not (share from to t.from (until ts end)) || bytes_eq dept t.dept) ≡ true) × (tenure_fits from to dept ts end ≡ true)
+tenure_parts from to dept t ts end e = and_parts (not (share from to t.from (until ts end)) || bytes_eq dept t.dept) (tenure_fits from to dept ts end) e
+
 fits_is : (from : ℕ) (to : Option ℕ) (dept : List ℕ) (ts : List Tenure) (end : Option ℕ) → tenure_fits from to dept ts end ≡ true → FitsIn from to dept ts end
 fits_is from to dept [] end e s other a b was = absurd was
-fits_is from to dept (t ∷ ts) end e s other a b was = by_place was
-  where
-    parts : ((not (share from to t.from (until ts end)) || bytes_eq dept t.dept) ≡ true) × (tenure_fits from to dept ts end ≡ true)
-    parts = and_parts (not (share from to t.from (until ts end)) || bytes_eq dept t.dept) (tenure_fits from to dept ts end) e
-
-    by_place : ((t.from ≤ s) × IsBefore s (until ts end) × (t.dept ≡ other)) ⊎ WasOf ts end s other → dept ≡ other
-    by_place (inl here) =
-        let same = implied (share from to t.from (until ts end)) (bytes_eq dept t.dept) parts.0 (shared from s t.from to (until ts end) a b here.0 here.1) in
-        (bytes_eq-Decides dept t.dept).0 same ∙ here.2
-    by_place (inr later) = fits_is from to dept ts end parts.1 s other a b later
+fits_is from to dept (t ∷ ts) end e s other a b (inl here) =
+    let same = implied (share from to t.from (until ts end)) (bytes_eq dept t.dept) (tenure_parts from to dept t ts end e).0 (shared from s t.from to (until ts end) a b here.0 here.1) in
+    (bytes_eq-Decides dept t.dept).0 same ∙ here.2
+fits_is from to dept (t ∷ ts) end e s other a b (inr later) = fits_is from to dept ts end (tenure_parts from to dept t ts end e).1 s other a b later
 
 is_fits : (from : ℕ) (to : Option ℕ) (dept : List ℕ) (ts : List Tenure) (end : Option ℕ) → FitsIn from to dept ts end → tenure_fits from to dept ts end ≡ true
 is_fits from to dept [] end fits = refl
@@ -107,14 +104,10 @@ Fit ts own others end = (s : ℕ) (dept other : List ℕ) → WasOf ts own s dep
 
 pub fit_is : (ts : List Tenure) (own : Option ℕ) (others : List Tenure) (end : Option ℕ) → tenures_fit ts own others end ≡ true → Fit ts own others end
 fit_is [] own others end e s dept other was had = absurd was
-fit_is (t ∷ ts) own others end e s dept other was had = by_place was
-  where
-    parts : (tenure_fits t.from (until ts own) t.dept others end ≡ true) × (tenures_fit ts own others end ≡ true)
-    parts = and_parts (tenure_fits t.from (until ts own) t.dept others end) (tenures_fit ts own others end) e
-
-    by_place : ((t.from ≤ s) × IsBefore s (until ts own) × (t.dept ≡ dept)) ⊎ WasOf ts own s dept → dept ≡ other
-    by_place (inl here) = sym here.2 ∙ fits_is t.from (until ts own) t.dept others end parts.0 s other here.0 here.1 had
-    by_place (inr later) = fit_is ts own others end parts.1 s dept other later had
+fit_is (t ∷ ts) own others end e s dept other (inl here) had =
+    sym here.2 ∙ fits_is t.from (until ts own) t.dept others end (and_parts (tenure_fits t.from (until ts own) t.dept others end) (tenures_fit ts own others end) e).0 s other here.0 here.1 had
+fit_is (t ∷ ts) own others end e s dept other (inr later) had =
+    fit_is ts own others end (and_parts (tenure_fits t.from (until ts own) t.dept others end) (tenures_fit ts own others end) e).1 s dept other later had
 
 pub is_fit : (ts : List Tenure) (own : Option ℕ) (others : List Tenure) (end : Option ℕ) → Fit ts own others end → tenures_fit ts own others end ≡ true
 is_fit [] own others end fit = refl

@@ -1,13 +1,14 @@
 -- What the judgements of all parts say of a vault.
-use Rattle.std.proofs.Common.{◌≡◌, ℕ, zero, suc, List, [], ◌∷◌, ◌++◌, length, take, drop, Some, None, sym, subst}
+use Rattle.std.proofs.Common.{◌≡◌, ℕ, zero, suc, List, [], ◌∷◌, ◌++◌, length, take, drop, true, Some, None, sym, subst}
 use Rattle.std.specs.List.{AllByRecursion}
 use Rattle.vault_core_model.specs.declared.records.History.{History}
 use Rattle.vault_core_model.specs.Vault.{Vault}
 use Rattle.vault_core_evidence.specs.Breaches.{first_breach}
-use Rattle.vault_core_evidence.specs.Lawful.{IsLawful}
+use Rattle.vault_core_evidence.specs.Departments.{Agree, AllAgree}
+use Rattle.vault_core_evidence.specs.Lawful.{IsLawful, has_registrar}
 use Rattle.vault_core_evidence.specs.Moves.{IsByMove}
 use Rattle.vault_core_evidence.specs.Parts.{LawfulAfter, most_of, next_of, part, part_breach}
-use Rattle.vault_core_evidence.proofs.FirstBreach.{first-lawful, first-moves, list-lawful, lawful-list}
+use Rattle.vault_core_evidence.proofs.FirstBreach.{first-departments, first-lawful, first-moves, first-registrar, list-agrees, list-lawful, list-registrar, lawful-list}
 use Rattle.vault_core_evidence.proofs.PartLemmas.{part-and-rest, part-is-rest}
 
 All-append : {X : Type 0} (P : X → Type 0) (xs ys : List X) → AllByRecursion P xs → AllByRecursion P ys → AllByRecursion P (xs ++ ys)
@@ -33,6 +34,19 @@ pub last-lawful : (v : Vault) (after : ℕ) → next_of (length v.histories) aft
 last-lawful v after is none =
     subst (λ (hs : List History). AllByRecursion (IsLawful v) hs) (sym (part-is-rest v after is)) (list-lawful v (part after v) none)
 
+Agree-take : (n : ℕ) (hs : List History) → AllAgree hs → AllAgree (take n hs)
+Agree-take zero hs all = tt
+Agree-take (suc n) [] all = tt
+Agree-take (suc n) (h ∷ hs) all = (All-take (Agree h) n hs all.0, Agree-take n hs all.1)
+
+Agree-drop : (n : ℕ) (hs : List History) → AllAgree hs → AllAgree (drop n hs)
+Agree-drop zero hs all = all
+Agree-drop (suc n) [] all = tt
+Agree-drop (suc n) (h ∷ hs) all = Agree-drop n hs all.1
+
+pub part-agrees : (v : Vault) (after : ℕ) → part_breach after v ≡ None → AllAgree (part after v) × (has_registrar v ≡ true)
+part-agrees v after none = (list-agrees v (part after v) none, list-registrar v (part after v) none)
+
 pub part-clean : (v : Vault) (after : ℕ) → first_breach v ≡ None → part_breach after v ≡ None
 part-clean v after none =
     let most = most_of (length v.histories) after in
@@ -41,3 +55,5 @@ part-clean v after none =
     lawful-list v agree.0 (part after v)
     (All-take (IsLawful v) most (drop after v.histories) (All-drop (IsLawful v) after v.histories (first-lawful v none)))
     (All-take ByMoves most (drop after v.histories) (All-drop ByMoves after v.histories agree.1))
+    (Agree-take most (drop after v.histories) (Agree-drop after v.histories (first-departments v none)))
+    (first-registrar v none)

@@ -13,11 +13,14 @@ use Rattle.vault_core_model.specs.Sound.{HasTenures, HasTenuresAs, IsWhole, IsWh
 use Rattle.vault_core_model.specs.Vault.{Vault, history_of, last_lock}
 use Rattle.vault_core_evidence.specs.declared.breach.Law.{Law}
 use Rattle.vault_core_evidence.specs.declared.breach.Law.TheVariants as law
+use Rattle.vault_core_evidence.specs.declared.holders.Holders.{Holders}
 use Rattle.vault_core_evidence.specs.declared.seen_moves.SeenMoves.{SeenMoves}
-use Rattle.vault_core_evidence.specs.Moves.{Sees, seen_of}
+use Rattle.vault_core_evidence.specs.Departments.{removed_at}
+use Rattle.vault_core_evidence.specs.Holders.{SeesVersion, holder_of}
+use Rattle.vault_core_evidence.specs.Moves.{Sees, seen_after, seen_of}
 use Rattle.vault_core_evidence.specs.Lawful.{last_at}
 use Rattle.vault_core_evidence.specs.Breaches.{Test, broken, end_tests, is_admitted, move_tests, rule_tests, settings_tests, test}
-use Rattle.vault_core_evidence.specs.Walk.{Finds, FindsMoves}
+use Rattle.vault_core_evidence.specs.Walk.{Finds, FindsDepartments, FindsMoves, holder_after, holder_tests}
 use Rattle.vault_core_evidence.proofs.Tests.{stops, goes_on}
 
 -- ---- a marker has no settings and no tenures
@@ -73,6 +76,13 @@ pub tenures_fail : (s after : SeenMoves) (bucket : List ℕ) (ts : List Tenure) 
 tenures_fail s after bucket ts passes sees failed =
     (sym (ap (λ b. broken (test b law.Move ∷ [])) (sym sees.0 ∙ failed)), λ e. absurd (cc e))
 
+not_none : {X : Type 0} (found : Option Law) → is_some found ≡ true → found ≡ None → X
+not_none found some none = let Q : Option Law → Type 0 = λ l. is_some l ≡ true in absurd (cc (subst Q none some))
+
+is_none : (o : Option Law) → is_some o ≡ false → o ≡ None
+is_none None e = refl
+is_none (Some l) e = absurd (cc e)
+
 -- ---- all of it
 
 after_admission : (b : Bool) (ts : List Test) → b ≡ true → broken (test b law.Admission ∷ ts) ≡ broken ts
@@ -102,19 +112,45 @@ its_rules v mid e slice ss row ts found same is tenures one =
     one ∙ (ap (λ w. broken (rule_tests w e slice row)) same ∙ (ap (λ xs. broken (rule_tests v e xs row)) is ∙ ap (λ us. broken (rule_tests v e ss us)) tenures))
 
 -- what an entry breaks, where it is there and has these settings and tenures
-pub finds_rule : (v mid : Vault) (s after : SeenMoves) (o : Option Entry) (e : Entry) (slice ss : List Setting) (row ts : List Tenure) (found : Option Law) → mid ≡ v → o ≡ Some e → slice ≡ ss → row ≡ ts → found ≡ broken (rule_tests mid e slice row) → is_some found ≡ true → Finds v s o ss ts found after
-finds_rule v mid s after o e slice ss row ts found same its is tenures one some =
-    let P : Option Entry → Type 0 = λ p. Finds v s p ss ts found after in
-    let Q : Option Law → Type 0 = λ l. is_some l ≡ true in
+pub finds_rule : (v mid : Vault) (s seen : SeenMoves) (k holders : Holders) (o : Option Entry) (e : Entry) (slice ss : List Setting) (row ts : List Tenure) (found : Option Law) → mid ≡ v → o ≡ Some e → slice ≡ ss → row ≡ ts → found ≡ broken (rule_tests mid e slice row) → is_some found ≡ true → Finds v s k o ss ts found seen holders
+finds_rule v mid s seen k holders o e slice ss row ts found same its is tenures one some =
+    let P : Option Entry → Type 0 = λ p. Finds v s k p ss ts found seen holders in
     let own : found ≡ broken (rule_tests v e ss ts) = its_rules v mid e slice ss row ts found same is tenures one in
-    subst P (sym its) (stops (rule_tests v e ss ts) (move_tests (seen_of s) e.bucket ts) found own some, λ none. absurd (cc (subst Q none some)))
+    subst P (sym its) (stops (rule_tests v e ss ts) (move_tests (seen_of s) e.bucket ts ++ holder_tests k e ts) found own some, λ none. not_none found some none, λ none. not_none found some none)
 
-finds_moves : (v : Vault) (s after : SeenMoves) (o : Option Entry) (e : Entry) (ss : List Setting) (ts : List Tenure) (found rest : Option Law) → o ≡ Some e → found ≡ broken (rule_tests v e ss ts) → is_some found ≡ false → FindsMoves s e.bucket ts rest after → Finds v s o ss ts rest after
-finds_moves v s after o e ss ts found rest its one none moves =
-    let P : Option Entry → Type 0 = λ p. Finds v s p ss ts rest after in
-    subst P (sym its) (goes_on (rule_tests v e ss ts) (move_tests (seen_of s) e.bucket ts) found rest one none moves.0, moves.1)
+-- nothing by itself, but a move
+finds_beside : (v : Vault) (s seen : SeenMoves) (k holders : Holders) (o : Option Entry) (e : Entry) (ss : List Setting) (ts : List Tenure) (found rest : Option Law) → o ≡ Some e → found ≡ broken (rule_tests v e ss ts) → is_some found ≡ false → rest ≡ broken (move_tests (seen_of s) e.bucket ts ++ holder_tests k e ts)
+    → (rest ≡ None → (n : ℕ) → seen_of seen n ≡ seen_after (seen_of s) e.bucket ts n) → (rest ≡ None → (name : List ℕ) → holder_of holders name ≡ holder_after k e ts name) → Finds v s k o ss ts rest seen holders
+finds_beside v s seen k holders o e ss ts found rest its one none beside moves next =
+    let P : Option Entry → Type 0 = λ p. Finds v s k p ss ts rest seen holders in
+    subst P (sym its) (goes_on (rule_tests v e ss ts) (move_tests (seen_of s) e.bucket ts ++ holder_tests k e ts) found rest one none beside, moves, next)
 
-pub finds_all : (v mid : Vault) (s after : SeenMoves) (o : Option Entry) (e : Entry) (slice ss : List Setting) (row again ts : List Tenure) (found rest : Option Law) → mid ≡ v → o ≡ Some e → slice ≡ ss → row ≡ ts → again ≡ ts → found ≡ broken (rule_tests mid e slice row) → is_some found ≡ false → FindsMoves s e.bucket again rest after → Finds v s o ss ts rest after
-finds_all v mid s after o e slice ss row again ts found rest same its is tenures those one none moves =
-    let P : List Tenure → Type 0 = λ xs. FindsMoves s e.bucket xs rest after in
-    finds_moves v s after o e ss ts found rest its (its_rules v mid e slice ss row ts found same is tenures one) none (subst P those moves)
+pub finds_move : (v mid : Vault) (s seen : SeenMoves) (k holders : Holders) (o : Option Entry) (e : Entry) (slice ss : List Setting) (row again ts : List Tenure) (found rest : Option Law) → mid ≡ v → o ≡ Some e → slice ≡ ss → row ≡ ts → again ≡ ts → found ≡ broken (rule_tests mid e slice row) → is_some found ≡ false → FindsMoves s e.bucket again rest seen → is_some rest ≡ true → Finds v s k o ss ts rest seen holders
+finds_move v mid s seen k holders o e slice ss row again ts found rest same its is tenures those one none moves some =
+    let P : List Tenure → Type 0 = λ xs. FindsMoves s e.bucket xs rest seen in
+    let own = subst P those moves in
+    finds_beside v s seen k holders o e ss ts found rest its (its_rules v mid e slice ss row ts found same is tenures one) none
+    (stops (move_tests (seen_of s) e.bucket ts) (holder_tests k e ts) rest own.0 some) (λ none. not_none rest some none) (λ none. not_none rest some none)
+
+pub finds_all : (v mid : Vault) (s seen : SeenMoves) (k holders : Holders) (o : Option Entry) (e : Entry) (slice ss : List Setting) (row again all ts : List Tenure) (found move rest : Option Law) → mid ≡ v → o ≡ Some e → slice ≡ ss → row ≡ ts → again ≡ ts → all ≡ ts → found ≡ broken (rule_tests mid e slice row) → is_some found ≡ false → FindsMoves s e.bucket again move seen → is_some move ≡ false → FindsDepartments k e all rest holders → Finds v s k o ss ts rest seen holders
+finds_all v mid s seen k holders o e slice ss row again all ts found move rest same its is tenures those these one none moves passed departments =
+    let P : List Tenure → Type 0 = λ xs. FindsMoves s e.bucket xs move seen in
+    let Q : List Tenure → Type 0 = λ xs. FindsDepartments k e xs rest holders in
+    let own = subst P those moves in
+    let beside = subst Q these departments in
+    finds_beside v s seen k holders o e ss ts found rest its (its_rules v mid e slice ss row ts found same is tenures one) none
+    (goes_on (move_tests (seen_of s) e.bucket ts) (holder_tests k e ts) move rest own.0 passed beside.0) (λ none. own.1 (is_none move passed)) beside.1
+
+-- ---- its department
+
+pub department_passes : (k after : Holders) (e : Entry) (ts : List Tenure) (end : Option ℕ) (passes : Bool) → end ≡ removed_at e → SeesVersion k e.bucket ts end passes after → passes ≡ true → FindsDepartments k e ts None after
+department_passes k after e ts end passes at sees passed =
+    let P : Option ℕ → Type 0 = λ o. SeesVersion k e.bucket ts o passes after in
+    let own = subst P at sees in
+    (sym (ap (λ b. broken (test b law.Department ∷ [])) (sym own.0 ∙ passed)), λ e. own.1 passed)
+
+pub department_fails : (k after : Holders) (e : Entry) (ts : List Tenure) (end : Option ℕ) (passes : Bool) → end ≡ removed_at e → SeesVersion k e.bucket ts end passes after → passes ≡ false → FindsDepartments k e ts (Some law.Department) after
+department_fails k after e ts end passes at sees failed =
+    let P : Option ℕ → Type 0 = λ o. SeesVersion k e.bucket ts o passes after in
+    let own = subst P at sees in
+    (sym (ap (λ b. broken (test b law.Department ∷ [])) (sym own.0 ∙ failed)), λ e. absurd (cc e))

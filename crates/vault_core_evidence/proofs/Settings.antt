@@ -1,9 +1,10 @@
 -- Settings one after another, and the last of them.
 use Rattle.std.proofs.Common.{◌≡◌, ◌∙◌, ℕ, ◌+◌, ◌-◌, ◌≤◌, ◌<◌, List, [], ◌∷◌, length, drop, get_or, true, false, Option, Some, None, refl, sym, ap}
 use native.Mathlib.Numerals.{unary_clauses}
-use Rattle.std.specs.Prelude.{is_some}
+use Rattle.std.specs.Prelude.{IfOk, Result, Ok, Err, is_some}
 use Rattle.std.specs.List.{slice_get}
 use Rattle.std.proofs.lemmas.List.{drop_all, drop_more}
+use Rattle.vault_core_model.specs.declared.halt.Fault.{Fault}
 use Rattle.vault_core_model.specs.declared.records.Author.{Author}
 use Rattle.vault_core_model.specs.declared.records.Setting.{Setting}
 use Rattle.vault_core_model.specs.Vault.{Vault, last_lock}
@@ -66,3 +67,7 @@ pub first_goes_on : (v mid : Vault) (admitted : ℕ) (by : Author) (ss : List Se
 first_goes_on v mid admitted by ss first later found rest same split one none others =
     goes_on (first_tests v admitted by first) (after_tests v first later) found rest one none (others ∙ ap (λ w. broken (after_tests w first later)) same)
     ∙ sym (ap (λ xs. broken (settings_tests v admitted by xs)) split)
+
+pub first_goes_on_if : (v mid : Vault) (admitted : ℕ) (by : Author) (ss : List Setting) (first : Setting) (later : List Setting) (found : Option Law) (r : Result (Option Law) Fault) → mid ≡ v → ss ≡ first ∷ later → found ≡ broken (first_tests v admitted by first) → is_some found ≡ false → IfOk r (λ rest. rest ≡ broken (after_tests mid first later)) → IfOk r (λ rest. rest ≡ broken (settings_tests v admitted by ss))
+first_goes_on_if v mid admitted by ss first later found (Ok rest) same split one none others = first_goes_on v mid admitted by ss first later found rest same split one none others
+first_goes_on_if v mid admitted by ss first later found (Err f) same split one none others = tt

@@ -15,10 +15,10 @@ ghost use Rattle.vault_core_worm_laws.specs.Worm.{Worm};
 ghost use Rattle.vault_core_evidence.specs.declared.seen_moves.Move.{Move};
 ghost use Rattle.vault_core_evidence.specs.Breaches.{breach, first_breach};
 ghost use Rattle.vault_core_evidence.specs.Events.{events_before};
-ghost use Rattle.vault_core_evidence.specs.Departments.{Agree, DepartmentsAgree};
+ghost use Rattle.vault_core_evidence.specs.Departments.{Agree, AllAgree, DepartmentsAgree};
 ghost use Rattle.vault_core_evidence.specs.Lawful.{IsLawful, Lawful, has_registrar};
 ghost use Rattle.vault_core_evidence.specs.Moves.{MovesAgree, are_as_seen};
-ghost use Rattle.vault_core_evidence.specs.Parts.{LawfulAfter, next_of, part_breach};
+ghost use Rattle.vault_core_evidence.specs.Parts.{LawfulAfter, next_of, part, part_breach};
 
 /// Over any run from a sound vault, what happened before a moment that isn't past its last one stays what it
 /// was. So it does over each change that a vault allows, permitted or not.
@@ -79,5 +79,6 @@ pub fn parts_are_judged()
     ensures whole { (v : Vault) → LawfulAfter 0 v → Lawful v }
     ensures next { (v : Vault) (after next : ℕ) → next_of (length v.histories) after ≡ Some next → part_breach after v ≡ None → LawfulAfter next v → LawfulAfter after v }
     ensures last { (v : Vault) (after : ℕ) → next_of (length v.histories) after ≡ None → part_breach after v ≡ None → LawfulAfter after v }
+    ensures agree { (v : Vault) (after : ℕ) → part_breach after v ≡ None → AllAgree (part after v) × IsTrue (has_registrar v) }
     ensures clean { (v : Vault) (after : ℕ) → first_breach v ≡ None → part_breach after v ≡ None }
 {}

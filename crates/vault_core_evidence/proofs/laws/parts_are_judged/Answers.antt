@@ -1,4 +1,4 @@
-use Rattle.vault_core_evidence.proofs.JudgedParts.{last-lawful, next-lawful, part-clean}
+use Rattle.vault_core_evidence.proofs.JudgedParts.{last-lawful, next-lawful, part-agrees, part-clean}
 use Rattle.vault_core_evidence.proofs.laws.parts_are_judged.Goals as goal
 
 pub returns-clause-whole : goal.returns-clause-whole
@@ -9,6 +9,9 @@ returns-clause-next c = next-lawful
 
 pub returns-clause-last : goal.returns-clause-last
 returns-clause-last c = last-lawful
+
+pub returns-clause-agree : goal.returns-clause-agree
+returns-clause-agree c = part-agrees
 
 pub returns-clause-clean : goal.returns-clause-clean
 returns-clause-clean c = part-clean
