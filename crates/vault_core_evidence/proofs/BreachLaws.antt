@@ -34,10 +34,9 @@ use Rattle.vault_core_worm_laws.proofs.LockChanges.{Retained, retainable-is, is-
 use Rattle.vault_core_evidence.specs.Departments.{Agree}
 use Rattle.vault_core_evidence.specs.Lawful.{EndsAfter, IsLawfulFirst, AreLawfulAfter, AreLawful, IsOfDepartment, department_of, last_at, IsLawfulEnd, IsLawful}
 use Rattle.vault_core_evidence.specs.declared.breach.Law.{Law}
-use Rattle.vault_core_evidence.specs.declared.breach.Law.TheVariants as law
 use Rattle.vault_core_evidence.specs.declared.seen_moves.Move.{Move}
 use Rattle.vault_core_evidence.specs.Moves.{are_as_seen}
-use Rattle.vault_core_evidence.specs.Breaches.{Test, test, broken, same_bool, ends_after, same_retention, gives, retains_by, retains, holds, is_permitted, is_by_right, is_admitter, is_author, is_of_department, is_permitted_removal, is_remover, first_tests, next_tests, after_tests, settings_tests, end_tests, rule_tests, move_tests, department_tests, tests, breach}
+use Rattle.vault_core_evidence.specs.Breaches.{Test, broken, same_bool, ends_after, same_retention, gives, retains_by, retains, holds, is_permitted, is_by_right, is_admitter, is_author, is_of_department, is_permitted_removal, is_remover, first_tests, next_tests, after_tests, settings_tests, end_tests, rule_tests, move_tests, department_tests, tests, breach}
 use Rattle.vault_core_evidence.proofs.DepartmentTests.{agrees_is, is_agrees}
 
 -- ---- tests and lists of them

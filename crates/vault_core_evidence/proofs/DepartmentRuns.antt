@@ -1,21 +1,19 @@
 -- In every vault that is reached versions of one bucket agree on its department, and the caller of a new vault is there.
-use Rattle.std.proofs.Common.{◌≡◌, ◌⊎◌, ◌∙◌, ℕ, ◌+◌, ◌≤◌, ◌<◌, ◌==◌, List, [], ◌∷◌, ◌++◌, map, Bool, true, false, Option, Some, None, refl, sym, ap, subst, inl, inr, arith, eqb}
-use Rattle.std.specs.Prelude.{nat_le, find, not, ◌&&◌, is_none, option_map, if◌then◌else◌, IsTrue, unwrap_or}
-use Rattle.std.specs.List.{AllByRecursion, last_or}
+use Rattle.std.proofs.Common.{◌≡◌, ◌⊎◌, ◌∙◌, ℕ, ◌≤◌, ◌<◌, ◌==◌, List, [], ◌∷◌, ◌++◌, map, Bool, true, false, Option, Some, None, refl, sym, ap, subst, inl, inr, arith, eqb}
+use Rattle.std.specs.Prelude.{nat_le, find, not, ◌&&◌, is_none, option_map, if◌then◌else◌}
+use Rattle.std.specs.List.{AllByRecursion}
 use Rattle.std.specs.Str.{bytes_eq}
 use Rattle.std.proofs.lemmas.Bool.{and_parts, leb-true}
 use Rattle.std.proofs.lemmas.Slice.Eq.{bytes_eq-Decides}
 use Rattle.vault_core_model.specs.declared.change.Change.{Change}
 use Rattle.vault_core_model.specs.declared.change.Change.TheVariants.{AddDept, AddCaller, CloseCaller, AddBucket, MoveBucket, SetDefault, SetRules, Admit, AddSetting, Remove}
 use Rattle.vault_core_model.specs.declared.records.BucketConfig.{BucketConfig}
-use Rattle.vault_core_model.specs.declared.records.Caller.{Caller}
-use Rattle.vault_core_model.specs.declared.records.Entry.{Entry}
 use Rattle.vault_core_model.specs.declared.records.History.{History}
 use Rattle.vault_core_model.specs.declared.records.Removal.{Removal}
 use Rattle.vault_core_model.specs.declared.records.Setting.{Setting}
 use Rattle.vault_core_model.specs.declared.records.Tenure.{Tenure}
 use Rattle.vault_core_model.specs.Places.{is_held, is_held_in, is_held_version_in}
-use Rattle.vault_core_model.specs.Vault.{Vault, caller_of, config_of, opening, registrar, registrar_name}
+use Rattle.vault_core_model.specs.Vault.{Vault, config_of, opening, registrar, registrar_name}
 use Rattle.vault_core_model.specs.Change.{changed, next_tenure, removed_by, removed_if, tenured_by, tenured_if, with_setting}
 use Rattle.vault_core_model.specs.Sound.{AreTenures, FollowOn, HasTenures, HasTenuresAs, IsInTime, IsWithBucket, LiesBetween, Sound, end_of, last_tenure}
 use Rattle.vault_core_model.specs.Allowed.{HasFirstTenure, IsHeldId}
@@ -26,7 +24,7 @@ use Rattle.vault_core_laws.proofs.Newest.{finds_itself}
 use Rattle.vault_core_worm_laws.specs.Chains.{MayMake}
 use Rattle.vault_core_worm_laws.proofs.Kept.{by_own_id, held-found}
 use Rattle.vault_core_worm_laws.proofs.Reached.{IsRun-keeps, Sound-opening, run-callers}
-use Rattle.vault_core_evidence.specs.Departments.{IsBefore, until, WasOf, removed_at, Agree, AllAgree, DepartmentsAgree}
+use Rattle.vault_core_evidence.specs.Departments.{WasOf, removed_at, Agree, AllAgree, DepartmentsAgree}
 use Rattle.vault_core_evidence.specs.Lawful.{has_registrar, is_registrar}
 
 -- ---- one department of each bucket in each second
@@ -262,23 +260,29 @@ AreOf-changed v t who (AddDept name) sound are may = are
 AreOf-changed v t who (AddCaller c) sound are may = are
 AreOf-changed v t who (CloseCaller name) sound are may = are
 AreOf-changed v t who (AddBucket name dept) sound are may = are
-AreOf-changed v t who (MoveBucket name dept) sound are may =
-    (from_then are.0 name t dept, All-map (IsSoundOne v) (IsOf are.0) (IsOf (from_then are.0 name t dept)) (tenured_if name (next_tenure v t dept))
-        (λ h one of. moved_one v are.0 t name dept h may.in_time one of) v.histories (sound_ones v sound) are.1)
+AreOf-changed v t who (MoveBucket name dept) sound are may = (
+  from_then are.0 name t dept,
+  All-map (IsSoundOne v) (IsOf are.0) (IsOf (from_then are.0 name t dept)) (tenured_if name (next_tenure v t dept))
+      (λ h one of. moved_one v are.0 t name dept h may.in_time one of) v.histories (sound_ones v sound) are.1,
+)
 AreOf-changed v t who (SetDefault name default) sound are may = are
 AreOf-changed v t who (SetRules name rules) sound are may = are
 AreOf-changed v t who (Admit a) sound are may =
     let bucket = a.history.entry.bucket in
     let dept = may.allowed.bucket.dept in
-    let owners = from_then are.0 bucket t dept in
-    (owners, All-push (IsOf owners) v.histories a.history
-        (All-both (IsSoundOne v) (IsOf are.0) (IsOf owners) (λ h one of. kept_one v are.0 t bucket dept h may.in_time one (λ own here is. own_then v bucket may.allowed.bucket h own may.allowed.placed here is) of) v.histories (sound_ones v sound) are.1)
-        (new_one are.0 t dept a.history a.history.entry.marker may.allowed.tenured))
+    let owners = from_then are.0 bucket t dept in (
+      owners,
+      All-push (IsOf owners) v.histories a.history
+          (All-both (IsSoundOne v) (IsOf are.0) (IsOf owners) (λ h one of. kept_one v are.0 t bucket dept h may.in_time one (λ own here is. own_then v bucket may.allowed.bucket h own may.allowed.placed here is) of) v.histories (sound_ones v sound) are.1)
+          (new_one are.0 t dept a.history a.history.entry.marker may.allowed.tenured),
+    )
 AreOf-changed v t who (AddSetting id s) sound are may =
     (are.0, each (IsOf are.0) (IsOf are.0) (with_setting id s) (λ h of. set_one are.0 id s h of) v.histories are.1)
-AreOf-changed v t who (Remove id r) sound are may =
-    (are.0, All-map (λ h. find (λ g. g.entry.id == h.entry.id) v.histories ≡ Some h) (IsOf are.0) (IsOf are.0) (removed_if id r)
-        (λ h itself of. removed_one v are.0 id r h may.allowed.held itself of) v.histories (finds_itself 1 v.histories sound.ids) are.1)
+AreOf-changed v t who (Remove id r) sound are may = (
+  are.0,
+  All-map (λ h. find (λ g. g.entry.id == h.entry.id) v.histories ≡ Some h) (IsOf are.0) (IsOf are.0) (removed_if id r)
+      (λ h itself of. removed_one v are.0 id r h may.allowed.held itself of) v.histories (finds_itself 1 v.histories sound.ids) are.1,
+)
 
 pub reached-Departments : (v : Vault) → Reached v → DepartmentsAgree v
 reached-Departments v reached =

@@ -1,5 +1,5 @@
 -- What the test of departments says.
-use Rattle.std.proofs.Common.{◌≡◌, ◌⊎◌, ℕ, ◌≤◌, ◌<◌, ◌&&◌, List, [], ◌∷◌, Bool, true, false, Option, Some, None, refl, sym, ap, subst, ◌∙◌, inl, inr, arith}
+use Rattle.std.proofs.Common.{◌≡◌, ℕ, ◌≤◌, ◌<◌, ◌&&◌, List, [], ◌∷◌, Bool, true, false, Option, Some, None, refl, sym, ◌∙◌, inl, inr, arith}
 use Rattle.std.specs.Prelude.{not, ◌||◌, nat_lt, nat_le}
 use Rattle.std.specs.List.{AllByRecursion}
 use Rattle.std.specs.Str.{bytes_eq}
@@ -92,8 +92,8 @@ is_fits from to dept [] end fits = refl
 is_fits from to dept (t ∷ ts) end fits =
     and_of (not (share from to t.from (until ts end)) || bytes_eq dept t.dept) (tenure_fits from to dept ts end)
     (implies (share from to t.from (until ts end)) (bytes_eq dept t.dept) (λ on.
-        let it = share_is from t.from to (until ts end) on in
-        (bytes_eq-Decides dept t.dept).1 (fits it.s t.dept it.after it.before (inl (it.begun, it.ends, refl)))))
+    let it = share_is from t.from to (until ts end) on in
+    (bytes_eq-Decides dept t.dept).1 (fits it.s t.dept it.after it.before (inl (it.begun, it.ends, refl)))))
     (is_fits from to dept ts end (λ s other a b was. fits s other a b (inr was)))
 
 -- ---- all tenures
@@ -127,8 +127,8 @@ agree_is h g e bucket s dept other was had =
 pub is_agree : (h g : History) → Agree h g → agree h g ≡ true
 is_agree h g agrees =
     implies (bytes_eq h.entry.bucket g.entry.bucket) (tenures_fit g.tenures (removed_at g.entry) h.tenures (removed_at h.entry)) (λ same.
-        is_fit g.tenures (removed_at g.entry) h.tenures (removed_at h.entry) (λ s dept other was had.
-            sym (agrees ((bytes_eq-Decides h.entry.bucket g.entry.bucket).0 same) s other dept had was)))
+    is_fit g.tenures (removed_at g.entry) h.tenures (removed_at h.entry) (λ s dept other was had.
+    sym (agrees ((bytes_eq-Decides h.entry.bucket g.entry.bucket).0 same) s other dept had was)))
 
 pub agrees_is : (before : List History) (h : History) → agrees_with before h ≡ true → AllByRecursion (λ g. Agree g h) before
 agrees_is [] h e = tt

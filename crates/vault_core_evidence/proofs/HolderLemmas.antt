@@ -7,7 +7,6 @@ use Rattle.std.specs.Str.{bytes_eq}
 use Rattle.std.proofs.lemmas.Bool.{leb-true, leb-false}
 use Rattle.std.proofs.lemmas.Map.Text.{is_eq-slice_cmp}
 use Rattle.std.proofs.lemmas.Slice.Eq.{bytes_eq-Decides}
-use Rattle.vault_core_model.specs.declared.records.Entry.{Entry}
 use Rattle.vault_core_model.specs.declared.records.History.{History}
 use Rattle.vault_core_model.specs.declared.records.Removal.{Removal}
 use Rattle.vault_core_model.specs.declared.records.Tenure.{Tenure}
@@ -16,10 +15,10 @@ use Rattle.vault_core_model.specs.Sound.{AreTenures, FollowOn, HasTenures, HasTe
 use Rattle.vault_core_model.specs.Vault.{Vault}
 use Rattle.vault_core_evidence.specs.declared.holders.Holder.{Holder}
 use Rattle.vault_core_evidence.specs.declared.holders.Holders.{Holders}
-use Rattle.vault_core_evidence.specs.Departments.{Agree, IsBefore, WasOf, agrees_with, removed_at, until}
-use Rattle.vault_core_evidence.specs.Holders.{fits_holder, holder_of, is_by, is_later, Keeps, longer, outlasts}
+use Rattle.vault_core_evidence.specs.Departments.{Agree, IsBefore, WasOf, agrees_with, removed_at}
+use Rattle.vault_core_evidence.specs.Holders.{fits_holder, holder_of, is_later, Keeps, longer, outlasts}
 use Rattle.vault_core_evidence.specs.Walk.{holder_after}
-use Rattle.vault_core_evidence.proofs.DepartmentTests.{agrees_is, earlier, fit_is, is_agrees, is_fit}
+use Rattle.vault_core_evidence.proofs.DepartmentTests.{agrees_is, fit_is, is_agrees, is_fit}
 
 if_cond : (b : Bool) (x y : Option Holder) → cond b x y ≡ (if b then x else y)
 if_cond true x y = refl
@@ -178,9 +177,9 @@ pub same_test : (k : Holders) (before : List History) (h : History) → IsTimely
 same_test k before h timely by knows =
     same_truth (fits_holder (holder_of k h.entry.bucket) h.tenures (removed_at h.entry)) (agrees_with before h)
     (λ e. is_agrees before h (all_agree before h (λ s dept other had was.
-        fits_is (holder_of k h.entry.bucket) h e s dept other ((known s other was).shows dept had) was)))
+    fits_is (holder_of k h.entry.bucket) h e s dept other ((known s other was).shows dept had) was)))
     (λ e. is_fits (holder_of k h.entry.bucket) h (λ s dept other had was.
-        agree_all before h (agrees_is before h e) s dept other ((known s other was).shown dept had) was))
+    agree_all before h (agrees_is before h e) s dept other ((known s other was).shown dept had) was))
   where
     known : (s : ℕ) (other : List ℕ) → WasOf h.tenures (removed_at h.entry) s other → IsKnown (holder_of k h.entry.bucket) before h.entry.bucket s
     known s other was = knows h.entry.bucket s (AreBy-later h.entry.admitted s before (timely.from s other was) by)

@@ -148,7 +148,7 @@ fn print_breach<W: Write>(alloc: Global, breach: &Breach, out: &mut W) -> Result
 fn shown(law: Law) -> &'static str {
     match law {
         Law::Admission => {
-            "who admitted it is no caller who may admit such an entry, or is not of the department that had its bucket then"
+            "who admitted it is no caller who may admit such an entry, or is not of the department that the entry names"
         }
         Law::FirstSetting => {
             "its first setting is of another moment or another caller than its admission, or by a bypass, or gives a retention that does not end after it"
@@ -162,6 +162,12 @@ fn shown(law: Law) -> &'static str {
         Law::Remover => "who removed it is no caller who may remove versions",
         Law::Move => {
             "a move of its bucket has another moment or another department than other entries show"
+        }
+        Law::Department => {
+            "its bucket was of another department in a second, as a version shows that was held then"
+        }
+        Law::Registrar => {
+            "the vault lacks the caller registrar of no department, with the right admin alone, that each vault begins with"
         }
     }
 }

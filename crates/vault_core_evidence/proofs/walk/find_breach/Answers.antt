@@ -1,8 +1,8 @@
-use Rattle.std.proofs.Common.{rules, ◌≡◌, ◌∙◌, ◌+◌, None, Option, sym, subst, arith}
+use Rattle.std.proofs.Common.{rules, ◌≡◌, ◌∙◌, ◌+◌, None, sym, subst, arith}
 use Rattle.vault_base.specs.Name.{is_version_id}
 use Rattle.vault_core_model.specs.Vault.{Vault}
 use Rattle.vault_core_evidence.specs.Parts.{range_breach}
-use Rattle.vault_core_evidence.proofs.ByIds.{FindsAt, its_id, left_goes_on, left_stops}
+use Rattle.vault_core_evidence.proofs.ByIds.{FindsAt, its_id, left_first, left_goes_on, left_stops}
 use Rattle.vault_core_evidence.proofs.walk.find_breach.Goals as goal
 
 pub returns-in-Some-2-clause-value : goal.returns-in-Some-2-clause-value
@@ -12,10 +12,17 @@ returns-in-Some-2-clause-value g c clean =
     let v = g.K.Kept.vault c.args.keeper.now in
     let P : Vault → Type 0 = λ w. FindsAt w c.loop-place.seen c.loop-place.holders c.in-Some-new.id c.in_ok-law.field-0 c.breach_of.new.seen c.breach_of.new.holders in
     let finds = subst P c.loop-place.invariant.leaves.same (c.in_ok-law.ensures.value clean) in
-    let id : c.in-Some.number ≡ c.in-Some-new.id = its_id (is_version_id c.in-Some.number) c.in-Some.number c.in-Some-new.id c.new-3.result c.new-3.ensures c.in-Some-new.is in
+    let id : c.in-Some.number ≡ c.in-Some-new.id = its_id (is_version_id c.in-Some.number) c.in-Some.number c.in-Some-new.id c.new.result c.new.ensures c.in-Some-new.is in
     let number : c.args.after + (c.loop-place.place + 1) ≡ c.in-Some-new.id = omega (arith, id, c.in-Some.ensures) in
     sym (left_stops v c.args.after c.args.most c.loop-place.seen c.breach_of.new.seen c.loop-place.holders c.breach_of.new.holders c.loop-place.place c.in-Some-new.id c.in_ok-law.field-0 c.in-Some-2.law (range_breach v c.args.after c.args.most) (g.K.Kept.sound _ first)
-        (c.requires.range first) c.loop-place-test.true number finds c.in-Some-2.is (c.loop-place.invariant.left before))
+    (c.requires.range first) c.loop-place-test.true number finds c.in-Some-2.is (c.loop-place.invariant.left before))
+
+pub loop-place-init : goal.loop-place-init
+loop-place-init g c = record {
+  leaves = search rules;
+  left = λ clean. left_first (g.K.Kept.vault c.args.keeper.now) c.args.after c.args.most c.new-seen.result c.new-holders.result
+      (sym (c.in_ok-has_registrar.ensures.value clean) ∙ c.if-not-branch.false) c.new-seen.ensures c.new-holders.ensures;
+}
 
 pub loop-place-preserved : goal.loop-place-preserved
 loop-place-preserved g c = record {
@@ -26,9 +33,9 @@ loop-place-preserved g c = record {
       let v = g.K.Kept.vault c.args.keeper.now in
       let P : Vault → Type 0 = λ w. FindsAt w c.loop-place.seen c.loop-place.holders c.in-Some-new.id c.in_ok-law.field-0 c.breach_of.new.seen c.breach_of.new.holders in
       let finds = subst P c.loop-place.invariant.leaves.same (c.in_ok-law.ensures.value clean) in
-      let id : c.in-Some.number ≡ c.in-Some-new.id = its_id (is_version_id c.in-Some.number) c.in-Some.number c.in-Some-new.id c.new-3.result c.new-3.ensures c.in-Some-new.is in
+      let id : c.in-Some.number ≡ c.in-Some-new.id = its_id (is_version_id c.in-Some.number) c.in-Some.number c.in-Some-new.id c.new.result c.new.ensures c.in-Some-new.is in
       let number : c.args.after + (c.loop-place.place + 1) ≡ c.in-Some-new.id = omega (arith, id, c.in-Some.ensures) in
       let none : c.in_ok-law.field-0 ≡ None = search rules in
       left_goes_on v c.args.after c.args.most c.loop-place.seen c.breach_of.new.seen c.loop-place.holders c.breach_of.new.holders c.loop-place.place c.in-Some-new.id c.in_ok-law.field-0 (range_breach v c.args.after c.args.most) (g.K.Kept.sound _ first)
-          (c.requires.range first) c.loop-place-test.true number finds none (c.loop-place.invariant.left before);
+      (c.requires.range first) c.loop-place-test.true number finds none (c.loop-place.invariant.left before);
 }
