@@ -1,17 +1,19 @@
 """Whether commands can have made the history of each entry: the rules of locks, asked of each setting and each removal.
 
-A history is lawful where its author may admit such an entry and was of the department that had the bucket then, its
-first setting is of the admission and ends after it, each later setting was permitted over the one before it, its
-removal was permitted under the last one, callers had the rights that they needed, no moment goes back, and the tenures
-of one move are of one bucket, department and moment. It is asked of tables that fit together. A caller's rights and
-department are those that the file has: they never change, and no caller goes.
+A history is lawful where its author may admit such an entry and was of the department of its first tenure, its first
+setting is of the admission and ends after it, each later setting was permitted over the one before it, its removal was
+permitted under the last one, callers had the rights that they needed, no moment goes back, the tenures of one move are
+of one bucket, department and moment, and in each second it was of the department of the other versions of its bucket
+that were held then. The vault has the caller with whom each begins. It is asked of tables that fit together. A caller's
+rights and department are those that the file has: they never change, and no caller goes.
 """
 
+import math
 import sqlite3
 from typing import Iterator, NamedTuple, Optional
 
 from vault_recheck.vault import (
-    BY_BYPASS, BY_RULE, GOVERNANCE, Caller, Entry, History, Meta, Setting, Tenure, callers_of,
+    BY_BYPASS, BY_RULE, GOVERNANCE, RIGHTS, Caller, Entry, History, Meta, Setting, Tenure, callers_of,
     histories_of, meta_of, moment_text,
 )  # fmt: skip
 
@@ -165,11 +167,69 @@ class Moves:
                 )
 
 
+# ---- departments
+
+
+class Span(NamedTuple):
+    """A time in which a version shows that its bucket was of a department: from `begin` until before `end`."""
+
+    dept: str
+    begin: int
+    end: float
+    id: int
+
+
+def spans_of(entry: Entry, tenures: list[Tenure]) -> Iterator[Span]:
+    """A held version is its last department's for good, as a move would give it another tenure."""
+    ends = [*(it.since for it in tenures[1:]), math.inf if entry.removed is None else entry.removed]
+    for tenure, end in zip(tenures, ends):
+        if tenure.since < end:
+            yield Span(tenure.dept, tenure.since, end, entry.id)
+
+
+class Owners:
+    """Which department each bucket was of, as the versions so far show. They come by their admission, so what ended
+    before that of the next one isn't needed any more; times of one department that meet are kept as one."""
+
+    def __init__(self) -> None:
+        self.spans: dict[str, list[Span]] = {}
+
+    def breaches(self, entry: Entry, tenures: list[Tenure]) -> Iterator[tuple[str, str]]:
+        """In each second in which two versions of a bucket are held, they are of one department. What was within one
+        second isn't asked: a move may lie on either side of it."""
+        known = [it for it in self.spans.get(entry.bucket, []) if it.end > entry.admitted]
+        for span in spans_of(entry, tenures):
+            both = [it for it in known if it.begin < span.end and span.begin < it.end]
+            for other in both:
+                if other.dept != span.dept:
+                    when = moment_text(max(span.begin, other.begin))
+                    yield "department", f"it is of {span.dept} at {when}, and version {other.id} beside it of {other.dept}"
+            begin, end = min(it.begin for it in [span, *both]), max(it.end for it in [span, *both])
+            known = [*(it for it in known if it not in both), Span(span.dept, begin, end, span.id)]
+        self.spans[entry.bucket] = known
+
+
+def is_first_caller(caller: Optional[Caller]) -> bool:
+    """Whether a caller has no department and the right to administer alone, as the one of a new vault."""
+    return caller is not None and caller.dept is None and caller.rights == RIGHTS["admin"]
+
+
 # ---- all of it
 
 
-def breaches_of(callers: Callers, meta: Meta, moves: Moves, history: History) -> Iterator[tuple[str, str]]:
-    """What a history breaks, in the order in which the first is reported: from the admission to the end, then moves."""
+def last_shown(base: sqlite3.Connection) -> int:
+    """The last moment that an entry shows, as something happened to it then."""
+    moments = "SELECT admitted AS at FROM entries UNION ALL SELECT removed FROM entries"
+    others = "SELECT moment FROM settings UNION ALL SELECT moment FROM tenures"
+    (last,) = base.execute(f"SELECT coalesce(max(at), 0) FROM ({moments} UNION ALL {others})").fetchone()
+    return int(last)
+
+
+def breaches_of(
+    callers: Callers, meta: Meta, moves: Moves, owners: Owners, history: History
+) -> Iterator[tuple[str, str]]:
+    """What a history breaks, in the order in which the first is reported: from the admission to the end, then moves and
+    departments."""
     entry, settings = history.entry, history.settings
     yield from admission_breaches(callers, entry, history.tenures)
     for at, new in enumerate(settings):
@@ -179,12 +239,16 @@ def breaches_of(callers: Callers, meta: Meta, moves: Moves, history: History) ->
             yield from next_breaches(callers, settings[at - 1], new)
     yield from end_breaches(callers, meta, entry, settings[-1] if settings else None)
     yield from moves.breaches(entry, history.tenures)
+    yield from owners.breaches(entry, history.tenures)
 
 
 def first_breach(base: sqlite3.Connection) -> Optional[Breach]:
-    """The first entry by id whose history breaks a rule, and the first that it breaks."""
-    callers, meta, moves = callers_of(base), meta_of(base), Moves()
+    """The first entry by id whose history breaks a rule, and the first that it breaks. Without the caller with whom a
+    vault begins it is entry 1, also where no entry is there."""
+    callers, meta, moves, owners = callers_of(base), meta_of(base), Moves(), Owners()
+    if not is_first_caller(callers.get("registrar")):
+        return Breach(1, "registrar", "the vault has no caller registrar of no department with the right admin alone")
     for history in histories_of(base):
-        for rule, why in breaches_of(callers, meta, moves, history):
+        for rule, why in breaches_of(callers, meta, moves, owners, history):
             return Breach(history.entry.id, rule, why)
     return None

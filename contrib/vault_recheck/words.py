@@ -12,8 +12,8 @@ from vault_recheck.audit import audit
 from vault_recheck.coherent import contradictions
 from vault_recheck.compare import differences
 from vault_recheck.events import TooLate, check_seals, seals_of, write_events
-from vault_recheck.lawful import first_breach
-from vault_recheck.vault import Damaged, meta_of, moment_of, opened, say
+from vault_recheck.lawful import first_breach, last_shown
+from vault_recheck.vault import Damaged, meta_of, moment_of, moment_text, opened, say
 
 ABOUT = """Looks at a vault's file by itself, without the program that writes it.
 
@@ -83,9 +83,12 @@ def do_audit(words: argparse.Namespace) -> int:
 
 def do_lawful(words: argparse.Namespace) -> int:
     with audited(words.file, words.immutable) as base:
-        breach = first_breach(base)
+        breach, last, shown = first_breach(base), meta_of(base).last, last_shown(base)
     if breach is None:
-        print("lawful")
+        print("lawful", flush=True)
+        if shown < last:
+            known = moment_text(shown)
+            say(f"the vault's last change is of {moment_text(last)}, and the last that an entry shows of {known}")
         return 0
     print(f"unlawful {breach.id} {breach.rule}", flush=True)
     say(f"entry {breach.id}: {breach.why}")

@@ -132,7 +132,7 @@ department_stays v w false (author.Rule rule) ts keep is = absurd is
 department_stays v w true (author.Caller name) ts keep is = some_still v w name (department_of v name) refl is keep
 department_stays v w true (author.Rule rule) ts keep is = tt
 
-on : (v w : Vault) (h : History) → KeepsCallers v w → IsAdmittedSo v h → IsAdmittedSo w h
+pub on : (v w : Vault) (h : History) → KeepsCallers v w → IsAdmittedSo v h → IsAdmittedSo w h
 on v w h keep is = record { end = is.end; department = department_stays v w h.entry.marker h.entry.by h.tenures keep is.department }
 
 all_on : (v w : Vault) (hs : List History) → KeepsCallers v w → AllByRecursion (IsAdmittedSo v) hs → AllByRecursion (IsAdmittedSo w) hs
@@ -156,21 +156,21 @@ department-push v false (author.Rule rule) ts t is = absurd is
 department-push v true (author.Caller name) ts t is = is
 department-push v true (author.Rule rule) ts t is = tt
 
-one_set : (v : Vault) (id : ℕ) (s : Setting) (h : History) → IsAdmittedSo v h → IsAdmittedSo v (with_setting id s h)
+pub one_set : (v : Vault) (id : ℕ) (s : Setting) (h : History) → IsAdmittedSo v h → IsAdmittedSo v (with_setting id s h)
 one_set v id s h is =
     elim (eqb h.entry.id id) as (λ b. IsAdmittedSo v (if b then record h { settings = h.settings ++ s ∷ [] } else h)) [
       | true ↦ record { end = end-push h.entry.marker h.entry.admitted h.settings s is.end; department = is.department }
       | false ↦ is
     ]
 
-one_moved : (v : Vault) (bucket : List ℕ) (t : Tenure) (h : History) → IsAdmittedSo v h → IsAdmittedSo v (tenured_if bucket t h)
+pub one_moved : (v : Vault) (bucket : List ℕ) (t : Tenure) (h : History) → IsAdmittedSo v h → IsAdmittedSo v (tenured_if bucket t h)
 one_moved v bucket t h is =
     elim (is_held_version_in bucket h.entry) as (λ b. IsAdmittedSo v (if b then tenured_by t h else h)) [
       | true ↦ record { end = is.end; department = department-push v h.entry.marker h.entry.by h.tenures t is.department }
       | false ↦ is
     ]
 
-one_removed : (v : Vault) (id : ℕ) (r : Removal) (h : History) → IsAdmittedSo v h → IsAdmittedSo v (removed_if id r h)
+pub one_removed : (v : Vault) (id : ℕ) (r : Removal) (h : History) → IsAdmittedSo v h → IsAdmittedSo v (removed_if id r h)
 one_removed v id r h is =
     elim (eqb h.entry.id id) as (λ b. IsAdmittedSo v (if b then removed_by r h else h)) [
       | true ↦ record { end = is.end; department = is.department }

@@ -43,20 +43,20 @@ use Rattle.vault_core_evidence.proofs.Admissions.{HasEnd, IsAdmittedSo, reached-
 -- ---- what each permitted change keeps
 
 -- the first setting, but for the end of its retention
-record IsFirstSet (v : Vault) (admitted : ℕ) (by : Author) (s : Setting) : Type 0 where
-  now : s.at ≡ admitted
-  free : s.bypass ≡ false
-  first_by : IsFirstBy v by (s ∷ [])
+pub record IsFirstSet (v : Vault) (admitted : ℕ) (by : Author) (s : Setting) : Type 0 where
+  pub now : s.at ≡ admitted
+  pub free : s.bypass ≡ false
+  pub first_by : IsFirstBy v by (s ∷ [])
 
-abbrev AreSet : Vault → ℕ → Author → List Setting → Type 0
+abbrev pub AreSet : Vault → ℕ → Author → List Setting → Type 0
 AreSet v admitted by [] = Unit {0}
 AreSet v admitted by (s ∷ ss) = IsFirstSet v admitted by s × AreLawfulAfter v s ss
 
 -- a lawful history, but for that end and the department of who admitted it
-record KeepsRules (v : Vault) (h : History) : Type 0 where
-  admitter : IsAdmitter v h.entry.marker h.entry.by
-  settings : AreSet v h.entry.admitted h.entry.by h.settings
-  end : IsLawfulEnd v (last_at h.entry.admitted h.settings) (last_lock h.settings) h.entry.removal
+pub record KeepsRules (v : Vault) (h : History) : Type 0 where
+  pub admitter : IsAdmitter v h.entry.marker h.entry.by
+  pub settings : AreSet v h.entry.admitted h.entry.by h.settings
+  pub end : IsLawfulEnd v (last_at h.entry.admitted h.settings) (last_lock h.settings) h.entry.removal
 
 abbrev RulesAreKept : Vault → Type 0
 RulesAreKept v = AllByRecursion (KeepsRules v) v.histories
@@ -64,10 +64,10 @@ RulesAreKept v = AllByRecursion (KeepsRules v) v.histories
 -- ---- rights stay
 
 -- whoever has a right in v has it in w
-abbrev KeepsEach : Vault → Vault → Type 0
+abbrev pub KeepsEach : Vault → Vault → Type 0
 KeepsEach v w = (who : List ℕ) (r : Right) → HasRight v who r → HasRight w who r
 
-keeps_each : (v w : Vault) → KeepsCallers v w → KeepsEach v w
+pub keeps_each : (v w : Vault) → KeepsCallers v w → KeepsEach v w
 keeps_each v w keeps who r may = by_caller (caller_of v who) refl
   where
     by_caller : (o : Option Caller) → caller_of v who ≡ o → HasRight w who r
@@ -140,7 +140,7 @@ end-on v w from lock None keep le end = omega (arith, end, le)
 end-on v w from lock (Some r) keep le end =
     (end.0, omega (arith, end.1, le), under-on v w (guards lock r.at) r.cause keep end.2, caused-on v w r.cause keep end.3)
 
-lawful-on : (v w : Vault) (h : History) → KeepsEach v w → v.last ≤ w.last → KeepsRules v h → KeepsRules w h
+pub lawful-on : (v w : Vault) (h : History) → KeepsEach v w → v.last ≤ w.last → KeepsRules v h → KeepsRules w h
 lawful-on v w h keep le is = record {
   admitter = admitter-on v w h.entry.marker h.entry.by keep is.admitter;
   settings = settings-on v w h.entry.admitted h.entry.by h.settings keep is.settings;
@@ -172,7 +172,7 @@ marker_of v id h e found there version =
     let entry : h.entry ≡ e = cc same in
     ap (λ (x : Entry). x.marker) entry ∙ version
 
-setting_added : (v w : Vault) (t id : ℕ) (who : List ℕ) (s : Setting) (h : History) → KeepsEach v w → v.last ≤ t → w.last ≡ t → IsNextSetting v t id s → IsHeldId v id → IsPermittedSetting v t who (lock_of v id) s → IsSetByRight v t (lock_of v id) s → find (λ g. g.entry.id == h.entry.id) v.histories ≡ Some h → IsWhole h → KeepsRules v h → KeepsRules w (with_setting id s h)
+pub setting_added : (v w : Vault) (t id : ℕ) (who : List ℕ) (s : Setting) (h : History) → KeepsEach v w → v.last ≤ t → w.last ≡ t → IsNextSetting v t id s → IsHeldId v id → IsPermittedSetting v t who (lock_of v id) s → IsSetByRight v t (lock_of v id) s → find (λ g. g.entry.id == h.entry.id) v.histories ≡ Some h → IsWhole h → KeepsRules v h → KeepsRules w (with_setting id s h)
 setting_added v w t id who s h keep le last next held permitted by own whole is = by_id (eqb h.entry.id id) refl
   where
     added : history_of v id ≡ Some h → KeepsRules w (record h { settings = h.settings ++ s ∷ [] })
@@ -203,7 +203,7 @@ setting_added v w t id who s h keep le last next held permitted by own whole is 
 
 -- ---- a removal
 
-removed_one : (v w : Vault) (t id : ℕ) (r : Removal) (h : History) → KeepsEach v w → v.last ≤ t → w.last ≡ t → r.at ≡ t → IsHeldId v id → IsPermittedUnder v (guards (lock_of v id) t) r.cause → IsCausedByRight v r.cause → find (λ g. g.entry.id == h.entry.id) v.histories ≡ Some h → KeepsRules v h → KeepsRules w (removed_if id r h)
+pub removed_one : (v w : Vault) (t id : ℕ) (r : Removal) (h : History) → KeepsEach v w → v.last ≤ t → w.last ≡ t → r.at ≡ t → IsHeldId v id → IsPermittedUnder v (guards (lock_of v id) t) r.cause → IsCausedByRight v r.cause → find (λ g. g.entry.id == h.entry.id) v.histories ≡ Some h → KeepsRules v h → KeepsRules w (removed_if id r h)
 removed_one v w t id r h keep le last now held may by own is = by_id (eqb h.entry.id id) refl
   where
     removed : history_of v id ≡ Some h → KeepsRules w (removed_by r h)
@@ -230,7 +230,7 @@ removed_one v w t id r h keep le last now held may by own is = by_id (eqb h.entr
 
 -- ---- a move
 
-moved_one : (v w : Vault) (bucket : List ℕ) (t : Tenure) (h : History) → KeepsEach v w → v.last ≤ w.last → KeepsRules v h → KeepsRules w (tenured_if bucket t h)
+pub moved_one : (v w : Vault) (bucket : List ℕ) (t : Tenure) (h : History) → KeepsEach v w → v.last ≤ w.last → KeepsRules v h → KeepsRules w (tenured_if bucket t h)
 moved_one v w bucket t h keep le is =
     elim (is_held_version_in bucket h.entry) as (λ b. KeepsRules w (if b then tenured_by t h else h)) [
       | true ↦ (let on = lawful-on v w h keep le is in record { admitter = on.admitter; settings = on.settings; end = on.end })
@@ -263,10 +263,10 @@ stay : (v w : Vault) (hs : List History) → KeepsEach v w → v.last ≤ w.last
 stay v w hs keep le all = All-weaker (KeepsRules v) (KeepsRules w) (λ h is. lawful-on v w h keep le is) hs all
 
 -- a history is found by its own id, and is whole
-abbrev IsOwn : Vault → History → Type 0
+abbrev pub IsOwn : Vault → History → Type 0
 IsOwn v h = (find (λ g. g.entry.id == h.entry.id) v.histories ≡ Some h) × IsWhole h
 
-own : (v : Vault) → Sound v → AllByRecursion (IsOwn v) v.histories
+pub own : (v : Vault) → Sound v → AllByRecursion (IsOwn v) v.histories
 own v sound =
     All-both (λ h. find (λ g. g.entry.id == h.entry.id) v.histories ≡ Some h) IsWhole (IsOwn v) (λ h p q. (p, q)) v.histories (finds_itself 1 v.histories sound.ids) sound.whole
 
@@ -319,7 +319,7 @@ are_lawful v h true is whole end all =
     let P : List Setting → Type 0 = λ ss. AreLawful v h.entry.admitted h.entry.by ss in subst P (sym (bare h h.entry.marker is whole)) tt
 are_lawful v h false is whole end all = versions_set v h.entry.admitted h.entry.by h.settings end all
 
-lawful_one : (v : Vault) (h : History) → IsWhole h × IsAdmittedSo v h → KeepsRules v h → IsLawful v h
+pub lawful_one : (v : Vault) (h : History) → IsWhole h × IsAdmittedSo v h → KeepsRules v h → IsLawful v h
 lawful_one v h is keeps = record {
   admitter = keeps.admitter;
   department = is.1.department;

@@ -17,3 +17,4 @@ pub mod JudgedParts
 pub mod DepartmentTests
 pub mod HolderLemmas
 pub mod DepartmentRuns
+pub mod LawfulStays

@@ -1,5 +1,5 @@
 //! Laws of histories. Each is the contract of a public function that does nothing.
-ghost use Rattle.std.specs.Prelude.{◌≡◌, ◌≤◌, ℕ, List, length, Option, Some, None, IsTrue, true};
+ghost use Rattle.std.specs.Prelude.{◌≡◌, ◌≤◌, ◌+◌, ℕ, List, length, Option, Some, None, IsTrue, true};
 ghost use Rattle.std.specs.List.{AllByRecursion};
 ghost use Rattle.vault_core_model.specs.declared.change.Change.{Change};
 ghost use Rattle.vault_core_model.specs.declared.command.Timed.{Timed};
@@ -18,7 +18,7 @@ ghost use Rattle.vault_core_evidence.specs.Events.{events_before};
 ghost use Rattle.vault_core_evidence.specs.Departments.{Agree, AllAgree, DepartmentsAgree};
 ghost use Rattle.vault_core_evidence.specs.Lawful.{IsLawful, Lawful, has_registrar};
 ghost use Rattle.vault_core_evidence.specs.Moves.{MovesAgree, are_as_seen};
-ghost use Rattle.vault_core_evidence.specs.Parts.{LawfulAfter, next_of, part, part_breach};
+ghost use Rattle.vault_core_evidence.specs.Parts.{LawfulAfter, next_of, part, part_breach, range};
 
 /// Over any run from a sound vault, what happened before a moment that isn't past its last one stays what it
 /// was. So it does over each change that a vault allows, permitted or not.
@@ -74,11 +74,14 @@ pub fn breaches_are_decided()
 
 /// Parts of a vault are judged, each after the id that the one before it names. Where none of them has a breach, every
 /// history is lawful; and where the vault has none, no part has one. That tenures of one number agree, and versions of one
-/// bucket, shows within a part alone, and not between two.
+/// bucket, shows within a part alone, and not between two. What was lawful stays so over any run, so commands may go on
+/// between the parts.
 pub fn parts_are_judged()
     ensures whole { (v : Vault) → LawfulAfter 0 v → Lawful v }
     ensures next { (v : Vault) (after next : ℕ) → next_of (length v.histories) after ≡ Some next → part_breach after v ≡ None → LawfulAfter next v → LawfulAfter after v }
     ensures last { (v : Vault) (after : ℕ) → next_of (length v.histories) after ≡ None → part_breach after v ≡ None → LawfulAfter after v }
     ensures agree { (v : Vault) (after : ℕ) → part_breach after v ≡ None → AllAgree (part after v) × IsTrue (has_registrar v) }
+    ensures stays { (v w : Vault) (commands : List Timed) (replies : List Reply) (after most : ℕ) →
+        Sound v → IsRun v commands replies w → after + most ≤ length v.histories → AllByRecursion (IsLawful v) (range v after most) → AllByRecursion (IsLawful w) (range w after most) }
     ensures clean { (v : Vault) (after : ℕ) → first_breach v ≡ None → part_breach after v ≡ None }
 {}

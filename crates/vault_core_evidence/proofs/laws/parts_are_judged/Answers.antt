@@ -1,4 +1,5 @@
 use Rattle.vault_core_evidence.proofs.JudgedParts.{last-lawful, next-lawful, part-agrees, part-clean}
+use Rattle.vault_core_evidence.proofs.LawfulStays.{run-lawful}
 use Rattle.vault_core_evidence.proofs.laws.parts_are_judged.Goals as goal
 
 pub returns-clause-whole : goal.returns-clause-whole
@@ -12,6 +13,9 @@ returns-clause-last c = last-lawful
 
 pub returns-clause-agree : goal.returns-clause-agree
 returns-clause-agree c = part-agrees
+
+pub returns-clause-stays : goal.returns-clause-stays
+returns-clause-stays c = run-lawful
 
 pub returns-clause-clean : goal.returns-clause-clean
 returns-clause-clean c = part-clean
