@@ -117,7 +117,7 @@ def looks_lawful(file: pathlib.Path, name: str) -> None:
     check(answers_alike(file, name) == "sound", f"{name} isn't sound")
     for it in ("lawful", "coherent"):
         found = recheck(it, file)
-        check(found == Ran(0, f"{it}\n", ""), f"{name}: {found}")
+        check(found[:2] == (0, f"{it}\n"), f"{name}: {found}")
     removed = [it.split(",")[0] for it in recheck("events", file).out.splitlines() if it.split(",")[1] == "removed"]
     register = [it.split(",")[0] for it in printed("register", file).splitlines()[1:]]
     check(removed == register, f"{name}: the events have the removals of {removed}, the register of {register}")
@@ -241,6 +241,15 @@ class Words(Case):
             check((ran.out, ran.status) == answer, f"{given}: wanted {answer}, got {ran}")
             check(ran.status == 0 or ran.err, f"{given}: no word on standard error")
         check(vault.read_bytes() == before, "a file that was read has changed")
+
+    def test_last(self) -> None:
+        """Where no entry shows the last moment, `lawful` says both it and the last that one shows."""
+        file, shown = self.folder / "vault", "2024-03-20T09:00:00Z"
+        shutil.copyfile(honest(), file)
+        check(recheck("lawful", file) == Ran(0, "lawful\n", ""), "something is said of the honest vault")
+        carry_out(file, ["UPDATE meta SET last = unixepoch('2096-10-02 07:06:40')"])
+        wanted = f"the vault's last change is of 2096-10-02T07:06:40Z, and the last that an entry shows of {shown}\n"
+        check(recheck("lawful", file) == Ran(0, "lawful\n", wanted), f"the last moments: {recheck('lawful', file)}")
 
     def test_seals(self) -> None:
         """Each seal is of the text that `events` prints for its moment."""

@@ -203,7 +203,8 @@ class Owners:
             for other in both:
                 if other.dept != span.dept:
                     when = moment_text(max(span.begin, other.begin))
-                    yield "department", f"it is of {span.dept} at {when}, and version {other.id} beside it of {other.dept}"
+                    beside = f"version {other.id} beside it of {other.dept}"
+                    yield "department", f"it is of {span.dept} at {when}, and {beside}"
             begin, end = min(it.begin for it in [span, *both]), max(it.end for it in [span, *both])
             known = [*(it for it in known if it not in both), Span(span.dept, begin, end, span.id)]
         self.spans[entry.bucket] = known
