@@ -148,7 +148,10 @@ def _checked_sentences(checked: Checked, found: Sequence[Event]) -> Iterator[str
     if checked.breach:
         yield f"Rules: {checked.breach}. No commands of the vault can have made this history."
     else:
-        yield "Rules: lawful. Each lock and each removal keeps the rules, and its caller had the right to it."
+        yield (
+            "Rules: lawful. Each lock and each removal keeps the rules, and its caller had the right to it, "
+            "but that a retention that a version came with may be a default."
+        )
     for it in checked.contradictions[:MOST_CONTRADICTIONS]:
         yield f"Together: not coherent. {it[0].upper()}{it[1:]}."
     if not checked.contradictions:
@@ -174,7 +177,8 @@ def _shown_sentences(checked: Checked) -> Iterator[str]:
         return
     yield (
         "That the file has this history of the version; that its tables fit together; and that each lock and each "
-        "removal in it keeps the rules and was made by a caller who had the right to it, as the file has callers."
+        "removal in it keeps the rules and was made by a caller who had the right to it, as the file has callers; a "
+        "retention that a version came with may be a default."
     )
     if checked.sealed:
         yield (

@@ -3,9 +3,10 @@ use Rattle.std.proofs.Common.{◌≡◌, ℕ, zero, suc, ◌+◌, ◌-◌, ◌�
 use Rattle.std.specs.Prelude.{if◌then◌else◌, find, option_map, unwrap_or, ◌==◌, slice_get}
 use Rattle.std.specs.List.{AllByRecursion}
 use Rattle.std.proofs.lemmas.List.{drop_all}
+use Rattle.vault_core_model.specs.declared.records.Caller.{Caller}
 use Rattle.vault_core_model.specs.declared.records.History.{History}
 use Rattle.vault_core_model.specs.Reads.{entry_of, settings_of, tenures_of}
-use Rattle.vault_core_model.specs.Vault.{Vault, history_of}
+use Rattle.vault_core_model.specs.Vault.{Vault, caller_of, history_of, registrar_name}
 use Rattle.vault_core_model.specs.Sound.{AreIdsFrom, AreInOrder, HasTenures, Sound}
 use Rattle.vault_core_laws.proofs.Lists.{All-both}
 use Rattle.vault_core_evidence.specs.declared.breach.Breach.{Breach}
@@ -16,7 +17,7 @@ use Rattle.vault_core_evidence.specs.declared.seen_moves.Move.{Move}
 use Rattle.vault_core_evidence.specs.declared.seen_moves.SeenMoves.{SeenMoves}
 use Rattle.vault_core_evidence.specs.Departments.{agrees_with}
 use Rattle.vault_core_evidence.specs.Holders.{holder_of}
-use Rattle.vault_core_evidence.specs.Lawful.{has_registrar}
+use Rattle.vault_core_evidence.specs.Lawful.{has_registrar, is_registrar}
 use Rattle.vault_core_evidence.specs.Moves.{none_seen, seen_after, seen_of}
 use Rattle.vault_core_evidence.specs.Parts.{range, range_breach}
 use Rattle.vault_core_evidence.specs.Breaches.{Test, test, broken, breach, breach_or, department_tests, first_breach_after, move_tests, rule_tests}
@@ -253,6 +254,10 @@ nothing_before (h ∷ hs) = (tt, nothing_before hs)
 with_registrar : (b : Bool) (o : Option Breach) (other : Breach) → b ≡ true → (if b then o else Some other) ≡ o
 with_registrar true o other e = refl
 with_registrar false o other e = absurd (cc e)
+
+-- whether the caller of a new vault is there, as the code looks it up
+pub registrar_is : (v : Vault) (name : List ℕ) (o : Option Caller) (is : Bool) → name ≡ registrar_name → o ≡ caller_of v name → is ≡ is_registrar o → has_registrar v ≡ is
+registrar_is v name o is named found looked = sym (looked ∙ (ap is_registrar found ∙ ap (λ n. is_registrar (caller_of v n)) named))
 
 pub without_registrar : (v : Vault) (from most : ℕ) → has_registrar v ≡ false → range_breach v from most ≡ Some (record { id = 1; law = law.Registrar })
 without_registrar v from most e = rw e refl

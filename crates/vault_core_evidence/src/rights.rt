@@ -2,14 +2,14 @@
 ghost use Rattle.std.specs.Prelude.{◌≡◌, ℕ, List, IfOk};
 ghost use Rattle.vault_base.specs.declared.right.Right.TheVariants as right;
 ghost use Rattle.vault_core_model.specs.Leaves.{ReadsAs};
-ghost use Rattle.vault_core_model.specs.Vault.{Vault, caller_of};
+ghost use Rattle.vault_core_model.specs.Vault.{Vault, caller_of, registrar_name};
 ghost use Rattle.vault_core_worm_laws.specs.Bypass.{has_bypass};
 ghost use Rattle.vault_core_worm_laws.specs.Entitled.{has_right};
 ghost use Rattle.vault_core_model.specs.declared.records.Author.TheVariants as authors;
 ghost use Rattle.vault_core_evidence.specs.Breaches as spec;
-ghost use Rattle.vault_core_evidence.specs.Lawful.{has_registrar, is_registrar};
+ghost use Rattle.vault_core_evidence.specs.Lawful.{is_registrar};
 
-use std::alloc::Global;
+use std::alloc::{AllocError, Global};
 use vault_base::name::CallerName;
 use vault_base::right::Right;
 use vault_core_model::halt::Fault;
@@ -107,7 +107,7 @@ pub(crate) fn is_admitted<K: Keeper>(
 }
 
 /// Whether the caller has no department, and the right to administer alone.
-fn is_first_caller(caller: &Option<Caller>) -> bool
+pub(crate) fn is_first_caller(caller: &Option<Caller>) -> bool
     ensures { result ≡ is_registrar caller.now }
 {
     match caller {
@@ -119,14 +119,11 @@ fn is_first_caller(caller: &Option<Caller>) -> bool
     }
 }
 
-/// Whether the vault has the caller whom a new vault has.
-pub(crate) fn has_registrar<K: Keeper>(alloc: Global, keeper: &mut K) -> Result<bool, Fault>
-    ensures value { K.is_honest keeper.new → IfOk result (λ has. has ≡ has_registrar (K.vault keeper.old)) }
-    ensures leaves { ReadsAs K.Kept keeper.old keeper.new result }
+/// The name of the caller whom a new vault has.
+pub(crate) fn registrar_name(alloc: Global) -> Result<CallerName, AllocError>
+    ensures { IfOk result (λ name. name ≡ registrar_name) }
 {
-    let name = CallerName::read(alloc, "registrar")?.unwrap();
-    let caller = keeper.caller(&name)?;
-    Ok(is_first_caller(&caller))
+    Ok(CallerName::read(alloc, "registrar")?.unwrap())
 }
 
 /// Whether the author is the caller of that name.

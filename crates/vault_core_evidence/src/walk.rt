@@ -12,7 +12,7 @@ use crate::breach::{Breach, Law};
 use crate::history::rule_breach;
 use crate::holders::Holders;
 use crate::parts::{count_entries, most_of, next_of};
-use crate::rights::has_registrar;
+use crate::rights::{is_first_caller, registrar_name};
 use crate::seen_moves::SeenMoves;
 use std::alloc::{AllocError, Global};
 use vault_base::moment::Moment;
@@ -149,7 +149,9 @@ fn find_breach<K: Keeper>(
     ensures value { K.is_honest keeper.new → IfOk result (λ found. found ≡ range_breach (K.vault keeper.old) after most) }
     ensures leaves { ReadsAs K.Kept keeper.old keeper.new result }
 {
-    if !has_registrar(alloc, keeper)? {
+    let registrar = registrar_name(alloc)?;
+    let caller = keeper.caller(&registrar)?;
+    if !is_first_caller(&caller) {
         return without_registrar();
     }
     let mut seen = SeenMoves::new(alloc);

@@ -2,7 +2,7 @@ use Rattle.std.proofs.Common.{rules, ◌≡◌, ◌∙◌, ◌+◌, None, sym, s
 use Rattle.vault_base.specs.Name.{is_version_id}
 use Rattle.vault_core_model.specs.Vault.{Vault}
 use Rattle.vault_core_evidence.specs.Parts.{range_breach}
-use Rattle.vault_core_evidence.proofs.ByIds.{FindsAt, its_id, left_first, left_goes_on, left_stops}
+use Rattle.vault_core_evidence.proofs.ByIds.{FindsAt, its_id, left_first, left_goes_on, left_stops, registrar_is}
 use Rattle.vault_core_evidence.proofs.walk.find_breach.Goals as goal
 
 pub returns-in-Some-2-clause-value : goal.returns-in-Some-2-clause-value
@@ -21,7 +21,7 @@ pub loop-place-init : goal.loop-place-init
 loop-place-init g c = record {
   leaves = search rules;
   left = λ clean. left_first (g.K.Kept.vault c.args.keeper.now) c.args.after c.args.most c.new-seen.result c.new-holders.result
-      (sym (c.in_ok-has_registrar.ensures.value clean) ∙ c.if-not-branch.false) c.new-seen.ensures c.new-holders.ensures;
+      (registrar_is (g.K.Kept.vault c.args.keeper.now) c.in_ok-registrar.registrar c.in_ok-caller.caller c.is_first_caller.result c.in_ok-registrar.ensures (c.in_ok-caller.ensures.value clean) c.is_first_caller.ensures ∙ c.if-not-is_first_caller.false) c.new-seen.ensures c.new-holders.ensures;
 }
 
 pub loop-place-preserved : goal.loop-place-preserved
