@@ -21,7 +21,7 @@ use Rattle.vault_core_worm_laws.specs.Removals.{IsPermittedUnder}
 abbrev pub department_of : Vault → List ℕ → Option (List ℕ)
 department_of v who = option_and_then (λ c. c.dept) (caller_of v who)
 
--- A version was admitted by a caller of the department that had its bucket then, which its first tenure names. A marker has no tenure: it was admitted by a caller of any department, or by a rule.
+-- A version was admitted by a caller of the department that its first tenure names. A marker has no tenure: it was admitted by a caller of any department, or by a rule.
 abbrev pub IsOfDepartment : Vault → Bool → Author → List Tenure → Type 0
 IsOfDepartment v false (author.Caller name) (t ∷ ts) = department_of v name ≡ Some t.dept
 IsOfDepartment v false _ _ = ⊥
@@ -33,7 +33,7 @@ abbrev pub EndsAfter : ℕ → Option Retention → Type 0
 EndsAfter t None = Unit {0}
 EndsAfter t (Some r) = t < r.until
 
--- the first setting is of the admission, by who admitted the version, and by no bypass; its retention ends after the admission
+-- the first setting is of the admission, by who admitted the version, and by no bypass; its retention, which may be a default, ends after the admission, and a hold wants the right
 pub record IsLawfulFirst (v : Vault) (admitted : ℕ) (by : Author) (s : Setting) : Type 0 where
   pub now : s.at ≡ admitted
   pub free : s.bypass ≡ false

@@ -30,8 +30,8 @@ pub fn the_past_stays()
 {}
 
 /// In every vault that is reached, each setting and each removal keeps the lock rules, by a caller who had the
-/// right to it. Each version was admitted by a caller of the department that had its bucket then, and its first
-/// retention ends after the admission.
+/// right to it; of a first setting that is asked of a hold alone. Each version was admitted by a caller of the
+/// department of its first tenure, and its first retention ends after the admission.
 pub fn reached_vaults_are_lawful()
     ensures { (v : Vault) → Reached v → Lawful v }
 {}
