@@ -97,14 +97,14 @@ class Answer(Evidence):
         self.assertNotIn("That the file has this history", done.out)
 
     def test_histories_that_contradict_each_other_are_said(self) -> None:
-        copy = self.forged("UPDATE callers SET rights = 3 WHERE name = 'registrar'")
+        copy = self.forged("UPDATE callers SET dept = NULL WHERE name = 'gov'")
         done = self.desk("answer", "13", "--vault", str(copy), "--json")
         told = json.loads(done.out)
         self.assertEqual((done.status, told["good"]), (1, False))
         checked = " ".join(told["checked"])
         self.assertIn("Rules: lawful", checked)
-        self.assertIn("Together: not coherent. There is no caller registrar of no department", checked)
-        self.assertIn("no caller registrar of no department", done.err)
+        self.assertIn("Together: not coherent. Setting 2 of version 13 is by gov of no department", checked)
+        self.assertIn("is by gov of no department", done.err)
 
     def test_the_page_for_print_has_the_same_and_escapes_keys(self) -> None:
         page = self.folder / "answer.html"
