@@ -1,5 +1,5 @@
 -- The seal over what happened in a vault before a moment.
-use Rattle.std.specs.Prelude.{◌≡◌, ◌≤◌, ◌<◌, ⊤, ℕ, List, ◌++◌, length, Option, Some, None, Result, Ok, Err, codes, unwrap_or}
+use Rattle.std.specs.Prelude.{◌≡◌, ◌≢◌, ◌≤◌, ◌<◌, ⊤, ℕ, List, ◌++◌, length, Option, Some, None, Result, Ok, Err, codes, unwrap_or}
 use Rattle.std.specs.Fmt.{decimal}
 use Rattle.hex.specs.Hex.{encode_lower}
 use Rattle.sha2.specs.Sha256.{sha256}
@@ -23,6 +23,10 @@ seal_over m events =
 -- the seal of what happened in a vault before m
 abbrev pub seal_of : ℕ → Vault → Seal
 seal_of m v = seal_over m (events_before m v)
+
+-- two texts are different and have one SHA-256 digest
+abbrev pub Collide : List ℕ → List ℕ → Type 0
+Collide s t = (s ≢ t) × (sha256 s ≡ sha256 t)
 
 -- its four lines
 abbrev pub seal_text : Seal → List ℕ
