@@ -1,5 +1,5 @@
 -- The text of a cell is of one value alone.
-use Rattle.std.proofs.Common.{◌≡◌, ℕ, length, drop, Bool, true, false, ◌&&◌, IfSome, IsTrue, List, [], ◌∷◌, ◌++◌, slice_index, Option, Some, None, IsSome, Result, Ok, codes, refl, sym, ap, subst, ◌∙◌, arith}
+use Rattle.std.proofs.Common.{◌≡◌, ℕ, length, drop, Bool, true, false, ◌&&◌, IfSome, IsTrue, List, [], ◌∷◌, ◌++◌, slice_index, Option, Some, None, IsSome, Result, Ok, codes, unwrap_or, refl, sym, ap, subst, ◌∙◌, arith}
 use Rattle.std.proofs.lemmas.Bool.{and_parts}
 use Rattle.hex.specs.Hex.{IsBytes, decode_of, encode_lower, lower_digits}
 use Rattle.hex.specs.declared.error.FromHexError.{FromHexError}
@@ -14,7 +14,7 @@ use Rattle.vault_core_model.specs.declared.records.Cause.TheVariants as cause
 use Rattle.vault_values.specs.Words.{hold_name, mode_name}
 use Rattle.vault_files_texts.specs.Register.{kind_name}
 use Rattle.vault_files_texts.specs.Removed.{author_text, cause_kind, cause_name, digest_text}
-use Rattle.vault_files_events.specs.EventsText.{bypass_name, department_cell}
+use Rattle.vault_files_events.specs.EventsText.{bypass_name}
 use Rattle.vault_files_events.specs.Typed.{IsAuthor}
 
 -- a byte of a text
@@ -79,7 +79,7 @@ abbrev pub HasDepartment : Bool → Option (List ℕ) → Type 0
 HasDepartment true dept = dept ≡ None
 HasDepartment false dept = IsSome dept
 
-pub same-department : (marker : Bool) (c d : Option (List ℕ)) → HasDepartment marker c → HasDepartment marker d → department_cell c ≡ department_cell d → c ≡ d
+pub same-department : (marker : Bool) (c d : Option (List ℕ)) → HasDepartment marker c → HasDepartment marker d → unwrap_or c [] ≡ unwrap_or d [] → c ≡ d
 same-department true c d is own e = is ∙ sym own
 same-department false None d is own e = absurd (cc is)
 same-department false (Some c) None is own e = absurd (cc own)

@@ -17,7 +17,8 @@ use Rattle.vault_core_evidence.specs.Events.{Event, events_before}
 use Rattle.vault_files_texts.specs.Certificate.{labelled}
 use Rattle.vault_files_events.specs.Counts.{admissions}
 use Rattle.vault_files_events.specs.EventsText.{event_cells, event_row, event_rows, events_header, events_text}
-use Rattle.vault_files_events.specs.Seal.{Collide, seal_of, seal_over, seal_text}
+use Rattle.vault_files_events.specs.Seal.{Collide, seal_of, seal_text}
+use Rattle.vault_files_events.specs.declared.seal_lines.Seal.{Seal}
 use Rattle.vault_files_events.specs.Typed.{AreDated, AreTyped}
 use Rattle.vault_files_events.proofs.CellTexts.{same-hex}
 use Rattle.vault_files_events.proofs.EventCells.{same-seen}
@@ -97,6 +98,10 @@ same-before m n x y e =
 abbrev upper_lines : ℕ → List Event → List ℕ
 upper_lines m es =
     labelled (codes "before") (moment_text m) ++ labelled (codes "entries") (decimal (admissions es)) ++ labelled (codes "events") (decimal (length es))
+
+-- a seal over these events
+abbrev seal_over : ℕ → List Event → Seal
+seal_over m es = record { before = m; entries = admissions es; events = length es; digest = sha256 (events_text es) }
 
 same-lines : (m n : ℕ) (es fs : List Event) → seal_text (seal_over m es) ≡ seal_text (seal_over n fs) → (m ≡ n) × (sha256 (events_text es) ≡ sha256 (events_text fs))
 same-lines m n es fs e =

@@ -1,6 +1,6 @@
 //! The laws of seals, and of the parts of texts.
 ghost use Rattle.std.specs.Prelude.{◌≡◌, ◌≢◌, ◌⊎◌, ◌≤◌, ◌++◌, ℕ, List, [], length, IsSome, Some, None};
-ghost use Rattle.vault_core_evidence.specs.Events.{events_before};
+ghost use Rattle.vault_core_evidence.specs.Events.{events_before, events_in};
 ghost use Rattle.vault_core_evidence.specs.Lawful.{Lawful};
 ghost use Rattle.vault_core_evidence.specs.Parts.{next_of, part};
 ghost use Rattle.vault_core_model.specs.declared.command.Timed.{Timed};
@@ -12,7 +12,7 @@ ghost use Rattle.vault_core_model.specs.Reads.{entry_of, removed_entries};
 ghost use Rattle.vault_core_model.specs.Sound.{Sound};
 ghost use Rattle.vault_core_model.specs.Step.{IsRun};
 ghost use Rattle.vault_core_model.specs.Vault.{Vault};
-ghost use Rattle.vault_files_events.specs.EventsText.{asked_in, event_rows, events_header, events_text};
+ghost use Rattle.vault_files_events.specs.EventsText.{event_rows, events_header, events_text};
 ghost use Rattle.vault_files_events.specs.Page.{rest_text};
 ghost use Rattle.vault_files_events.specs.RegisterPage as removals;
 ghost use Rattle.vault_files_events.specs.Seal.{Collide, seal_of, seal_text};
@@ -26,8 +26,8 @@ ghost use Rattle.vault_files_texts.specs.Register.{header, register};
 pub fn parts_make_the_text()
     ensures whole { (v : Vault) (m : ℕ) → events_text (events_before m v) ≡ events_header ++ rest_text m 0 v }
     ensures next { (v : Vault) (m after next : ℕ) → next_of (length v.histories) after ≡ Some next →
-        rest_text m after v ≡ event_rows (asked_in (Some m) (part after v)) ++ rest_text m next v }
-    ensures last { (v : Vault) (m after : ℕ) → next_of (length v.histories) after ≡ None → rest_text m after v ≡ event_rows (asked_in (Some m) (part after v)) }
+        rest_text m after v ≡ event_rows (events_in m (part after v)) ++ rest_text m next v }
+    ensures last { (v : Vault) (m after : ℕ) → next_of (length v.histories) after ≡ None → rest_text m after v ≡ event_rows (events_in m (part after v)) }
     ensures stays { (v later : Vault) (commands : List Timed) (replies : List Reply) (m after : ℕ) →
         Sound v → m ≤ v.last → IsRun v commands replies later → rest_text m after later ≡ rest_text m after v }
 {}
