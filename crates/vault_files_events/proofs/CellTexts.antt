@@ -1,5 +1,5 @@
 -- The text of a cell is of one value alone.
-use Rattle.std.proofs.Common.{◌≡◌, ℕ, length, drop, Bool, true, false, ◌&&◌, IfSome, IsTrue, List, [], ◌∷◌, ◌++◌, slice_index, Option, Some, None, IsSome, Result, Ok, codes, unwrap_or, refl, sym, ap, subst, ◌∙◌, arith}
+use Rattle.std.proofs.Common.{◌≡◌, ℕ, length, drop, Bool, true, false, IfSome, IsTrue, List, [], ◌++◌, slice_index, Option, Some, None, IsSome, Result, Ok, codes, unwrap_or, refl, sym, ap, ◌∙◌, arith}
 use Rattle.std.proofs.lemmas.Bool.{and_parts}
 use Rattle.hex.specs.Hex.{IsBytes, decode_of, encode_lower, lower_digits}
 use Rattle.hex.specs.declared.error.FromHexError.{FromHexError}

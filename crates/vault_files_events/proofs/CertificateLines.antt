@@ -1,5 +1,5 @@
 -- A certificate of destruction is of one entry alone, with its removal.
-use Rattle.std.proofs.Common.{◌≡◌, ◌≢◌, ◌⊎◌, inl, inr, ℕ, ◌<◌, ◌^◌, Bool, true, false, IsTrue, ◌&&◌, List, [], ◌∷◌, ◌++◌, length, drop, slice_index, Option, Some, None, IfSome, codes, refl, sym, ap, ◌∙◌, append_assoc, arith, decimal, nat_le, length-append, ◌+◌}
+use Rattle.std.proofs.Common.{◌≡◌, ◌≢◌, ◌⊎◌, inl, inr, ℕ, Bool, true, false, IsTrue, ◌&&◌, List, [], ◌∷◌, ◌++◌, length, drop, slice_index, Option, Some, None, IfSome, codes, refl, sym, ap, ◌∙◌, append_assoc, arith, decimal, nat_le, length-append}
 use Rattle.std.specs.Prelude.{not, ◌==◌}
 use Rattle.std.specs.List.{list_all}
 use Rattle.std.proofs.lemmas.Bool.{and_parts}
@@ -19,7 +19,7 @@ use Rattle.vault_core_model.specs.declared.records.Entry.{Entry}
 use Rattle.vault_core_model.specs.declared.records.Removal.{Removal}
 use Rattle.vault_core_model.specs.declared.records.Tenure.{Tenure}
 use Rattle.vault_files_texts.specs.Certificate.{body, cause_text, certificate_by, certificate_text, labelled, removal_lines, sealed, tenure_lines, version_lines}
-use Rattle.vault_files_texts.specs.Removed.{author_text, cause_kind, cause_name, days_between, digest_text}
+use Rattle.vault_files_texts.specs.Removed.{author_text, cause_name, days_between, digest_text}
 use Rattle.vault_files_events.specs.Typed.{IsAuthor, IsTyped}
 use Rattle.vault_files_events.proofs.CellTexts.{IsDigest, same-author, same-digest}
 use Rattle.vault_files_events.proofs.EventCells.{id-fits, made-removal}

@@ -1,15 +1,12 @@
 -- The cells of a record are of one event alone, but for what they don't show of its entry.
-use Rattle.std.proofs.Common.{◌≡◌, ℕ, ◌<◌, ◌^◌, Bool, List, [], ◌∷◌, ◌++◌, map, get_or, drop, slice_index, Option, Some, None, refl, sym, ap, subst, ◌∙◌, append_assoc, arith, decimal, IsTrue}
+use Rattle.std.proofs.Common.{◌≡◌, ℕ, ◌<◌, ◌^◌, Bool, List, [], ◌∷◌, ◌++◌, map, get_or, drop, slice_index, Option, Some, None, refl, sym, ap, subst, ◌∙◌, append_assoc, arith, IsTrue}
 use Rattle.std.specs.List.{AllByRecursion}
 use Rattle.std.proofs.lemmas.Fmt.{decimal_injective}
 use Rattle.std.proofs.lemmas.Grind.{common_steps}
 use Rattle.csv.specs.Writing.{read_back}
-use Rattle.vault_base.specs.Moment.{moment_text}
 use Rattle.vault_base.specs.Name.{is_version_id}
-use Rattle.vault_lock.specs.declared.lock.Lock.{Lock}
 use Rattle.vault_lock.specs.declared.retention.Mode.{Mode}
 use Rattle.vault_lock.specs.declared.retention.Retention.{Retention}
-use Rattle.vault_core_model.specs.declared.records.Author.{Author}
 use Rattle.vault_core_model.specs.declared.records.Author.TheVariants as author
 use Rattle.vault_core_model.specs.declared.records.Cause.{Cause}
 use Rattle.vault_core_model.specs.declared.records.Entry.{Entry}
@@ -17,8 +14,6 @@ use Rattle.vault_core_model.specs.declared.records.Removal.{Removal}
 use Rattle.vault_core_model.specs.declared.records.Setting.{Setting}
 use Rattle.vault_core_model.specs.declared.records.Tenure.{Tenure}
 use Rattle.vault_core_evidence.specs.Events.{Happening, Admitted, Locked, Moved, Gone, Event}
-use Rattle.vault_files_texts.specs.Register.{kind_name}
-use Rattle.vault_files_texts.specs.Removed.{digest_text}
 use Rattle.vault_files_events.specs.EventsText.{happening_name, who_did, retention_cells, lock_cells, last_cells, first_cells, entry_cells, event_cells}
 use Rattle.vault_files_events.specs.Typed.{IsAuthor, IsTyped}
 use Rattle.vault_files_events.proofs.CellTexts.{HasDepartment, mode-there, same-author, same-bypass, same-cause, same-department, same-digest, same-hold, same-kind, same-mode}

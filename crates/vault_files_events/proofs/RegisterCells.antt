@@ -6,7 +6,6 @@ use Rattle.std.proofs.lemmas.Fmt.{decimal_injective}
 use Rattle.std.proofs.lemmas.List.{append_cancel_left}
 use Rattle.csv.specs.Writing.{default_writer, read_back, row_text}
 use Rattle.vault_core_model.specs.declared.records.Author.{Author}
-use Rattle.vault_core_model.specs.declared.records.Cause.{Cause}
 use Rattle.vault_core_model.specs.declared.records.Entry.{Entry}
 use Rattle.vault_core_model.specs.declared.records.History.{History}
 use Rattle.vault_core_model.specs.declared.records.Removal.{Removal}

@@ -1,6 +1,6 @@
 -- What a record doesn't show of its entry, the record of the admission before it does.
-use Rattle.std.proofs.Common.{◌≡◌, ℕ, ◌≤◌, Bool, true, false, List, [], ◌∷◌, ◌++◌, map, Option, Some, None, refl, sym, ap, ◌∙◌, arith, append_assoc}
-use Rattle.std.specs.Prelude.{filter, nat_lt}
+use Rattle.std.proofs.Common.{◌≡◌, ℕ, ◌≤◌, Bool, true, false, List, [], ◌∷◌, ◌++◌, map, Option, Some, None, refl, sym, ap, ◌∙◌, arith}
+use Rattle.std.specs.Prelude.{filter}
 use Rattle.std.specs.List.{AllByRecursion}
 use Rattle.std.proofs.lemmas.Bool.{le-ltb, ltb-false}
 use Rattle.std.proofs.lemmas.List.{map-append}
@@ -13,7 +13,7 @@ use Rattle.vault_core_model.specs.declared.records.Setting.{Setting}
 use Rattle.vault_core_model.specs.declared.records.Tenure.{Tenure}
 use Rattle.vault_core_model.specs.Sound.{FollowOn, HasTenures, HasTenuresAs, IsInTime, LiesBetween, Sound}
 use Rattle.vault_core_model.specs.Vault.{Vault}
-use Rattle.vault_core_evidence.specs.Events.{Happening, Admitted, Locked, Moved, Gone, Event, admission_of, as_admitted, events_before, events_before_of, events_in, events_of, is_before, later_tenures, move_event, removal_events, setting_event}
+use Rattle.vault_core_evidence.specs.Events.{Happening, Admitted, Locked, Moved, Gone, Event, admission_of, as_admitted, events_before, events_before_of, events_in, is_before, later_tenures, move_event, removal_events, setting_event}
 use Rattle.vault_files_events.specs.Typed.{AreDated}
 use Rattle.vault_files_events.proofs.EventCells.{seen}
 

@@ -14,8 +14,7 @@ rest_text m after v = event_rows (events_in m (drop after v.histories))
 
 -- the part after an id, and where the next one begins; the part after 0 is the first, and begins with the header
 abbrev pub page_of : ℕ → ℕ → Vault → TextPage
-page_of m after v =
-    record { text = (if after == 0 then events_header else []) ++ event_rows (events_in m (part after v)); next = next_of (length v.histories) after }
+page_of m after v = record { text = (if after == 0 then events_header else []) ++ event_rows (events_in m (part after v)); next = next_of (length v.histories) after }
 
 -- a part is of what was before a moment that isn't past the last one
 abbrev pub PagesAs : Result TextPage Halt → ℕ → ℕ → Vault → Type 0

@@ -22,5 +22,4 @@ rest_text after v = rows_in (drop after v.histories)
 
 -- the part after an id, and where the next one begins; the part after 0 is the first, and begins with the header
 abbrev pub page_of : ℕ → Vault → TextPage
-page_of after v =
-    record { text = (if after == 0 then header else []) ++ rows_in (part after v); next = next_of (length v.histories) after }
+page_of after v = record { text = (if after == 0 then header else []) ++ rows_in (part after v); next = next_of (length v.histories) after }
