@@ -15,3 +15,4 @@ mod EqualTexts
 mod RegisterCells
 mod CertificateLines
 mod LawfulDates
+mod TypedWalk
