@@ -199,7 +199,7 @@ class Deliveries(ServedTest):
             (self.scans / f"{number}.pdf").write_bytes(b"scan %d" % number)
 
     def deliver(self, *words: str) -> Done:
-        return self.desk("deliver", str(self.scans), "--bucket", "docs", "--batch", "b1", *words, at=None)
+        return self.desk("deliver", str(self.scans), "--bucket", "docs", "--batch", "b1", "--yes", *words, at=None)
 
     def results(self, *words: str) -> list[str]:
         done = self.deliver("--json", *words)
@@ -423,7 +423,7 @@ class DoorAlone(ServedTest):
         self.lines({**may, "caller": "bob", "rights": ["put"]})
         self.serve(self.where)
         self.where.chmod(0o666)
-        words = ("deliver", str(scans), "--bucket", "docs", "--batch", "b1")
+        words = ("deliver", str(scans), "--bucket", "docs", "--batch", "b1", "--yes")
         done = self.as_nobody(*words, "--as", "bob")
         self.assertEqual((done.status, done.out), (1, "1 of 1 rows are in the vault\n"))
         self.assertIn("wasn't compared with the folder: AccessDenied right:get", done.err)

@@ -1,0 +1,160 @@
+"""Files that are no inventory: one sentence each, within five seconds and 256 MiB."""
+
+from __future__ import annotations
+
+import importlib.util
+import os
+import resource
+import subprocess
+import sys
+import unittest
+import zipfile
+from io import BytesIO
+from pathlib import Path
+from unittest import mock
+
+from tests.books import MAIN, book, package, parts_of, sheet
+from tests.office import OfficeTest
+from vaultdesk import sheets
+from vaultdesk.errors import DeskError
+
+MOST_MEMORY, MOST_SECONDS = 268_435_456, 5  # of the processor, which others have too
+RIGHT = sheet([["File", "Until"], ["a.pdf", "2030-01-01"]])
+HAS_XLSX = importlib.util.find_spec("openpyxl") is not None
+
+
+def limited() -> None:
+    """Has this process and those that it starts take no more memory and time."""
+    resource.setrlimit(resource.RLIMIT_AS, (MOST_MEMORY, MOST_MEMORY))
+    resource.setrlimit(resource.RLIMIT_CPU, (MOST_SECONDS, MOST_SECONDS))
+
+
+class SheetsTest(OfficeTest):
+    def setUp(self) -> None:
+        super().setUp()
+        self.scans = self.folder / "scans"
+        self.scans.mkdir()
+        (self.scans / "a.pdf").write_bytes(b"a scan")
+
+    def looked_at(self, name: str, content: bytes) -> subprocess.CompletedProcess[str]:
+        """The look at a delivery by that inventory, in a process of its own."""
+        listed = self.written(name, content)
+        words = ["deliver", str(self.scans), "--bucket", "docs", "--batch", "b1", "--inventory", listed, "--dry-run"]
+        command = [sys.executable, "-B", "-m", "vaultdesk", *words, "--at", "2024-01-15T10:00:00Z"]
+        return subprocess.run(
+            command, preexec_fn=limited, cwd=Path(__file__).parents[1], env=os.environ, timeout=120,
+            capture_output=True, text=True, check=False,
+        )  # fmt: skip
+
+    def is_wrong(self, name: str, content: bytes, said: str) -> None:
+        """Sees that it can't be read, and that this is said."""
+        with self.assertRaisesRegex(DeskError, f"^[^\n]*{name}: [^\n]*{said}[^\n]*$"):
+            list(sheets.read(Path(self.written(name, content))))
+
+    def is_refused(self, name: str, content: bytes, said: str) -> None:
+        """Sees that it is refused by one sentence that says this, whatever the process may take."""
+        done = self.looked_at(name, content)
+        self.assertEqual((done.returncode, done.stdout), (1, ""), done.stderr)
+        self.assertRegex(done.stderr, f"^vaultdesk deliver: [^\n]*{name}: [^\n]*{said}[^\n]*\n$")
+
+
+@unittest.skipUnless(HAS_XLSX, "python3-openpyxl isn't there")
+class Spreadsheets(SheetsTest):
+    def with_sheet(self, text: str) -> bytes:
+        """A spreadsheet whose sheet is that text."""
+        return package(parts_of({"List": text}))
+
+    def test_a_sheet_that_says_it_has_a_million_columns_is_read(self) -> None:
+        text = RIGHT.replace("<sheetData>", '<dimension ref="A1:XFD1048576"/><sheetData>')
+        far = '<row r="1048576"><c r="XFD1048576" s="1"/></row></sheetData>'
+        for it in (text, text.replace("</sheetData>", far)):
+            done = self.looked_at("dim.xlsx", self.with_sheet(it))
+            self.assertEqual(done.returncode, 0, done.stderr)
+            self.assertIn("1 of 1 rows would be taken in", done.stderr)
+
+    def test_a_bomb_of_one_cell(self) -> None:
+        made = BytesIO()
+        begun = f'<worksheet xmlns="{MAIN}"><sheetData><row r="1"><c r="A1" t="inlineStr"><is><t>'
+        with zipfile.ZipFile(made, "w", zipfile.ZIP_DEFLATED) as packed:
+            for name, text in parts_of({"List": ""}).items():
+                if not name.startswith("xl/worksheets/"):
+                    packed.writestr(name, text)
+            with packed.open("xl/worksheets/sheet1.xml", "w", force_zip64=True) as file:
+                file.write(begun.encode())
+                for _ in range(2_048):
+                    file.write(b"x" * 1_048_576)
+                file.write(b"</t></is></c></row></sheetData></worksheet>")
+        self.assertLess(len(made.getvalue()), 2_200_000)
+        self.is_refused("bomb.xlsx", made.getvalue(), "more than 33,554,432 bytes once it is unpacked")
+
+    def test_a_bomb_that_says_it_is_small(self) -> None:
+        content = self.with_sheet(RIGHT.replace("</sheetData>", " " * 50_000_000 + "</sheetData>"))
+        parts = zipfile.ZipFile(BytesIO(content)).getinfo("xl/worksheets/sheet1.xml")
+        lied = content.replace(parts.file_size.to_bytes(4, "little"), (1_000).to_bytes(4, "little"))
+        self.assertNotEqual(lied, content)
+        self.is_refused("lied.xlsx", lied, "no spreadsheet that can be unpacked")
+
+    def test_laughs(self) -> None:
+        names = "".join(f'<!ENTITY l{n} "{f"&l{n - 1};" * 10}">' for n in range(1, 10))
+        text = f'<!DOCTYPE x [<!ENTITY l0 "lol">{names}]>' + RIGHT.replace("a.pdf", "&l9;")
+        self.is_refused("laughs.xlsx", self.with_sheet(text), "defines names of its own")
+
+    def test_a_file_that_was_cut(self) -> None:
+        content = book(List=[["File", "Until"], *([f"{n}.pdf", "2030-01-01"] for n in range(500))])
+        for size in (2, 100, len(content) - 10):
+            self.is_wrong("cut.xlsx", content[:size], "no spreadsheet that can be unpacked")
+        self.is_refused("cut.xlsx", content[:len(content) // 2], "no spreadsheet that can be unpacked")
+
+    def test_a_document_and_other_files_that_were_renamed(self) -> None:
+        kind = "application/vnd.openxmlformats-officedocument.wordprocessingml"
+        kinds = f'<Types><Override ContentType="{kind}"/></Types>'
+        word = package({"[Content_Types].xml": kinds, "word/document.xml": "<document/>"})
+        self.is_refused("word.xlsx", word, "a package of another kind, as a document of Word is")
+        self.is_wrong("a.xlsx", b"%PDF-1.7\n%\xe2\xe3", "no spreadsheet, though its name says so")
+
+    def test_more_cells_and_rows_than_anybody_needs(self) -> None:
+        for rows, said in (
+            ("<x>" * 100_000 + "</x>" * 100_000, "too many cells"),
+            ('<row r="999999999999"><c r="A1"/></row>', "row 999999999999 of a sheet comes after row 0"),
+            ('<row r="5"><c r="A5"/></row><row r="3"><c r="A3"/></row>', "row 3 of a sheet comes after row 5"),
+            ('<row r="1"><c r="BM1"><v>1</v></c></row>', "has more than 64 columns"),
+        ):
+            text = f'<worksheet xmlns="{MAIN}"><sheetData>{rows}</sheetData></worksheet>'
+            self.is_wrong("many.xlsx", self.with_sheet(text), said)
+        text = f'<worksheet xmlns="{MAIN}"><sheetData><row r="1">{"<c/>" * 2_000_000}</row></sheetData></worksheet>'
+        self.is_refused("many.xlsx", self.with_sheet(text), "too many cells")
+
+    def test_the_bounds_of_rows_and_bytes(self) -> None:
+        listed = self.written("list.xlsx", book(List=[["File"], ["a.pdf"], ["b.pdf"]]))
+        with mock.patch("vaultdesk.sheets.MOST_ROWS", 2), self.assertRaisesRegex(DeskError, "more than 2 rows"):
+            list(sheets.read(Path(listed)))
+        self.is_wrong("large.xlsx", b"PK" + bytes(9_000_000), "more than 8,388,608 bytes")
+
+
+class Texts(SheetsTest):
+    def test_files_that_are_no_text(self) -> None:
+        self.is_refused("list.csv", b"\x89PNG\r\n\x1a\n\0\0\0\rIHDR", "no text has, so it is no CSV")
+        self.is_refused("list.csv", os.urandom(1_000_000), "so it is no CSV")
+        for content, said in (
+            (bytes(range(128, 256)), "it is no text, so it is no CSV"),
+            (b"\xff\xfea", "it is no text, so it is no CSV"),
+            (b"\xd0\xcf\x11\xe0\xa1\xb1\x1a\xe1", "a spreadsheet of an older kind"),
+        ):
+            self.is_wrong("list.csv", content, said)
+
+    def test_texts_that_are_too_large(self) -> None:
+        self.is_wrong("list.csv", b"x" * 17_000_000, "more than 16,777,216 bytes")
+        for content, said in (
+            (b"File," * 3_000_000, "a row has more than 1,048,576 characters"),
+            (b"File,Key\n" + b'"x\n",' * 2_000_000, "a row has more than 1,048,576 characters"),
+            (b"File\n" + b"a.pdf\n" * 60_000, "more than 50,000 rows"),
+        ):
+            self.is_refused("list.csv", content, said)
+
+    def test_a_text_that_was_cut(self) -> None:
+        self.is_wrong("list.csv", b'File,Key\na.pdf,"k', "unexpected end of data")
+
+    def test_a_line_of_excel_about_the_cells_is_no_row(self) -> None:
+        listed = self.written("list.csv", b"sep=,\r\nFile,Key\r\na.pdf,k;1\r\n")
+        [it, *_] = sheets.read(Path(listed))
+        self.assertEqual(it.lines, [(1, ["File", "Key"]), (2, ["a.pdf", "k;1"])])
