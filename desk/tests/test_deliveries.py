@@ -346,8 +346,7 @@ class Deliveries(OfficeTest):
             "row,file,key,class,date,mode,end,size,note",
             "2,scan 0.pdf,a,,,COMPLIANCE,2030-01-01T00:00:00Z,6,\"its mode is COMPLIANCE, and the bucket's default is "
             "GOVERNANCE\"",
-            "4,scan 1.pdf,b,,,GOVERNANCE,2026-01-15T10:00:00Z,6,the bucket's default: 2 years from the moment on at "
-            "which it comes in",
+            "4,scan 1.pdf,b,,,GOVERNANCE,2026-01-15T10:00:00Z,6,by the bucket's default of 2 years",
         ])
         self.assertIn("2 of 3 rows would be taken in", done.err)
         self.assertIn("2 documents come in: the first end is 2026-01-15T10:00:00Z", done.err)

@@ -58,9 +58,8 @@ def look_at_default(it: Item, there: There) -> None:
             it.notes.append(f"its mode is {it.mode}, and the bucket's default is {default.mode}")
     elif default.why_not:
         it.wrong.append(default.why_not)
-    elif default.mode and not it.wrong:
-        it.is_by_default = True
-        it.notes.append(f"the bucket's default: {default.period} from the moment on at which it comes in")
+    else:
+        it.is_by_default = bool(default.mode) and not it.wrong
 
 
 def look_at_file(it: Item, folder: Folder) -> None:

@@ -29,6 +29,7 @@ def row_of(it: Item, default: Default) -> Row:
     said = [f"wrong: {'; '.join(it.wrong)}"] if it.wrong else []
     said += ["left out"] if it.is_skipped else []
     said += ["taken in before"] if it.is_taken and not it.is_out else []
+    said += [f"by the bucket's default of {default.period}"] if it.is_by_default and not it.is_out else []
     row = {"row": it.number, "file": it.file, "key": it.key, "class": it.kind, "date": it.date, "mode": mode}
     return {**row, "end": end, "size": "" if it.size is None else it.size, "note": "; ".join([*said, *it.notes])}
 
