@@ -253,7 +253,7 @@ def _print_look(words: argparse.Namespace, given: Delivery, is_last: bool) -> No
 
 def _ask(words: argparse.Namespace, given: Delivery) -> None:
     """Asks what has to be asked before it is taken in. A delivery that was made already is asked for with --yes too."""
-    again = "" if given.there.lines else plan.made_already(given.fresh)
+    again = plan.made_already(given.fresh)
     if again:
         confirm(words, f"{again}: --skip-held leaves them out, --again takes them in once more", "again")
     question = plan.question(given.fresh, given.there.default, len(given.unnamed), bool(given.there.lines))
