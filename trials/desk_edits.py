@@ -156,7 +156,7 @@ EDITS = [
      DELIVERIES + "test_what_was_left_out_may_be_mended_and_given_again"),
     ("deliveries", "if held.get(version) != it.digest]", "if False]",
      DELIVERIES + "test_content_that_changes_meanwhile_is_found"),
-    ("deliveries", "if refused or len(rows) < wanted:", "if False:",
+    ("deliveries", "    if not_all:\n", "    if False:\n",
      DELIVERIES + "test_each_refused_row_has_its_file_and_cause"),
     ("plan", "sum(it.is_doubled for it in items)", "0",
      DELIVERIES + "test_the_same_content_in_another_batch_is_asked_for"),

@@ -18,7 +18,7 @@ from vaultdesk.errors import DeskError, EngineError, Refused, UsageError
 from vaultdesk.folder import Folder
 from vaultdesk.intake import Intake, results, taken_in
 from vaultdesk.items import Asked, Item, items_of, read_classes
-from vaultdesk.output import counted_off, print_json, print_table, say
+from vaultdesk.output import counted_off, print_json, print_table, refusals, say
 from vaultdesk.there import There
 
 BATCH = re.compile(r"[a-z0-9._-]{1,64}")
@@ -167,12 +167,12 @@ def _asked_digests(engine: Engine, bucket: str, taken: Mapping[int, Item]) -> It
             yield version, ""  # it was removed in between
 
 
-def _why_not_all(intake: Intake, refused: int, done: int, wanted: int) -> str:
-    """Says that not all that was right came in."""
-    last = intake.lines[-1] if intake.lines else "no line of the engine"
-    changed = "nothing was changed" if not done - refused else "the others are in the vault"
-    missed = f"; {wanted - done} weren't come to: {last}" if done < wanted else ""
-    return f"{refused} of {wanted} were refused{missed}: {changed}"
+def _why_not_all(intake: Intake, refused: Sequence[Row], done: int, wanted: int) -> str:
+    """Says that not all that was right came in; nothing where it did."""
+    if done < wanted:
+        last = intake.lines[-1] if intake.lines else "no line of the engine"
+        return f"{len(refused)} rows were refused, {wanted - done} weren't come to: {last}"
+    return refusals([str(it["value"]) for it in refused], wanted) if refused else ""
 
 
 def _report(engine: Engine, words: argparse.Namespace, given: Delivery, intake: Intake) -> None:
@@ -195,8 +195,9 @@ def _report(engine: Engine, words: argparse.Namespace, given: Delivery, intake: 
         _print_result(items, refused, taken, differing)
     if differing:
         raise DeskError(f"the vault holds other content than the folder has now: {', '.join(differing)}")
-    if refused or len(rows) < wanted:
-        raise DeskError(_why_not_all(intake, len(refused), len(rows), wanted))
+    not_all = _why_not_all(intake, refused, len(rows), wanted)
+    if not_all:
+        raise DeskError(not_all)
     if why:
         raise DeskError(why)
 

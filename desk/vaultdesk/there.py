@@ -8,11 +8,10 @@ from dataclasses import dataclass, field
 from pathlib import Path
 
 from vaultdesk import limits, moments, reading
+from vaultdesk.defaults import MODES, default_of
 from vaultdesk.engine import Engine
-from vaultdesk.errors import DeskError, EngineError, Refused
+from vaultdesk.errors import DeskError, EngineError
 from vaultdesk.output import say
-
-MODES = {1: "GOVERNANCE", 2: "COMPLIANCE"}
 
 
 @dataclass(frozen=True)
@@ -51,13 +50,14 @@ def look(engine: Engine, words: argparse.Namespace) -> There:
         file = engine.tables
         held = held_in(file, None)
         callers = {it["caller"]: it for it in reading.query(file, "callers")}
-        buckets = {name: tuple(it) for name, *it in reading.rows(file, "SELECT name, mode, days, years FROM buckets")}
+        found = reading.rows(file, "SELECT name, mode, days, years FROM buckets")
         statement = "SELECT line FROM intake WHERE bucket = ? AND batch = ?"
         lines = frozenset(line for (line,) in reading.rows(file, statement, (words.bucket, words.batch)))
     except EngineError as error:
         say(f"not looked at: what the vault holds already: {error}")
         return There(default=_asked(engine, words.bucket))
     caller = engine.desk.caller
+    buckets = {name: (MODES[mode], days, years) for name, mode, days, years in found}
     if caller not in callers or callers[caller]["department"] == "-":
         raise DeskError(f"caller {caller!r} has no department, or isn't there: it can put nothing")
     if words.bucket not in buckets:
@@ -80,21 +80,20 @@ def held_in(file: Path, bucket: str | None) -> list[reading.Row]:
     return reading.query(file, "find", bucket=bucket, state="held", **nothing)
 
 
-def _default(engine: Engine, bucket: str, mode: int, days: int | None, years: int | None) -> Default:
+def _default(engine: Engine, bucket: str, mode: str, days: int | None, years: int | None) -> Default:
     now = engine.at or moments.now()
     count, unit = (days, "day") if years is None else (years, "year")
-    end = limits.Period(count, unit).after(now) if mode and count is not None else ""
+    period = limits.Period(count, unit) if mode and count is not None else None
+    end = period.after(now) if period else ""
     is_limited = limits.are_of(engine.desk.limits, bucket)
     why_not = limits.why_not_kept(engine.desk.limits, bucket, end or None, now) if is_limited else ""
-    period = str(limits.Period(count, unit)) if end and count is not None else ""
-    return Default(MODES.get(mode, ""), period, end, True, why_not)
+    return Default(mode, str(period or ""), end, True, why_not)
 
 
 def _asked(engine: Engine, bucket: str) -> Default:
     """The bucket's default retention, as the server says it to who has the right config."""
     try:
-        found = engine.ask("get-default", bucket=bucket)["default"] or {"mode": ""}
-    except Refused:
+        found = default_of(engine, bucket) or {"mode": ""}
+    except DeskError:
         return Default(is_known=False)
-    modes = {name: number for number, name in MODES.items()}
-    return _default(engine, bucket, modes.get(found["mode"], 0), found.get("days"), found.get("years"))
+    return _default(engine, bucket, found["mode"], found.get("days"), found.get("years"))
