@@ -85,6 +85,7 @@ class Deliveries(OfficeTest):
         self.assertEqual(self.done("get", "docs", "scan 3.pdf"), "scan 3")
         again = self.desk(*self.deliver("--json"))
         self.assertIn("is known: 4 of its lines", again.err)
+        self.assertIn("this delivery was made already: nothing new comes in", again.err)
         self.assertEqual({it["result"] for it in json.loads(again.out)["rows"]}, {"again"})
         self.assertEqual(len(json.loads(self.done("ls", "docs", "--json"))), 4)
 

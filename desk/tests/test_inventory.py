@@ -2,6 +2,7 @@
 
 from __future__ import annotations
 
+import csv
 import importlib.util
 import json
 import os
@@ -28,7 +29,7 @@ class InventoryTest(OfficeTest):
         super().setUp()
         self.scans = self.folder / "scans"
         self.scans.mkdir()
-        for n in range(3):
+        for n in range(4):
             (self.scans / f"Scan {n}.txt").write_bytes(b"scan %d" % n)
         text = b"class,years,mode\ndeed,6,COMPLIANCE\nletter,10,GOVERNANCE\nplan,permanent,GOVERNANCE\n"
         self.classes = self.written("classes.csv", text)
@@ -117,6 +118,8 @@ class Columns(InventoryTest):
         self.assertEqual(done.status, 0, done.err)
         self.assertEqual(self.ends(), {"2010/7": "2027-01-01T00:00:00Z", "2024/8": "2035-01-01T00:00:00Z"})
         self.assertIn('"Document date" = "date"', self.settings.read_text())
+        words = "--columns 'key=Reference,ignore=Title,date=Document date,class=Record class'"
+        self.assertIn(words, done.err)
 
     def test_an_answer_that_is_no_column_ends_it(self) -> None:
         for answer in ("reference", ""):
@@ -346,10 +349,12 @@ class Manual(InventoryTest):
     ROWS: list[list[Cell]] = [
         HEADS, ["2010/7", "Scan 0.txt", "A deed", "date:43952", "deed"],
         ["2024/8", "Scan 1.txt", "A letter", "date:45293", "letter"], [2025, "Scan 2.txt", "A plan", None, "plan"],
+        ["2025/1", "Scan 3.txt", "A note", "date:45294", None],
     ]  # fmt: skip
 
     @unittest.skipUnless(HAS_XLSX, "python3-openpyxl isn't there")
     def test_what_the_plan_says_is_what_the_vault_has(self) -> None:
+        self.lines({"do": "set-default", "bucket": "docs", "mode": "GOVERNANCE", "days": 100})
         listed, planned = book(Sheet1=self.ROWS), self.folder / "plan.csv"
         looked = self.deliver(listed, "--dry-run")
         self.assertEqual((looked.status, looked.out), (2, ""))
@@ -357,20 +362,24 @@ class Manual(InventoryTest):
         mapped = ("--columns", MAPPED, "--ignore-columns", "Title")
         looked = self.deliver(listed, "--dry-run", "--csv", str(planned), *mapped)
         self.assertEqual(looked.status, 0, looked.err)
-        self.assertIn("3 of 3 rows would be taken in", looked.err)
+        self.assertIn("4 of 4 rows would be taken in", looked.err)
+        said = "the first end is 2024-04-24T10:00:00Z, the last 9999-12-31T23:59:59Z; 0 stay without any guard; 1 can't"
+        self.assertIn(said, looked.err)
         self.assertEqual(self.done("ls", "docs"), "")
-        lines = planned.read_text().splitlines()
-        self.assertEqual(lines[0], "row,file,key,class,date,mode,end,size,note")
-        self.assertEqual(lines[1], "2,Scan 0.txt,2010/7,deed,2020-05-01,COMPLIANCE,2027-01-01T00:00:00Z,6,")
-        self.assertEqual(lines[2], "3,Scan 1.txt,2024/8,letter,2024-01-02,GOVERNANCE,2035-01-01T00:00:00Z,6,")
-        wanted = {cells[2]: cells[6] for cells in (it.split(",") for it in lines[1:])}
+        with planned.open(encoding="utf-8", newline="") as file:
+            rows = list(csv.DictReader(file))
+        self.assertEqual([*rows[0].values()][:8],
+                         ["2", "Scan 0.txt", "2010/7", "deed", "2020-05-01", "COMPLIANCE", "2027-01-01T00:00:00Z", "6"])
+        self.assertEqual([it["end"][:10] for it in rows], ["2027-01-01", "2035-01-01", "9999-12-31", "2024-04-24"])
         done = self.deliver(listed, *mapped)
         self.assertEqual(done.status, 0, done.err)
-        self.assertIn("3 of 3 rows are in the vault, 3 of them with the digest of their file", done.out)
-        self.assertEqual(self.ends(), wanted)
+        self.assertIn("4 of 4 rows are in the vault, 4 of them with the digest of their file", done.out)
+        self.assertEqual(self.ends(), {it["key"]: it["end"] for it in rows})
+        modes = {it["key"]: it["mode"] for it in json.loads(self.done("held", "--json"))}
+        self.assertEqual(modes, {it["key"]: it["mode"] for it in rows})
         # The settings know the columns by now, and the same command given again changes nothing.
         again = self.deliver(listed)
-        self.assertEqual((again.status, len(json.loads(self.done("ls", "docs", "--json")))), (0, 3), again.err)
+        self.assertEqual((again.status, len(json.loads(self.done("ls", "docs", "--json")))), (0, 4), again.err)
 
     def test_the_page_has_every_name_that_is_known(self) -> None:
         text = (Path(__file__).parents[2] / "docs" / "INVENTORY.md").read_text(encoding="utf-8")

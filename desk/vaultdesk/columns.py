@@ -135,7 +135,9 @@ def asked_for(words: argparse.Namespace, unknown: Sequence[str], place: str) -> 
         how = f"say what each is by --columns (as --columns 'key={unknown[0]}'), or give --ignore-columns"
         raise UsageError(f"{place}: these columns aren't known: {names}: {how}; {PAGE}")
     say(f"{place}: these columns aren't known: {names}; {PAGE}")
-    return {it: _ask(it) for it in unknown}
+    found = {it: _ask(it) for it in unknown}
+    say(f"by words: --columns '{','.join(f'{what}={name}' for name, what in found.items())}'")
+    return found
 
 
 def keep(given: Mapping[str, str]) -> None:

@@ -161,6 +161,12 @@ def _with_columns(text: str, given: Mapping[str, str]) -> str:
     return "\n".join([*lines, *(["", "[columns]", *table] if table else []), ""])
 
 
+def _own(new: Path, old: os.stat_result) -> None:
+    """Gives a new file the owner and the mode of the one in whose place it comes."""
+    os.chown(new, old.st_uid, old.st_gid)
+    new.chmod(old.st_mode & 0o777)
+
+
 def keep_columns(given: Mapping[str, str]) -> str:
     """Writes what columns are into the file of settings, or into a new one of the user's own, and says where.
 
@@ -177,8 +183,7 @@ def keep_columns(given: Mapping[str, str]) -> str:
         if old.get("columns", {}) | given == old.get("columns", {}):
             return ""
         file.parent.mkdir(parents=True, exist_ok=True)
-        mode = 0o600 if is_new else file.stat().st_mode & 0o777
-        write_anew(file, new, lambda it: it.chmod(mode))
+        write_anew(file, new, lambda it: None if is_new else _own(it, file.stat()))
     except (OSError, ValueError, DeskError) as error:
         return f"not kept for the next time: {names}: {error}: write it into [columns] of the settings"
     return f"kept for the next time in {file}, [columns]: {names}"

@@ -279,6 +279,8 @@ def deliver(engine: Engine, words: argparse.Namespace) -> None:
     if is_refused:
         what = f"{wrong} of {len(given.items)} rows are wrong" if given.items else "there is no row"
         raise DeskError(f"{what}: nothing was changed: mend them, or give --leave-out")
+    if given.right and not given.fresh:
+        say("this delivery was made already: nothing new comes in, and what is there is compared once more")
     _ask(words, given)
     columns.keep(said)
     _report(engine, words, given, taken_in(engine, words, given.items))

@@ -2,6 +2,7 @@
 
 from __future__ import annotations
 
+import functools
 import os
 import re
 import unicodedata
@@ -37,8 +38,13 @@ class Folder:
         """Says that no file is named so, and which one may be meant."""
         if "\\" in file:
             return "no such file in the folder: the inventory has a path of Windows: write that below the folder"
-        alike = next((it for it in self.files if _composed(it).casefold() == _composed(file.strip()).casefold()), "")
-        return f"no such file in the folder{alike and ': it has '}{alike and repr(alike)}"
+        alike = self._folded.get(_composed(file.strip()).casefold())
+        return f"no such file in the folder: it has {alike!r}" if alike else "no such file in the folder"
+
+    @functools.cached_property
+    def _folded(self) -> dict[str, str]:
+        """The paths by their small letters."""
+        return {_composed(it).casefold(): it for it in self.files}
 
     def below(self, given: Iterable[str]) -> dict[str, str]:
         """The paths of Windows among these, each with the path from the folder on.
