@@ -375,7 +375,7 @@ class Manual(InventoryTest):
         self.assertEqual(done.status, 0, done.err)
         self.assertIn("4 of 4 rows are in the vault, 4 of them with the digest of their file", done.out)
         self.assertEqual(self.ends(), {it["key"]: it["end"] for it in rows})
-        modes = {it["key"]: it["mode"] for it in json.loads(self.done("held", "--json"))}
+        modes = {it["key"]: it["retention"] for it in json.loads(self.done("held", "--json"))}
         self.assertEqual(modes, {it["key"]: it["mode"] for it in rows})
         # The settings know the columns by now, and the same command given again changes nothing.
         again = self.deliver(listed)
