@@ -234,6 +234,11 @@ class Locks(InventoryTest):
         self.classes = self.written("classes.csv", b"class,years,mode\ndeed,1000,GOVERNANCE\n")
         self.assertIn("ends after 9999-12-31T23:59:59Z", self.refused("File;Class;Date\nScan 0.txt;deed;9100-01-01\n"))
 
+    def test_keys_that_the_spreadsheet_has_spoilt_are_wrong(self) -> None:
+        for key, said in (("#N/A", "a cell has an error of the spreadsheet: #N/A"),
+                          ("1,23457E+11", "1,23457E\\+11 is a number that the spreadsheet shortened")):
+            self.assertRegex(self.refused(f"File;Key;Until\nScan 0.txt;{key};2030-01-01\n"), said)
+
 
 class Dates(InventoryTest):
     CLASSED = "File;Key;Class;Date\nScan 0.txt;a;letter;{}\nScan 1.txt;b;letter;{}\n"

@@ -124,6 +124,17 @@ class Spreadsheets(SheetsTest):
         text = f'<worksheet xmlns="{MAIN}"><sheetData><row r="1">{"<c/>" * 2_000_000}</row></sheetData></worksheet>'
         self.is_refused("many.xlsx", self.with_sheet(text), "too many cells")
 
+    def test_a_formula_without_its_result(self) -> None:
+        for result in ("", "<v>a.pdf</v>"):
+            cell = f'<c r="A2" t="str"><f>B2</f>{result}</c>'
+            rows = f'<row r="1"><c r="A1" t="str"><v>File</v></c></row><row r="2">{cell}</row>'
+            content = self.with_sheet(f'<worksheet xmlns="{MAIN}"><sheetData>{rows}</sheetData></worksheet>')
+            if result:
+                [it] = sheets.read(Path(self.written("list.xlsx", content)))
+                self.assertEqual(it.lines, [(1, ["File"]), (2, ["a.pdf"])])
+            else:
+                self.is_wrong("list.xlsx", content, "cell A2 has a formula without its result")
+
     def test_the_bounds_of_rows_and_bytes(self) -> None:
         listed = self.written("list.xlsx", book(List=[["File"], ["a.pdf"], ["b.pdf"]]))
         with mock.patch("vaultdesk.sheets.MOST_ROWS", 2), self.assertRaisesRegex(DeskError, "more than 2 rows"):

@@ -3,6 +3,7 @@
 from __future__ import annotations
 
 import datetime as dt
+import re
 from collections.abc import Mapping, Sequence
 from dataclasses import dataclass, field
 from pathlib import Path
@@ -13,6 +14,8 @@ from vaultdesk.errors import DeskError, UsageError
 from vaultdesk.output import say
 
 MOST_YEARS = 1_000  # of a class
+ERRORS = ("#N/A", "#REF!", "#VALUE!", "#NAME?", "#DIV/0!", "#NULL!", "#NUM!")
+SHORTENED = re.compile(r"\d([.,]\d+)?E\+\d+")
 PERMANENT = ("permanent", "unlimited", "dauernd")  # in the place of a class's years
 MODES = ("", "GOVERNANCE", "COMPLIANCE")
 
@@ -140,6 +143,9 @@ def item_of(line: int, row: inventory.Row, asked: Asked, orders: Mapping[str, da
     it.hold, it.kind, it.wanted = cells.get("hold", "").upper(), cells.get("class", ""), cells.get("sha256", "").lower()
     if not cells.get("key", "-"):
         it.notes.append("it has no key: its file's name is taken")
+    it.wrong += [f"a cell has an error of the spreadsheet: {cell}" for cell in cells.values() if cell in ERRORS]
+    if SHORTENED.fullmatch(it.key):
+        it.wrong.append(f"the key {it.key} is a number that the spreadsheet shortened: have its column be text")
     try:
         it.date = orders["date"].date(dates.without_time(cells.get("date", "")))
         it.until = orders["until"].date(cells.get("until", ""))

@@ -131,10 +131,12 @@ class _Look:
     def __init__(self) -> None:
         self.left = MOST_ELEMENTS
         self.of_row = self.depth = self.row = 0
+        self.cell = self.lacking = ""  # the last cell; and the same while it has a formula, and no result of it yet
 
     def at(self, text: bytes) -> None:
         """Looks at a text."""
         self.of_row = self.depth = self.row = 0
+        self.cell = self.lacking = ""
         parser = expat.ParserCreate()
         parser.StartElementHandler, parser.EndElementHandler = self._begin, self._end
         parser.StartDoctypeDeclHandler = self._refuse
@@ -148,6 +150,10 @@ class _Look:
         self.depth += 1
         self.of_row += 1
         kind = name.rpartition(":")[2]
+        if kind == "c":
+            self.cell, self.lacking = members.get("r", "of a sheet"), ""
+        elif kind in ("f", "v", "is"):
+            self.lacking = self.cell if kind == "f" else ""
         if kind in ("row", "si"):
             self.of_row = 0
         if kind == "row" and "r" in members:
@@ -157,8 +163,10 @@ class _Look:
         if self.left < 0 or self.of_row > MOST_OF_ROW or self.depth > MOST_DEPTH:
             raise DeskError(f"it has too many cells: {AS_CSV}")
 
-    def _end(self, _: str) -> None:
+    def _end(self, name: str) -> None:
         self.depth -= 1
+        if self.lacking and name.rpartition(":")[2] == "c":
+            raise DeskError(f"cell {self.lacking} has a formula without its result: open it in Excel, and save it")
 
     def _refuse(self, *_: object) -> None:
         raise DeskError("it defines names of its own (DOCTYPE), which no spreadsheet does")
