@@ -11,6 +11,7 @@ from typing import Any
 from vaultdesk import moments
 from vaultdesk.documents import write_content
 from vaultdesk.items import Item
+from vaultdesk.output import shown
 from vaultdesk.there import Default
 
 COLUMNS = ("row", "file", "key", "class", "date", "mode", "end", "size", "note")
@@ -55,7 +56,7 @@ def findings(items: Sequence[Item]) -> list[Row]:
 def named(files: Sequence[str]) -> str:
     """The first of these files, and how many more there are."""
     more = len(files) - MOST_NAMED
-    return ", ".join(files[:MOST_NAMED]) + (f", and {more:,} more" if more > 0 else "")
+    return ", ".join(map(shown, files[:MOST_NAMED])) + (f", and {more:,} more" if more > 0 else "")
 
 
 def _locks(items: Sequence[Item], default: Default) -> tuple[list[str], int, int]:
