@@ -124,6 +124,11 @@ class Spreadsheets(SheetsTest):
         text = f'<worksheet xmlns="{MAIN}"><sheetData><row r="1">{"<c/>" * 2_000_000}</row></sheetData></worksheet>'
         self.is_refused("many.xlsx", self.with_sheet(text), "too many cells")
 
+    def test_what_other_programs_lay_into_a_spreadsheet_isnt_read(self) -> None:
+        others = {"customXml/item1.xml": '<!DOCTYPE x><row r="x"/>', "xl/media/image1.png": b"\x89PNG" * 1_000}
+        [it] = sheets.read(Path(self.written("list.xlsx", package({**parts_of({"List": RIGHT}), **others}))))
+        self.assertEqual(it.lines[0], (1, ["File", "Until"]))
+
     def test_a_formula_without_its_result(self) -> None:
         for result in ("", "<v>a.pdf</v>"):
             cell = f'<c r="A2" t="str"><f>B2</f>{result}</c>'

@@ -29,6 +29,7 @@ MOST_ROWS, LAST_ROW, MOST_COLUMNS = 50_000, 1_048_576, 64
 MOST_OF_RECORD = 1_048_576  # characters of a row of CSV
 DELIMITERS = ";,\t"
 AS_CSV = "save the rows that count as CSV, or in a new spreadsheet"
+PART = re.compile(r"(?!customXml/).*\.(xml|rels)", re.DOTALL)  # pictures and the texts of other programs aren't read
 CONTROL = re.compile(r"[\x00-\x08\x0e-\x1f]")
 Line = tuple[int, list[str]]  # a row that isn't empty: its number, and its cells
 
@@ -175,7 +176,7 @@ class _Look:
 def _texts(content: bytes) -> Iterator[tuple[str, bytes]]:
     """The texts of a package, which are looked at. `DeskError` where it is no spreadsheet, or too large."""
     with zipfile.ZipFile(io.BytesIO(content)) as given:
-        parts = {it.filename: it for it in given.infolist() if it.filename.endswith((".xml", ".rels"))}
+        parts = {it.filename: it for it in given.infolist() if PART.fullmatch(it.filename)}
         # By what the package says first: it may say less than there is, and then has that read and no more.
         if sum(it.file_size for it in parts.values()) > MOST_UNPACKED:
             raise DeskError(f"it has more than {MOST_UNPACKED:,} bytes once it is unpacked: {AS_CSV}")
