@@ -125,18 +125,19 @@ class Spreadsheets(SheetsTest):
         self.is_refused("many.xlsx", self.with_sheet(text), "too many cells")
 
     def test_what_other_programs_lay_into_a_spreadsheet_isnt_read(self) -> None:
-        others = {"customXml/item1.xml": '<!DOCTYPE x><row r="x"/>', "xl/media/image1.png": b"\x89PNG" * 1_000}
-        [it] = sheets.read(Path(self.written("list.xlsx", package({**parts_of({"List": RIGHT}), **others}))))
+        parts = parts_of({"List": RIGHT})
+        parts |= {"xl/media/image1.png": b"\x89PNG", "customXml/item1.xml": "<!DOCTYPE x><x/>"}
+        [it] = sheets.read(Path(self.written("list.xlsx", package(parts))))
         self.assertEqual(it.lines[0], (1, ["File", "Until"]))
 
     def test_a_formula_without_its_result(self) -> None:
-        for result in ("", "<v>a.pdf</v>"):
-            cell = f'<c r="A2" t="str"><f>B2</f>{result}</c>'
+        for kind, result in (("str", ""), ("n", ""), ("n", "<v></v>"), ("n", "<v>17</v>"), ("str", "<v>17</v>")):
+            cell = f'<c r="A2" t="{kind}"><f>B2</f>{result}</c>'
             rows = f'<row r="1"><c r="A1" t="str"><v>File</v></c></row><row r="2">{cell}</row>'
             content = self.with_sheet(f'<worksheet xmlns="{MAIN}"><sheetData>{rows}</sheetData></worksheet>')
-            if result:
+            if "17" in result:
                 [it] = sheets.read(Path(self.written("list.xlsx", content)))
-                self.assertEqual(it.lines, [(1, ["File"]), (2, ["a.pdf"])])
+                self.assertEqual(it.lines, [(1, ["File"]), (2, ["17"])])
             else:
                 self.is_wrong("list.xlsx", content, "cell A2 has a formula without its result")
 

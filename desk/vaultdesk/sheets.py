@@ -133,16 +133,18 @@ class _Look:
         self.left = MOST_ELEMENTS
         self.of_row = self.depth = self.row = 0
         self.cell = self.lacking = ""  # the last cell; and the same while it has a formula, and no result of it yet
+        self.is_text = False  # whether the last cell has a text, which may be empty
+        self.parser = expat.ParserCreate()
 
     def at(self, text: bytes) -> None:
         """Looks at a text."""
         self.of_row = self.depth = self.row = 0
         self.cell = self.lacking = ""
-        parser = expat.ParserCreate()
-        parser.StartElementHandler, parser.EndElementHandler = self._begin, self._end
-        parser.StartDoctypeDeclHandler = self._refuse
+        self.parser = expat.ParserCreate()
+        self.parser.StartElementHandler, self.parser.EndElementHandler = self._begin, self._end
+        self.parser.StartDoctypeDeclHandler = self._refuse
         try:
-            parser.Parse(text, True)
+            self.parser.Parse(text, True)
         except (expat.ExpatError, ValueError) as error:
             raise DeskError(f"no spreadsheet that can be read: {error}") from error
 
@@ -151,10 +153,7 @@ class _Look:
         self.depth += 1
         self.of_row += 1
         kind = name.rpartition(":")[2]
-        if kind == "c":
-            self.cell, self.lacking = members.get("r", "of a sheet"), ""
-        elif kind in ("f", "v", "is"):
-            self.lacking = self.cell if kind == "f" else ""
+        self._look_at_cell(kind, members)
         if kind in ("row", "si"):
             self.of_row = 0
         if kind == "row" and "r" in members:
@@ -164,9 +163,25 @@ class _Look:
         if self.left < 0 or self.of_row > MOST_OF_ROW or self.depth > MOST_DEPTH:
             raise DeskError(f"it has too many cells: {AS_CSV}")
 
+    def _look_at_cell(self, kind: str, members: dict[str, str]) -> None:
+        if kind == "c":
+            self.cell, self.lacking, self.is_text = members.get("r", "of a sheet"), "", members.get("t") == "str"
+        elif kind == "f":
+            self.lacking = self.cell
+        elif kind == "v" and self.lacking and not self.is_text:
+            self.parser.CharacterDataHandler = self._result
+        elif kind in ("v", "is"):
+            self.lacking = ""
+
+    def _result(self, _: str) -> None:
+        self.lacking = ""
+
     def _end(self, name: str) -> None:
         self.depth -= 1
-        if self.lacking and name.rpartition(":")[2] == "c":
+        kind = name.rpartition(":")[2]
+        if kind == "v":
+            self.parser.CharacterDataHandler = None
+        if kind == "c" and self.lacking:
             raise DeskError(f"cell {self.lacking} has a formula without its result: open it in Excel, and save it")
 
     def _refuse(self, *_: object) -> None:
