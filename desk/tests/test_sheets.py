@@ -5,10 +5,12 @@ from __future__ import annotations
 import importlib.util
 import os
 import resource
+import struct
 import subprocess
 import sys
 import unittest
 import zipfile
+import zlib
 from io import BytesIO
 from pathlib import Path
 from unittest import mock
@@ -67,32 +69,40 @@ class Spreadsheets(SheetsTest):
     def test_a_sheet_that_says_it_has_a_million_columns_is_read(self) -> None:
         text = RIGHT.replace("<sheetData>", '<dimension ref="A1:XFD1048576"/><sheetData>')
         far = '<row r="1048576"><c r="XFD1048576" s="1"/></row></sheetData>'
-        for it in (text, text.replace("</sheetData>", far)):
-            done = self.looked_at("dim.xlsx", self.with_sheet(it))
-            self.assertEqual(done.returncode, 0, done.stderr)
-            self.assertIn("1 of 1 rows would be taken in", done.stderr)
+        done = self.looked_at("dim.xlsx", self.with_sheet(text.replace("</sheetData>", far)))
+        self.assertEqual(done.returncode, 0, done.stderr)
+        self.assertIn("1 of 1 rows would be taken in", done.stderr)
+
+    def bomb(self, said: int) -> bytes:
+        """A spreadsheet of 2 MB with a cell of 2 GB, which says that its sheet has that many bytes."""
+        begun = f'<worksheet xmlns="{MAIN}"><sheetData><row r="1"><c r="A1" t="inlineStr"><is><t>'
+        packer = zlib.compressobj(9, zlib.DEFLATED, -15)
+        packed = packer.compress(begun.encode()) + packer.flush(zlib.Z_FULL_FLUSH)
+        packed += (packer.compress(b"x" * 67_108_864) + packer.flush(zlib.Z_FULL_FLUSH)) * 32
+        packed += packer.compress(b"</t></is></c></row></sheetData></worksheet>") + packer.flush()
+        # A part that isn't packed, and then is called so. Its check is that of the packed bytes: nobody comes so far.
+        name = "xl/worksheets/sheet1.xml"
+        made = BytesIO()
+        parts = parts_of({"List": ""})
+        parts[name] = packed
+        with zipfile.ZipFile(made, "w") as package_:
+            for part, text in parts.items():
+                package_.writestr(part, text)
+            place = package_.getinfo(name).header_offset
+        content = bytearray(made.getvalue())
+        of_list = content.rindex(name.encode()) - 46
+        for method, size in ((place + 8, place + 22), (of_list + 10, of_list + 24)):
+            struct.pack_into("<H", content, method, zipfile.ZIP_DEFLATED)
+            struct.pack_into("<I", content, size, said)
+        return bytes(content)
 
     def test_a_bomb_of_one_cell(self) -> None:
-        made = BytesIO()
-        begun = f'<worksheet xmlns="{MAIN}"><sheetData><row r="1"><c r="A1" t="inlineStr"><is><t>'
-        with zipfile.ZipFile(made, "w", zipfile.ZIP_DEFLATED) as packed:
-            for name, text in parts_of({"List": ""}).items():
-                if not name.startswith("xl/worksheets/"):
-                    packed.writestr(name, text)
-            with packed.open("xl/worksheets/sheet1.xml", "w", force_zip64=True) as file:
-                file.write(begun.encode())
-                for _ in range(2_048):
-                    file.write(b"x" * 1_048_576)
-                file.write(b"</t></is></c></row></sheetData></worksheet>")
-        self.assertLess(len(made.getvalue()), 2_200_000)
-        self.is_refused("bomb.xlsx", made.getvalue(), "more than 33,554,432 bytes once it is unpacked")
+        bomb = self.bomb(32 * 67_108_864)
+        self.assertLess(len(bomb), 2_200_000)
+        self.is_refused("bomb.xlsx", bomb, "more than 33,554,432 bytes once it is unpacked")
 
     def test_a_bomb_that_says_it_is_small(self) -> None:
-        content = self.with_sheet(RIGHT.replace("</sheetData>", " " * 50_000_000 + "</sheetData>"))
-        parts = zipfile.ZipFile(BytesIO(content)).getinfo("xl/worksheets/sheet1.xml")
-        lied = content.replace(parts.file_size.to_bytes(4, "little"), (1_000).to_bytes(4, "little"))
-        self.assertNotEqual(lied, content)
-        self.is_refused("lied.xlsx", lied, "no spreadsheet that can be unpacked")
+        self.is_refused("lied.xlsx", self.bomb(33_000_000), "no spreadsheet that can be (read|unpacked)")
 
     def test_laughs(self) -> None:
         names = "".join(f'<!ENTITY l{n} "{f"&l{n - 1};" * 10}">' for n in range(1, 10))
@@ -151,7 +161,6 @@ class Spreadsheets(SheetsTest):
 class Texts(SheetsTest):
     def test_files_that_are_no_text(self) -> None:
         self.is_refused("list.csv", b"\x89PNG\r\n\x1a\n\0\0\0\rIHDR", "no text has, so it is no CSV")
-        self.is_refused("list.csv", os.urandom(1_000_000), "so it is no CSV")
         for content, said in (
             (bytes(range(128, 256)), "it is no text, so it is no CSV"),
             (b"\xff\xfea", "it is no text, so it is no CSV"),
@@ -161,12 +170,12 @@ class Texts(SheetsTest):
 
     def test_texts_that_are_too_large(self) -> None:
         self.is_wrong("list.csv", b"x" * 17_000_000, "more than 16,777,216 bytes")
+        self.is_refused("list.csv", b"File," * 3_000_000, "a row has more than 1,048,576 characters")
         for content, said in (
-            (b"File," * 3_000_000, "a row has more than 1,048,576 characters"),
             (b"File,Key\n" + b'"x\n",' * 2_000_000, "a row has more than 1,048,576 characters"),
             (b"File\n" + b"a.pdf\n" * 60_000, "more than 50,000 rows"),
         ):
-            self.is_refused("list.csv", content, said)
+            self.is_wrong("list.csv", content, said)
 
     def test_a_text_that_was_cut(self) -> None:
         self.is_wrong("list.csv", b'File,Key\na.pdf,"k', "unexpected end of data")
