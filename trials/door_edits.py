@@ -65,10 +65,10 @@ EDITS = [
      ALONE + "test_a_delivery_is_reported_also_where_it_cant_be_compared"),
     # deliveries
     ("intake", "'again' if done['again'] else 'admitted'", "'admitted'", BATCH),
-    ("intake", "\"line\": it.number", "\"line\": it.number + 1", BATCH),
+    ("intake", "\"line\": it.line", "\"line\": it.line + 1", BATCH),
     ("intake", "(\"hold\", it.hold))}", ")}", BATCH),
     ("intake", "os.O_NOFOLLOW | ", "", DELIVERED + "test_no_link_is_followed"),
-    ("intake", "            causes[it.number] = meaning(error)\n", "", DELIVERED + "test_a_row_that_is_refused_has_its_cause"),
+    ("intake", "            causes[it.line] = meaning(error)\n", "", DELIVERED + "test_a_row_that_is_refused_has_its_cause"),
     ("intake", "(it.file, it.key, it.mode, it.until, it.hold))", "(it.file, it.key, \"\", \"\", it.hold))", BATCH),
     ("intake", "(it.file, it.key, it.mode, it.until, it.hold))", "(it.file, it.key, it.mode, it.until, \"\"))", BATCH),
     # who is first to put a key

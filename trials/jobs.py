@@ -142,13 +142,17 @@ class Jobs(Case):
         office = Office(self.folder)
         office.make(office_lines())
         make_scans(self.folder)
-        words = ["deliver", "scans", "--bucket", "letters", "--batch", "2024-06", "--classes", "classes.csv", "--inventory"]
+        words = ["deliver", "scans", "--bucket", "letters", "--batch", "2024-06", "--classes", "classes.csv"]
         with office.served():
+            # The column of who worked on a file is none of the vault's.
+            unknown = office.asked(*words, "--inventory", "list.csv", "--yes")
+            self.assertEqual((unknown.status, unknown.out, "aren't known: 'Bearbeiter'" in unknown.err), (2, "", True))
+            words += ["--ignore-columns", "--inventory"]
             looked = office.asked(*words, "list.csv", "--dry-run")
             self.assertEqual(looked.status, 0, looked.err)
             for row, file, why in (
-                (7, "missing.pdf", "no such file"), (8, "large.pdf", "more than 1,048,576 bytes"),
-                (9, "Akte 0008", "no class 'unknown'"), (10, "Akte 0009", "no date"),
+                (8, "missing.pdf", "no such file"), (9, "large.pdf", "more than 1,048,576 bytes"),
+                (10, "Akte 0008", "no class 'unknown'"), (11, "Akte 0009", "no date"),
             ):
                 self.assertRegex(looked.out, rf"(?m)^ *{row}  {file}.*{why}")
             self.assertIn(f"{SCANS - 4} of {SCANS} rows would be taken in", looked.err)
@@ -164,7 +168,7 @@ class Jobs(Case):
             (self.folder / "other.csv").write_text(mended, encoding="utf-8")
             refused = office.asked(*words, "other.csv", "--yes")
             self.assertEqual(refused.status, 1)
-            self.assertRegex(refused.out, r"(?m)^ *5  Akte 0004 M.*  2024/4 +IntakeConflict .*taken in before")
+            self.assertRegex(refused.out, r"(?m)^ *6  Akte 0004 M.*  2024/4 +IntakeConflict .*taken in before")
             held = json.loads(office.done("hold", "letters", "--prefix", "2024/000", "--case", "Miller 17", "--json"))
             self.assertEqual({it["refused"] for it in held}, {""})
             self.assertEqual(office.done("verify"), "sound, by a copy of the vault as it is now\n")

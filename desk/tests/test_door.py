@@ -199,7 +199,7 @@ class Deliveries(ServedTest):
             (self.scans / f"{number}.pdf").write_bytes(b"scan %d" % number)
 
     def deliver(self, *words: str) -> Done:
-        return self.desk("deliver", str(self.scans), "--bucket", "docs", "--batch", "b1", *words, at=None)
+        return self.desk("deliver", str(self.scans), "--bucket", "docs", "--batch", "b1", "--yes", *words, at=None)
 
     def results(self, *words: str) -> list[str]:
         done = self.deliver("--json", *words)
@@ -208,13 +208,14 @@ class Deliveries(ServedTest):
 
     def test_what_is_taken_in_by_lines_is_known_to_the_program_and_the_other_way_round(self) -> None:
         classes = self.written("classes.csv", b"class,years,mode\ndeed,10,GOVERNANCE\n")
-        listed = self.written("list.csv", b"file,key,class,hold\n0.pdf,a,deed,\nnone.pdf,b,,\n2.pdf,c,deed,on\n")
+        text = "file,key,date,class,hold\n0.pdf,a,2024-01-02,deed,\nnone.pdf,b,,,\n2.pdf,c,2024-01-02,deed,on\n"
+        listed = self.written("list.csv", text.encode())
         words = ("--inventory", listed, "--classes", classes, "--leave-out")
         server = self.serve()
         self.assertEqual(self.results(*words), ["admitted"] * 2)
         self.assertEqual(self.results(*words), ["again"] * 2)
         self.end(server)
-        Path(listed).write_text("file,key,class,hold\n0.pdf,a,deed,\n1.pdf,b,,\n2.pdf,c,deed,on\n")
+        Path(listed).write_text(text.replace("none.pdf", "1.pdf"))
         self.assertEqual(self.results(*words), ["again", "admitted", "again"])
         self.serve()
         self.assertEqual(self.results(*words), ["again"] * 3)
@@ -423,7 +424,7 @@ class DoorAlone(ServedTest):
         self.lines({**may, "caller": "bob", "rights": ["put"]})
         self.serve(self.where)
         self.where.chmod(0o666)
-        words = ("deliver", str(scans), "--bucket", "docs", "--batch", "b1")
+        words = ("deliver", str(scans), "--bucket", "docs", "--batch", "b1", "--yes")
         done = self.as_nobody(*words, "--as", "bob")
         self.assertEqual((done.status, done.out), (1, "1 of 1 rows are in the vault\n"))
         self.assertIn("wasn't compared with the folder: AccessDenied right:get", done.err)

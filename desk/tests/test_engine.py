@@ -8,7 +8,8 @@ from pathlib import Path
 from typing import Any
 from unittest import mock
 
-from vaultdesk import cases, deliveries, intake, limits
+from tests.office import PROGRAM, OfficeTest
+from vaultdesk import cases, intake, there
 from vaultdesk.config import Desk
 from vaultdesk.engine import Engine
 from vaultdesk.errors import DeskError, EngineError, Refused
@@ -73,30 +74,37 @@ class Lines(unittest.TestCase):
         self.assertEqual(after, [("p", None, None), ("p", "a", 4), ("p", "b", 9)])
 
 
-class Known(unittest.TestCase):
+class Known(OfficeTest):
     """What a delivery finds in the vault, and what its intake ends with."""
 
     words = argparse.Namespace(bucket="docs", batch="b1", folder="scans")
 
-    def is_known(self, department: str, *batches: tuple[str, str]) -> bool:
-        """Whether a vault with these batches knows the delivery's."""
-        found: dict[str, list[Any]] = {
-            "find": [], "batches": [{"bucket": bucket, "batch": batch, "lines": 1} for bucket, batch in batches],
-            "callers": [{"caller": "ann", "department": department}],
-        }  # fmt: skip
-        engine = mock.Mock()
-        engine.desk.caller, engine.desk.limits = "ann", limits.NONE
-        with mock.patch("vaultdesk.reading.query", lambda _, name, **__: found[name]):
-            return deliveries._look_at_vault(engine, self.words, [])
+    def setUp(self) -> None:
+        super().setUp()
+        self.lines({"do": "add-bucket", "as": "registrar", "bucket": "other", "dept": "records"})
+
+    def lines_of(self, caller: str = "ann") -> frozenset[int]:
+        """The lines of the delivery's batch that the vault knows."""
+        with mock.patch("vaultdesk.there.say"), Engine(Desk(PROGRAM, self.file, caller)) as engine:
+            return there.look(engine, self.words).lines
 
     def test_a_batch_is_one_of_its_bucket(self) -> None:
-        with mock.patch("vaultdesk.deliveries.say"):
-            self.assertFalse(self.is_known("records", ("other", "b1"), ("docs", "b2")))
-            self.assertTrue(self.is_known("records", ("other", "b2"), ("docs", "b1")))
+        row = {"do": "intake", "key": "a", "text": "a"}
+        self.lines({**row, "bucket": "other", "batch": "b1", "line": 1})
+        self.lines({**row, "bucket": "docs", "batch": "b2", "line": 2})
+        self.assertEqual(self.lines_of(), frozenset())
+        self.lines({**row, "bucket": "docs", "batch": "b1", "line": 3})
+        self.assertEqual(self.lines_of(), frozenset({3}))
 
     def test_who_can_put_nothing_is_refused_first(self) -> None:
-        with self.assertRaisesRegex(DeskError, "can put nothing"):
-            self.is_known("-")
+        for caller in ("registrar", "nobody"):
+            with self.assertRaisesRegex(DeskError, "can put nothing"):
+                self.lines_of(caller)
+
+    def test_a_bucket_that_isnt_there_is_refused_first(self) -> None:
+        self.words = argparse.Namespace(bucket="dogs", batch="b1")
+        with self.assertRaisesRegex(DeskError, "no bucket 'dogs': it has docs, other"):
+            self.lines_of()
 
     def test_an_intake_that_wasnt_begun_is_a_failure(self) -> None:
         engine = mock.Mock(at=None)

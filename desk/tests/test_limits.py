@@ -88,7 +88,7 @@ class Limits(OfficeTest):
         self.assertEqual(self.done("default", "docs"), "GOVERNANCE for 2 years\n")
 
     def test_a_row_without_an_end_has_the_default_or_is_wrong(self) -> None:
-        words = ("deliver", str(self.folder / "scans"), "--bucket", "docs", "--batch", "b")
+        words = ("deliver", str(self.folder / "scans"), "--bucket", "docs", "--batch", "b", "--yes")
         for why in ("has no default retention", "2026-01-13T10:00:00Z is before 2026-01-15T10:00:00Z"):
             done = self.desk(*words)
             self.assertEqual(done.status, 1)

@@ -2,16 +2,14 @@
 
 from __future__ import annotations
 
-import datetime as dt
 import os
 import time
 import unittest
 from pathlib import Path
 from unittest import mock
 
-from vaultdesk import backup, copies, items, moments
+from vaultdesk import backup, copies, inventory, items, looks, moments
 
-TODAY = dt.date(2024, 1, 15)
 DEED = {"deed": items.Class(10, "COMPLIANCE")}
 
 
@@ -51,8 +49,8 @@ class Rows(unittest.TestCase):
 
     def lock(self, **row: str) -> tuple[str, str, str, bool]:
         """The mode, the end and the hold of a row, and whether it is wrong."""
-        it = items.item_of(1, {"file": "a.pdf", **row}, DEED, TODAY)
-        items.look_at_words(it, "2024-01-15T10:00:00Z")
+        [it] = items.items_of([inventory.Row(2, {"file": "a.pdf", **row})], items.Asked(DEED), None, {})
+        looks.look_at_words(it, "2024-01-15T10:00:00Z")
         return it.mode, it.until, it.hold, bool(it.wrong)
 
     def test_it_is_the_one_that_the_row_says(self) -> None:
@@ -67,7 +65,7 @@ class Rows(unittest.TestCase):
         wanted = ("COMPLIANCE", "2031-01-01T00:00:00Z", "", False)
         for date in ("2020-05-01", "2020-12-31T23:59:59Z", "2021-01-01T00:30:00+01:00", "2020-12-31T22:00:00-01:00"):
             self.assertEqual(self.lock(**{"class": "deed", "date": date}), wanted, date)
-        self.assertEqual(self.lock(**{"class": "deed"})[1], "2035-01-01T00:00:00Z")
+        self.assertTrue(self.lock(**{"class": "deed"})[3])
 
     def test_where_it_isnt_known_the_row_is_wrong(self) -> None:
         for row in ({"class": "dead"}, {"class": "deed", "date": "1.5.2020"}, {"until": "2034"}, {"hold": "yes"},

@@ -60,7 +60,7 @@ ROWS = {
     "rules try": Row(TRIED, "nowhere --until 2024-01-20"),
     "expire": Row("records --yes", "court --yes"),
     "rules remove": Row("docs old", "docs none"),
-    "deliver": Row("{folder}/scans --bucket docs --batch b1", "{folder}/none --bucket docs --batch b1"),
+    "deliver": Row(*(f"{{folder}}/{it} --bucket docs --batch b1 --yes" for it in ("scans", "none"))),
     "certificates": Row("{folder}/certificates", "{folder}/one.txt"),
     "certificate": Row("3", "1"),
     "register": Row("", NO_VAULT),

@@ -8,16 +8,23 @@ import sys
 from vaultdesk.errors import DeskError, UsageError
 
 
-def confirm(words: argparse.Namespace, question: str) -> None:
-    """Goes on where --yes was given, or a person at the terminal answers yes.
+def asked(question: str) -> str:
+    """What a person at the terminal answers. `DeskError` where the answer is none, as of Ctrl-D or Ctrl-C."""
+    try:
+        return input(question).strip()
+    except (EOFError, KeyboardInterrupt) as error:
+        raise DeskError("nothing was changed") from error
+
+
+def confirm(words: argparse.Namespace, question: str, option: str = "yes") -> None:
+    """Goes on where --yes was given (or that other option), or a person at the terminal answers yes.
 
     `UsageError` where nobody can be asked, `DeskError` where the answer is another one."""
-    if words.yes:
+    if getattr(words, option):
         return
     if not sys.stdin.isatty():
-        raise UsageError(f"{question}: give --yes where nobody can be asked")
-    answer = input(f"{question}? [yes/no] ")
-    if answer.strip().lower() not in ("y", "yes"):
+        raise UsageError(f"{question}: give --{option} where nobody can be asked")
+    if asked(f"{question}? [yes/no] ").lower() not in ("y", "yes"):
         raise DeskError("nothing was changed")
 
 

@@ -18,12 +18,19 @@ An option is asked first, then the environment, then a file of settings (TOML)::
     [greatest]
     letters = "30 years"     # the longest one; a number of days or of years
 
+    dates = "day-first"      # above the tables: how an inventory of CSV has dates as 01.02.2026; or "month-first"
+
+    [columns]
+    "Reference" = "key"      # what a column of an inventory is, which deliver --columns writes here; or "ignore"
+
 A name that isn't there is that of a vault with units, if there is one: /var/lib/vaultctl/NAME.vault.
 """
 
 from __future__ import annotations
 
+import json
 import os
+import re
 import tomllib
 from collections.abc import Mapping
 from dataclasses import dataclass
@@ -31,8 +38,9 @@ from pathlib import Path
 from typing import Any
 
 from vaultdesk import conf, limits
-from vaultdesk.errors import UsageError
+from vaultdesk.errors import DeskError, UsageError
 from vaultdesk.limits import Limits
+from vaultdesk.replacing import write_anew
 
 PLACES = (Path("~/.config/vaultdesk.toml"), Path("/etc/vaultctl/desk.toml"))
 
@@ -47,6 +55,8 @@ class Settings:
     vaults: Mapping[str, str] | None = None
     doors: Mapping[str, str] | None = None
     limits: Limits = limits.NONE
+    columns: Mapping[str, str] | None = None
+    dates: str | None = None
 
     def file_of(self, vault: str) -> Path:
         """The file of the vault that is named so, or else that path itself.
@@ -113,19 +123,70 @@ def read_settings(path: Path) -> Settings:
         raise UsageError(f"settings {path}: [vaults] has names, each with the path of a file")
     if not _are_texts(doors):
         raise UsageError(f"settings {path}: [doors] has names, each with the path of a socket, or a port in quotes")
+    columns = found.get("columns", {})
+    if not _are_texts(columns):
+        raise UsageError(f"settings {path}: [columns] has names of columns, each with what it is in quotes")
     within = Limits(_periods(found, "least"), _periods(found, "greatest"))
-    return Settings(
-        _text(found, "vault"), _text(found, "caller"), _text(found, "program"), vaults, doors, within
-    )  # fmt: skip
+    vault, caller, program_, dates = (_text(found, it) for it in ("vault", "caller", "program", "dates"))
+    return Settings(vault, caller, program_, vaults, doors, within, columns, dates)
+
+
+def _file() -> Path | None:
+    """$VAULTDESK_SETTINGS, or else the first file that is there."""
+    named = os.environ.get("VAULTDESK_SETTINGS")
+    if named:
+        return Path(named)
+    return next((it for it in (place.expanduser() for place in PLACES) if _is_there(it)), None)
 
 
 def settings() -> Settings:
     """Those of $VAULTDESK_SETTINGS, or else of the first file that is there; none where no file is."""
-    named = os.environ.get("VAULTDESK_SETTINGS")
-    if named:
-        return read_settings(Path(named))
-    there = (it.expanduser() for it in PLACES)
-    return next((read_settings(it) for it in there if _is_there(it)), Settings())
+    file = _file()
+    return read_settings(file) if file else Settings()
+
+
+def _with_columns(text: str, given: Mapping[str, str]) -> str:
+    """The text of a file of settings with these columns in its table; what else is there stays as it is."""
+    table = [f"{json.dumps(name, ensure_ascii=False)} = {json.dumps(it)}" for name, it in given.items()]
+    lines, is_in = list[str](), False
+    for line in text.splitlines():
+        if re.match(r"\s*\[", line):
+            is_in = re.match(r"\s*\[\s*columns\s*\]", line) is not None
+        if is_in and re.match(r"\s*[^\s\[#]", line) and {*tomllib.loads(line)} & {*given}:
+            continue
+        lines.append(line)
+        if is_in and re.match(r"\s*\[", line):
+            lines += table
+            table = []
+    return "\n".join([*lines, *(["", "[columns]", *table] if table else []), ""])
+
+
+def _own(new: Path, old: os.stat_result) -> None:
+    """Gives a new file the owner and the mode of the one in whose place it comes."""
+    os.chown(new, old.st_uid, old.st_gid)
+    new.chmod(old.st_mode & 0o777)
+
+
+def keep_columns(given: Mapping[str, str]) -> str:
+    """Writes what columns are into the file of settings, or into a new one of the user's own, and says where.
+
+    What can't be written is said too: the settings stay as they were."""
+    file = (_file() or PLACES[0].expanduser()).resolve()
+    names = ", ".join(f"{name!r} is {it}" for name, it in given.items())
+    try:
+        is_new = not file.exists()
+        text = "" if is_new else file.read_text(encoding="utf-8")
+        old = tomllib.loads(text)
+        new = _with_columns(text, given)
+        if tomllib.loads(new) != {**old, "columns": {**old.get("columns", {}), **given}}:
+            raise DeskError(f"{file}: its table [columns] isn't written as the desk writes it")
+        if old.get("columns", {}) | given == old.get("columns", {}):
+            return ""
+        file.parent.mkdir(parents=True, exist_ok=True)
+        write_anew(file, new, lambda it: None if is_new else _own(it, file.stat()))
+    except (OSError, ValueError, DeskError) as error:
+        return f"not kept for the next time: {names}: {error}: write it into [columns] of the settings"
+    return f"kept for the next time in {file}, [columns]: {names}"
 
 
 def _is_there(path: Path) -> bool:

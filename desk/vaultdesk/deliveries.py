@@ -3,114 +3,23 @@
 from __future__ import annotations
 
 import argparse
-import datetime as dt
 import hashlib
 from collections.abc import Iterator, Mapping, Sequence
 from pathlib import Path
 from typing import Any
 
-from vaultdesk import inventory, limits, moments, reading
+from vaultdesk import columns, dates, looks, plan, there
 from vaultdesk.asking import add_yes, confirm
+from vaultdesk.delivery import Delivery, look, look_at_words
 from vaultdesk.documents import read_content
 from vaultdesk.engine import Engine
-from vaultdesk.errors import DeskError, EngineError, Refused, UsageError
+from vaultdesk.errors import DeskError, EngineError, Refused
 from vaultdesk.intake import Intake, results, taken_in
-from vaultdesk.items import (
-    Item, files_of, item_of, look_at_default, look_at_doubles, look_at_file, look_at_keys, look_at_limits,
-    look_at_words, names_of, read_classes, skip_doubles,
-)  # fmt: skip
-from vaultdesk.output import counted_off, print_json, print_table, say
+from vaultdesk.items import Item
+from vaultdesk.output import counted_off, print_json, print_table, refusals, say
 
+FOUND = ("row", "file", "wrong", "note")
 Row = dict[str, Any]
-
-
-# ---- before
-
-
-def _look_at_vault(engine: Engine, words: argparse.Namespace, items: Sequence[Item]) -> bool:
-    """What the vault has already, and whether it knows the batch. `DeskError` where the caller can put nothing."""
-    caller = engine.desk.caller
-    try:
-        file = engine.tables
-        there = _query_found(file, None)
-        batches = reading.query(file, "batches")
-        callers = {it["caller"]: it for it in reading.query(file, "callers")}
-    except EngineError as error:
-        say(f"not looked at: what the vault holds already: {error}")
-        look_at_doubles(items, frozenset())
-        return False
-    held = frozenset(it["sha256"] for it in there)
-    if caller not in callers or callers[caller]["department"] == "-":
-        raise DeskError(f"caller {caller!r} has no department, or isn't there: it can put nothing")
-    known = [it["lines"] for it in batches if (it["bucket"], it["batch"]) == (words.bucket, words.batch)]
-    if known:
-        say(f"batch {words.batch!r} is known: {known[0]} of its lines were taken in before")
-    look_at_doubles(items, held)
-    look_at_default(items, _why_default(engine, file, words.bucket))
-    if not known:
-        look_at_keys(items, frozenset(it["key"] for it in there if it["bucket"] == words.bucket))
-    return bool(known)
-
-
-def _why_default(engine: Engine, file: Path, bucket: str) -> str:
-    """Why the bucket's default retention isn't one by the settings; empty where it is, or they have no limits of it."""
-    if not limits.are_of(engine.desk.limits, bucket):
-        return ""
-    found = reading.rows(file, "SELECT days, years FROM buckets WHERE name = ? AND mode <> 0", (bucket,))
-    now = engine.at or moments.now()
-    ends = [limits.Period(*((years, "year") if days is None else (days, "day"))).after(now) for days, years in found]
-    return limits.why_not_kept(engine.desk.limits, bucket, ends[0] if ends else None, now)
-
-
-def _query_found(file: Path, bucket: str | None) -> list[Row]:
-    """What the vault holds, in a bucket or in all."""
-    nothing = {"prefix": None, "text": None, "sha256": None, "since": None, "before": None}
-    return reading.query(file, "find", bucket=bucket, state="held", **nothing)
-
-
-def _all_files(words: argparse.Namespace, files: Sequence[str]) -> list[inventory.Row]:
-    """A row for each file: of the folder itself, and where that is asked, of those within it."""
-    taken = [it for it in files if words.recursive or "/" not in it]
-    if len(taken) < len(files):
-        left = len(files) - len(taken)
-        say(f"{left} files are in folders of {words.folder}, and left out: --recursive takes them in")
-    return [{"file": it} for it in taken]
-
-
-def look(engine: Engine, words: argparse.Namespace) -> list[Item]:
-    """All items of the delivery, each with what was found of it."""
-    folder = Path(words.folder)
-    files = files_of(folder)
-    names = names_of(files)
-    classes = read_classes(Path(words.classes)) if words.classes else {}
-    now = engine.at or moments.now()
-    today = dt.date.fromisoformat(now[:10])
-    rows = inventory.read(Path(words.inventory), ("file",)) if words.inventory else _all_files(words, files)
-    items = [item_of(number, row, classes, today) for number, row in enumerate(rows, start=1)]
-    for it in counted_off(items, "rows were looked at"):
-        look_at_words(it, now)
-        look_at_limits(it, engine.desk.limits, words.bucket, now)
-        look_at_file(it, folder, names)
-    return items
-
-
-def _findings(items: Sequence[Item]) -> list[Row]:
-    return [
-        {"row": it.number, "file": it.file, "wrong": "; ".join(it.wrong), "note": "; ".join(it.notes)}
-        for it in items
-        if it.wrong or it.notes
-    ]
-
-
-def _questions(items: Sequence[Item], known: bool) -> str:
-    """What has to be asked before these are taken in."""
-    counts = {
-        "can't be removed by anybody before their end (COMPLIANCE)": sum(it.mode == "COMPLIANCE" for it in items),
-        f"retentions end in more than {moments.FAR} years": sum(it.is_far for it in items),
-        "documents are in the vault already, of another batch": 0 if known else sum(it.is_doubled for it in items),
-        "keys are held already, and get one more version": sum(it.is_above for it in items),
-    }
-    return "; ".join(f"{count} {what}" for what, count in counts.items() if count)
 
 
 # ---- afterwards
@@ -120,7 +29,7 @@ def _differing(engine: Engine, bucket: str, taken: Mapping[int, Item]) -> list[s
     """The files whose content isn't what the vault holds, by the digests of both. `EngineError` where neither the
     vault's tables can be read, nor each version may be asked for."""
     try:
-        held = {it["version"]: str(it["sha256"]) for it in _query_found(engine.tables, bucket)}
+        held = {it["version"]: str(it["sha256"]) for it in there.held_in(engine.tables, bucket)}
     except EngineError:
         if not engine.is_served:
             raise
@@ -139,104 +48,161 @@ def _asked_digests(engine: Engine, bucket: str, taken: Mapping[int, Item]) -> It
             yield version, ""  # it was removed in between
 
 
-def _tell(engine: Engine, words: argparse.Namespace, items: Sequence[Item], intake: Intake) -> None:
+def _why_not_all(intake: Intake, refused: Sequence[Row], done: int, wanted: int) -> str:
+    """Says that not all that was right came in; nothing where it did."""
+    if done < wanted:
+        last = intake.lines[-1] if intake.lines else "no line of the engine"
+        return f"{len(refused)} rows were refused, {wanted - done} weren't come to: {last}"
+    return refusals([str(it["value"]) for it in refused], wanted) if refused else ""
+
+
+def _report(engine: Engine, words: argparse.Namespace, given: Delivery, intake: Intake) -> None:
     """Prints what became of the delivery. `DeskError` where not all that was right is in the vault as it is there, or
     who came by a server's door may not read the tables to compare it."""
+    items, wanted = given.items, len(given.right)
     rows = list(results(intake, items))
     refused = [it for it in rows if it["result"] == "refused"]
-    taken = {int(it["value"]): items[it["row"] - 1] for it in rows if it["result"] != "refused"}
+    taken = {int(it["value"]): item for it, item in zip(rows, _of_rows(rows, items)) if it["result"] != "refused"}
     differing, why = None, None
     try:
         differing = _differing(engine, words.bucket, taken)
     except EngineError as error:
         why = f"what is in the vault wasn't compared with the folder: {error}"
-    wanted = sum(not it.is_out for it in items)
     if words.json:
         told = {"taken_in": len(taken), "refused": refused, "differing": differing, "rows": rows}
-        print_json({**told, "findings": _findings(items), "skipped": [it.number for it in items if it.is_skipped]})
+        skipped = [it.number for it in items if it.is_skipped]
+        print_json({**told, "findings": plan.findings(items), "skipped": skipped, "in_no_row": given.unnamed})
     else:
-        print_table(refused, ("row", "file", "key", "value", "cause"), as_json=False)
-        same = "" if differing is None else f", {len(taken) - len(differing)} of them with the digest of their file"
-        skipped = sum(it.is_skipped for it in items)
-        left = f"; {skipped} were left out, as their content is there" if skipped else ""
-        print(f"{len(taken)} of {len(items)} rows are in the vault{same}{left}")
+        _print_result(items, refused, taken, differing)
     if differing:
         raise DeskError(f"the vault holds other content than the folder has now: {', '.join(differing)}")
-    if refused or len(rows) < wanted:
-        last = intake.lines[-1] if intake.lines else "no line of the engine"
-        raise DeskError(f"{len(refused)} rows were refused, {wanted - len(rows)} weren't come to: {last}")
+    not_all = _why_not_all(intake, refused, len(rows), wanted)
+    if not_all:
+        raise DeskError(not_all)
     if why:
         raise DeskError(why)
 
 
-# ---- the inventory itself
+def _of_rows(rows: Sequence[Row], items: Sequence[Item]) -> list[Item]:
+    """The items of these rows of results."""
+    by_number = {it.number: it for it in items}
+    return [by_number[it["row"]] for it in rows]
 
 
-def _look_at_list(words: argparse.Namespace) -> None:
-    """`DeskError` where the inventory is to be kept and can't be; before anything is taken in."""
-    if words.keep_inventory and not words.inventory:
-        raise UsageError("--keep-inventory KEY goes with --inventory FILE")
-    if words.keep_inventory:
-        read_content(words.inventory)
+def _print_result(
+    items: Sequence[Item], refused: Sequence[Row], taken: Mapping[int, Item], differing: Sequence[str] | None
+) -> None:
+    print_table(refused, ("row", "file", "key", "value", "cause"), as_json=False)
+    same = "" if differing is None else f", {len(taken) - len(differing)} of them with the digest of their file"
+    skipped = sum(it.is_skipped for it in items)
+    left = f"; {skipped} were left out, as their content is there" if skipped else ""
+    print(f"{len(taken)} of {len(items)} rows are in the vault{same}{left}")
+
+
+# ---- the whole
 
 
 def _keep_list(engine: Engine, words: argparse.Namespace) -> None:
     """Puts the inventory as it was given, unless it is the key's current version already."""
     content = read_content(words.inventory)
     try:
-        there = engine.ask("head", bucket=words.bucket, key=words.keep_inventory)["sha256"]
+        current = engine.ask("head", bucket=words.bucket, key=words.keep_inventory)["sha256"]
     except Refused as error:
         if error.code != "NoSuchKey":
             raise
-        there = ""
-    if there != hashlib.sha256(content).hexdigest():
+        current = ""
+    if current != hashlib.sha256(content).hexdigest():
         done = engine.ask("put", bucket=words.bucket, key=words.keep_inventory, hex=content.hex())
         say(f"the inventory is version {done['version_id']}, {words.keep_inventory}")
 
 
+def _print_look(words: argparse.Namespace, given: Delivery, is_last: bool) -> None:
+    """Prints what was found, and where nothing is to be taken in, the plan."""
+    rows = given.rows()
+    if words.csv:
+        plan.write(Path(words.csv), rows, words.force)
+        say(f"the plan is in {words.csv}")
+    found = plan.findings(given.items)
+    if not words.json and words.dry_run:
+        print_table(rows, plan.COLUMNS, as_json=False)
+    elif not words.json:
+        print_table(found, FOUND, as_json=False)
+    elif is_last:
+        print_json({"taken_in": 0, "findings": found, "plan": rows, "in_no_row": given.unnamed})
+    if given.unnamed:
+        say(f"{len(given.unnamed)} files of the folder are in no row: {plan.named(given.unnamed)}")
+
+
+def _ask(words: argparse.Namespace, given: Delivery) -> None:
+    """Asks what has to be asked before it is taken in. A delivery that was made already is asked for with --yes too."""
+    again = plan.made_already(given.fresh)
+    if again:
+        confirm(words, f"{again}: --skip-held leaves them out, --again takes them in once more", "again")
+    question = plan.question(given.fresh, given.there.default, len(given.unnamed), bool(given.there.lines))
+    if question:
+        confirm(words, question)
+
+
 def deliver(engine: Engine, words: argparse.Namespace) -> None:
     """Looks at a delivery, takes it in, and compares what the vault has with the folder."""
-    _look_at_list(words)
-    items = look(engine, words)
-    known = _look_at_vault(engine, words, items)
-    skipped = skip_doubles(items) if words.skip_held else 0
+    look_at_words(words)
+    given, said = look(engine, words)
+    skipped = looks.skip_doubles(given.items) if words.skip_held else 0
     if skipped:
         say(f"{skipped} rows are left out: the vault holds their content already, or an earlier row has it")
-    right = [it for it in items if not it.is_out]
-    wrong = sum(bool(it.wrong) for it in items)
-    is_refused = not right and not skipped or bool(wrong) and not words.leave_out
-    if not words.json:
-        print_table(_findings(items), ("row", "file", "wrong", "note"), as_json=False)
-    elif words.dry_run or is_refused:
-        print_json({"taken_in": 0, "findings": _findings(items)})
+    wrong = sum(bool(it.wrong) for it in given.items)
+    is_refused = not given.right and not skipped or bool(wrong) and not words.leave_out
+    _print_look(words, given, words.dry_run or is_refused)
     if words.dry_run:
-        say(f"{len(right)} of {len(items)} rows would be taken in")
+        say(f"{len(given.right)} of {len(given.items)} rows would be taken in")
+        say(plan.summary(given.fresh, given.there.default))
         return
     if is_refused:
-        raise DeskError(f"{wrong} of {len(items)} rows are wrong: mend them, or give --leave-out")
-    questions = _questions(right, known)
-    if questions:
-        confirm(words, questions)
-    _tell(engine, words, items, taken_in(engine, words, items))
+        what = f"{wrong} of {len(given.items)} rows are wrong" if given.items else "there is no row"
+        raise DeskError(f"{what}: nothing was changed: mend them, or give --leave-out")
+    if given.right and not given.fresh:
+        say("this delivery was made already: nothing new comes in, and what is there is compared once more")
+    _ask(words, given)
+    columns.keep(said)
+    _report(engine, words, given, taken_in(engine, words, given.items))
     if words.keep_inventory:
         _keep_list(engine, words)
+
+
+def _add_list(it: argparse.ArgumentParser) -> None:
+    """The options of the inventory, and of what its rows ask for."""
+    help_text = "CSV or xlsx with the column file, and if wanted key, class, date, mode, until, hold, sha256"
+    it.add_argument("--inventory", metavar="FILE", help=help_text)
+    help_text = "what columns of other names are, as key=Reference,date='Document date'; the settings keep it"
+    it.add_argument("--columns", metavar="WHAT=COLUMN", action="append", help=help_text)
+    help_text = "pass over these columns, with commas between them; without names all that aren't known"
+    it.add_argument("--ignore-columns", metavar="COLUMN", nargs="?", const=columns.ALL, action="append", help=help_text)
+    it.add_argument("--sheet", metavar="NAME", help="the sheet of an xlsx, by its name or number")
+    help_text = "which number of a date as 01.02.2026 is the day, where the inventory doesn't show it"
+    it.add_argument("--dates", choices=dates.ORDERS, help=help_text)
+    it.add_argument("--classes", metavar="FILE", help="CSV or xlsx with the columns class, years, mode")
+    it.add_argument("--until", metavar="DATE", help="a retention that ends then, for rows without an end or a class")
+    help_text = "the mode of ends that have none (GOVERNANCE)"
+    it.add_argument("--mode", choices=("GOVERNANCE", "COMPLIANCE"), help=help_text)
+    help_text = "put the inventory itself as a document under this key, with the columns that only the office knows"
+    it.add_argument("--keep-inventory", metavar="KEY", help=help_text)
 
 
 def add(commands: argparse._SubParsersAction[argparse.ArgumentParser], common: argparse.ArgumentParser) -> None:
     """Adds the subcommand to the desk's words."""
     example = "Example: vaultdesk deliver scans --bucket files --batch 2025-06 --inventory a.xlsx --classes years.csv"
     what = "take in a folder of scans: by an inventory, or each file under its name"
-    it = commands.add_parser("deliver", parents=[common], help=what, epilog=example)
+    about = f"Takes in a folder of scans. {columns.PAGE}, and what each column says. --dry-run prints the plan."
+    it = commands.add_parser("deliver", parents=[common], help=what, description=about, epilog=example)
     it.add_argument("folder")
     it.add_argument("--bucket", required=True)
     it.add_argument("--batch", required=True, help="the delivery's name: given again, nothing is taken in twice")
-    help_text = "CSV or xlsx with the column file, and if wanted key, class, date, mode, until, hold"
-    it.add_argument("--inventory", metavar="FILE", help=help_text)
-    it.add_argument("--classes", metavar="FILE", help="CSV or xlsx with the columns class, years, mode")
-    help_text = "put the inventory itself as a document under this key, with the columns that only the office knows"
-    it.add_argument("--keep-inventory", metavar="KEY", help=help_text)
+    _add_list(it)
     it.add_argument("--recursive", action="store_true", help="without an inventory: also files of folders within it")
     it.add_argument("--skip-held", action="store_true", help="leave out rows whose content the vault holds already")
+    it.add_argument("--again", action="store_true", help="take in once more what the bucket holds already")
     it.add_argument("--leave-out", action="store_true", help="take in the other rows where some are wrong")
+    it.add_argument("--csv", metavar="FILE", help="write the plan there: key, mode, end and more of each row")
+    it.add_argument("--force", action="store_true", help="with --csv: write over a file that is there")
     add_yes(it)
     it.set_defaults(run=deliver)

@@ -1,6 +1,7 @@
 """A delivery taken in: by the engine's own intake where the vault's file is free, else line by line at a server's door.
 
-Both number the lines of a batch by its rows, so that what the one began the other ends.
+Both number the lines of a batch by its rows, so that what the one began the other ends. Empty rows and those above the
+names of columns don't count there: to people a row has the number that Excel shows.
 """
 
 from __future__ import annotations
@@ -30,7 +31,7 @@ Row = dict[str, Any]
 
 @dataclass(frozen=True)
 class Intake:
-    """What the engine's intake said: its lines, and in words why rows were refused, by their numbers."""
+    """What the engine's intake said: its lines, and in words why rows were refused, by their lines of the batch."""
 
     lines: Sequence[str]
     causes: Mapping[int, str]
@@ -51,7 +52,7 @@ def results(intake: Intake, items: Sequence[Item]) -> Iterator[Row]:
         found = ROW.fullmatch(line)
         if found and not items[int(found[1]) - 1].is_out:
             it = items[int(found[1]) - 1]
-            cause = intake.causes.get(it.number, "") if found[2] == "refused" else ""
+            cause = intake.causes.get(it.line, "") if found[2] == "refused" else ""
             row: Row = {"row": it.number, "file": it.file, "key": it.key}
             yield {**row, "result": found[2], "value": found[3], "cause": cause}
 
@@ -69,9 +70,9 @@ def _write_list(path: Path, items: Sequence[Item]) -> None:
             writer.writerow(("",) * 5 if it.is_out else (it.file, it.key, it.mode, it.until, it.hold))
 
 
-def _cause(items: Sequence[Item], number: int, words: str) -> str:
+def _cause(items: Sequence[Item], line: int, words: str) -> str:
     """The cause of a refused row, without the file's name, which is beside it."""
-    return words.removeprefix(f"{items[number - 1].file}: ")
+    return words.removeprefix(f"{items[line - 1].file}: ")
 
 
 def _ran(command: Sequence[str], count: int) -> tuple[int, list[str], list[str]]:
@@ -121,7 +122,7 @@ def _content(path: Path) -> bytes:
 def _line_of(words: argparse.Namespace, it: Item) -> dict[str, Any]:
     """The members of the line of an item. `OSError` where its file can't be read."""
     lock = {name: value or None for name, value in (("mode", it.mode), ("until", it.until), ("hold", it.hold))}
-    place = {"bucket": words.bucket, "batch": words.batch, "line": it.number, "key": it.key}
+    place = {"bucket": words.bucket, "batch": words.batch, "line": it.line, "key": it.key}
     return {**place, "hex": _content(Path(words.folder) / it.file).hex(), **lock}
 
 
@@ -133,15 +134,15 @@ def _by_lines(engine: Engine, words: argparse.Namespace, items: Sequence[Item]) 
             continue
         try:
             done = engine.ask("intake", **_line_of(words, it))
-            lines.append(f"{it.number} {'again' if done['again'] else 'admitted'} {done['version_id']}")
+            lines.append(f"{it.line} {'again' if done['again'] else 'admitted'} {done['version_id']}")
         except Refused as error:
             if error.code in STOPPING:
                 say(f"row {it.number}: {it.file}: {error}")
                 lines.append(f"stopped {error.code}")
                 break
-            lines.append(f"{it.number} refused {error.code}")
-            causes[it.number] = meaning(error)
+            lines.append(f"{it.line} refused {error.code}")
+            causes[it.line] = meaning(error)
         except OSError as error:
-            lines.append(f"{it.number} refused InvalidArgument")
-            causes[it.number] = f"it can't be read: {error.strerror}"
+            lines.append(f"{it.line} refused InvalidArgument")
+            causes[it.line] = f"it can't be read: {error.strerror}"
     return Intake(lines, causes)

@@ -1,47 +1,57 @@
-"""What a delivery brings: its rows, and what is found of each before anything is taken in."""
+"""What a delivery brings: its rows, each with the lock that it asks for."""
 
 from __future__ import annotations
 
 import datetime as dt
-import hashlib
-import os
-import unicodedata
-from collections import Counter
+import re
 from collections.abc import Mapping, Sequence
 from dataclasses import dataclass, field
 from pathlib import Path
 
-from vaultdesk import inventory, moments
-from vaultdesk.documents import MOST
+from vaultdesk import dates, inventory, moments
+from vaultdesk.columns import NAMES, OF_CLASSES
 from vaultdesk.errors import DeskError, UsageError
-from vaultdesk.limits import Limits, why_outside
+from vaultdesk.output import say
 
-LONGEST_KEY = 1_024  # bytes of UTF-8
 MOST_YEARS = 1_000  # of a class
+ERRORS = ("#N/A", "#REF!", "#VALUE!", "#NAME?", "#DIV/0!", "#NULL!", "#NUM!")
+SHORTENED = re.compile(r"\d([.,]\d+)?E\+\d+")
+PERMANENT = ("permanent", "unlimited", "dauernd")  # in the place of a class's years
 MODES = ("", "GOVERNANCE", "COMPLIANCE")
-HOLDS = ("", "ON", "OFF")
 
 
 @dataclass
 class Item:
     """A row of a delivery, and what was found of it: what is wrong has it left out, a note doesn't.
 
+    `number` is its row as Excel counts it, `line` its line of the batch: the rows from 1 on, without empty ones.
+    `kind` is its class, `date` the document's, `size` that of its file. `wanted` is the digest that the inventory has.
     `is_far`: its retention ends in more than thirty years; `is_doubled`: the vault holds its content already;
     `is_second`: an earlier row of the delivery has the same one; `is_skipped`: it is left out for one of the two;
-    `is_above`: the bucket holds a document of its key already."""
+    `is_above`: the bucket holds a document of its key already, `is_here`: one of its content, `is_again`: of both;
+    `is_taken`: its line of the batch was taken in before; `is_by_default`: its retention is the bucket's default."""
 
     number: int
+    line: int
     file: str
     key: str
     mode: str
     until: str
     hold: str
+    kind: str = ""
+    date: str = ""
+    wanted: str = ""
     digest: str = ""
+    size: int | None = None
     is_far: bool = False
     is_doubled: bool = False
     is_second: bool = False
     is_above: bool = False
+    is_here: bool = False
+    is_again: bool = False
+    is_taken: bool = False
     is_skipped: bool = False
+    is_by_default: bool = False
     wrong: list[str] = field(default_factory=list)
     notes: list[str] = field(default_factory=list)
 
@@ -53,167 +63,108 @@ class Item:
 
 @dataclass(frozen=True)
 class Class:
-    """How long documents of a class are kept: up to the first January after that many whole years."""
+    """How long documents of a class are kept: up to the first January after that many whole years, or for ever."""
 
-    years: int
+    years: int | None
     mode: str
+
+
+@dataclass(frozen=True)
+class Asked:
+    """What the words of a delivery ask of its rows: the classes, and the end and the mode of rows without their own."""
+
+    classes: Mapping[str, Class] | None = None
+    until: str = ""
+    mode: str = ""
 
 
 def read_classes(path: Path) -> dict[str, Class]:
     """The classes of a file with the columns class, years and mode. `DeskError` where a cell isn't right."""
     found = {}
-    for row in inventory.read(path, ("class", "years", "mode")):
-        is_number = row["years"].isascii() and row["years"].isdecimal() and int(row["years"]) <= MOST_YEARS
-        if not is_number or row["mode"] not in MODES[1:]:
-            why = f"years is a number up to {MOST_YEARS:,}, mode GOVERNANCE or COMPLIANCE"
-            raise DeskError(f"{path}: class {row['class']!r}: {why}")
-        found[row["class"]] = Class(int(row["years"]), row["mode"])
+    given = inventory.listed(path, OF_CLASSES)
+    unused = inventory.unknown(given, NAMES, OF_CLASSES)
+    if unused:
+        say(f"{given.place}: columns that aren't used: {', '.join(map(repr, unused))}")
+    for row in inventory.rows(given, NAMES, OF_CLASSES):
+        name, years, mode = (row.cells[it] for it in OF_CLASSES)
+        is_number = years.isascii() and years.isdecimal() and int(years) <= MOST_YEARS
+        if not is_number and years.casefold() not in PERMANENT or mode not in MODES[1:]:
+            why = f"years is a number up to {MOST_YEARS:,}, or permanent, and mode GOVERNANCE or COMPLIANCE"
+            raise DeskError(f"{given.place}: row {row.number}: class {name!r}: {why}")
+        if name in found:
+            raise DeskError(f"{given.place}: row {row.number}: class {name!r} comes twice")
+        found[name] = Class(int(years) if is_number else None, mode)
     return found
 
 
-def end_of(kept: Class, begun: dt.date) -> str:
-    """The end of a class's retention: 1 January after `years` whole years from the year of that day."""
+def end_of(kept: Class, begun: dt.date | None) -> str:
+    """The end of a class's retention: 1 January after `years` whole years from the year of that day, or the last moment
+    that there is. `UsageError` where no day is given, or the end would be later than that moment."""
+    if kept.years is None:
+        return moments.LAST
+    if begun is None:
+        raise UsageError("its class counts from the document's date, and it has none")
+    if begun.year + kept.years + 1 > dt.MAXYEAR:
+        raise UsageError(f"its class ends after {moments.LAST}: years is permanent for what is kept for ever")
     return f"{begun.year + kept.years + 1:04}-01-01T00:00:00Z"
 
 
-def _dated(row: Mapping[str, str], today: dt.date) -> dt.date:
-    return dt.date.fromisoformat(moments.read(row["date"])[:10]) if row.get("date") else today
+def _of_class(it: Item, asked: Asked) -> tuple[str, str]:
+    """The mode and the end of an item's class."""
+    if asked.classes is None:
+        raise UsageError(f"class {it.kind!r}: give the file of classes by --classes, or pass its column over")
+    if it.kind not in asked.classes:
+        raise UsageError(f"no class {it.kind!r} in the file of classes")
+    kept = asked.classes[it.kind]
+    if it.mode not in ("", kept.mode):
+        raise UsageError(f"its mode is {it.mode}, and that of its class {kept.mode}: leave one of them out")
+    return kept.mode, end_of(kept, dates.day_of(it.date) if it.date else None)
 
 
-def _lock(row: Mapping[str, str], classes: Mapping[str, Class], today: dt.date) -> tuple[str, str]:
-    """The mode and the end of a row's retention: its own, or that of its class."""
-    if row.get("until"):
-        return row.get("mode") or "GOVERNANCE", moments.read(row["until"])
-    if row.get("class"):
-        if row["class"] not in classes:
-            raise UsageError(f"no class {row['class']!r} in the file of classes")
-        kept = classes[row["class"]]
-        return kept.mode, end_of(kept, _dated(row, today))
+def _lock(it: Item, asked: Asked) -> tuple[str, str]:
+    """The mode and the end of an item's retention: its own, that of its class, or the one that is asked for all."""
+    if it.until:
+        if it.kind:
+            it.notes.append("its end is its own, and not that of its class")
+        return it.mode or asked.mode or "GOVERNANCE", moments.read(it.until)
+    if it.kind:
+        return _of_class(it, asked)
+    if asked.until:
+        return it.mode or asked.mode or "GOVERNANCE", asked.until
+    if it.mode:
+        raise UsageError(f"{it.mode} wants an end: a column until, a class, or --until")
     return "", ""
 
 
-def item_of(number: int, row: Mapping[str, str], classes: Mapping[str, Class], today: dt.date) -> Item:
-    """A row of the inventory as an item."""
-    it = Item(number, row["file"], row.get("key") or row["file"], "", "", row.get("hold", "").upper())
+def item_of(line: int, row: inventory.Row, asked: Asked, orders: Mapping[str, dates.Order]) -> Item:
+    """A row of the inventory as an item; `orders` has how the columns date and until have their dates."""
+    cells = row.cells
+    it = Item(row.number, line, cells["file"], cells.get("key") or cells["file"], cells.get("mode", ""), "", "")
+    it.hold, it.kind, it.wanted = cells.get("hold", "").upper(), cells.get("class", ""), cells.get("sha256", "").lower()
+    if not cells.get("key", "-"):
+        it.notes.append("it has no key: its file's name is taken")
+    it.wrong += [f"a cell has an error of the spreadsheet: {cell}" for cell in cells.values() if cell in ERRORS]
+    if SHORTENED.fullmatch(it.key):
+        it.wrong.append(f"the key {it.key} is a number that the spreadsheet shortened: have its column be text")
     try:
-        it.mode, it.until = _lock(row, classes, today)
+        it.date = orders["date"].date(dates.without_time(cells.get("date", "")))
+        it.until = orders["until"].date(cells.get("until", ""))
+        it.mode, it.until = _lock(it, asked)
     except UsageError as error:
+        it.until = ""
         it.wrong.append(str(error))
     return it
 
 
-def _is_unicode(text: str) -> bool:
-    """Whether a text has no bytes of a file's name that aren't UTF-8."""
-    return not any("\udc80" <= it <= "\udcff" for it in text)
-
-
-def look_at_words(it: Item, now: str) -> None:
-    """What is wrong with the key and the lock of an item by themselves."""
-    if not _is_unicode(it.key):
-        it.wrong.append("the file's name isn't UTF-8, which a key is: rename the file, or give an inventory with keys")
-    elif not it.key or len(it.key.encode()) > LONGEST_KEY or any(ord(c) < 32 or ord(c) == 127 for c in it.key):
-        it.wrong.append("a key has 1 to 1,024 bytes, none of them a control character")
-    if it.key != it.key.strip():
-        it.notes.append("the key begins or ends with a blank, which is kept")
-    if it.key != unicodedata.normalize("NFC", it.key):
-        it.notes.append("the key isn't in the composed form (NFC), and is kept so: who types it finds another one")
-    if it.mode not in MODES or it.hold not in HOLDS:
-        it.wrong.append("mode is GOVERNANCE or COMPLIANCE, hold is ON or OFF")
-    if it.until and it.until <= now:
-        it.wrong.append(f"the retention ended already: {it.until}")
-    it.is_far = bool(it.until) and moments.is_far(it.until, now)
-    if it.is_far:
-        it.notes.append(f"the retention ends in more than {moments.FAR} years: {it.until}")
-
-
-def look_at_limits(it: Item, given: Limits, bucket: str, now: str) -> None:
-    """What is wrong with the end of an item's retention by the limits of the settings."""
-    why = why_outside(given, bucket, it.until, now) if it.until else ""
-    if why:
-        it.wrong.append(why)
-
-
-def look_at_default(items: Sequence[Item], why: str) -> None:
-    """What is wrong with items that take the bucket's default retention, where that isn't one for the bucket."""
-    for it in items:
-        if why and not it.until:
-            it.wrong.append(why)
-
-
-def look_at_file(it: Item, folder: Path, names: Mapping[str, str]) -> None:
-    """What is wrong with an item's file; its digest where nothing is."""
-    if it.file.startswith("/") or not {"", ".", ".."}.isdisjoint(it.file.split("/")):
-        it.wrong.append("a file's name is that of a file of the folder itself, or its path from there")
-        return
-    name = names.get(it.file) or names.get(unicodedata.normalize("NFC", it.file))
-    if name is None:
-        it.wrong.append("no such file in the folder")
-        return
-    if name != it.file:
-        it.notes.append("the file's name is written in another Unicode form in the folder")
-        it.file = name
-    path = folder / it.file
-    if path.is_symlink() or not path.is_file():
-        it.wrong.append("it is no file: a link, a folder or a device isn't taken in")
-        return
-    try:
-        with path.open("rb") as file:
-            content = file.read(MOST + 1)
-    except OSError as error:
-        it.wrong.append(f"it can't be read: {error.strerror}")
-        return
-    if len(content) > MOST:
-        it.wrong.append(f"it has more than {MOST:,} bytes: cut it into parts")
-        return
-    it.digest = hashlib.sha256(content).hexdigest()
-
-
-def look_at_doubles(items: Sequence[Item], held: frozenset[str]) -> None:
-    """What comes twice: within the delivery, or in the vault already."""
-    keys = Counter(it.key for it in items)
-    digests = Counter(it.digest for it in items if it.digest)
-    earlier = set[str]()
-    for it in items:
-        it.is_second = bool(it.digest) and it.digest in earlier
-        earlier.add(it.digest)
-        if keys[it.key] > 1:
-            it.notes.append("the key comes more than once in this delivery")
-        if it.digest and digests[it.digest] > 1:
-            it.notes.append("the same content comes more than once in this delivery")
-        if it.digest in held:
-            it.is_doubled = True
-            it.notes.append("the vault holds the same content already")
-
-
-def look_at_keys(items: Sequence[Item], held: frozenset[str]) -> None:
-    """Which items become one more version of a document that the bucket holds."""
-    for it in items:
-        it.is_above = it.key in held
-        if it.is_above:
-            it.notes.append("the bucket holds that key already: it gets one more version")
-
-
-def skip_doubles(items: Sequence[Item]) -> int:
-    """Leaves out what the vault holds already, and what comes a second time; how many these are."""
-    for it in items:
-        it.is_skipped = not it.wrong and (it.is_doubled or it.is_second)
-    return sum(it.is_skipped for it in items)
-
-
-def files_of(folder: Path) -> list[str]:
-    """The paths of all files below a folder, from there; no link to a folder is followed.
-
-    `DeskError` where a folder can't be read."""
-
-    def fail(error: OSError) -> None:
-        raise DeskError(f"{error.filename}: {error.strerror}") from error
-
+def items_of(rows: Sequence[inventory.Row], asked: Asked, order: str | None, paths: Mapping[str, str]) -> list[Item]:
+    """The rows of the inventory as items; `paths` has names of files that are written otherwise in the folder."""
+    texts = {"date": [dates.without_time(it.cells.get("date", "")) for it in rows]}
+    texts["until"] = [it.cells.get("until", "") for it in rows]
+    orders = {kind: dates.order_of(of_column, order) for kind, of_column in texts.items()}
     found = []
-    for place, _, names in os.walk(folder, onerror=fail):
-        found += [str((Path(place) / it).relative_to(folder)) for it in names]
-    return sorted(found)
-
-
-def names_of(files: Sequence[str]) -> dict[str, str]:
-    """The paths of files, by themselves and by their composed form."""
-    return {unicodedata.normalize("NFC", it): it for it in files} | {it: it for it in files}
+    for line, row in enumerate(rows, start=1):
+        file = row.cells["file"]
+        named = inventory.Row(row.number, {**row.cells, "file": paths.get(file, file)})
+        found.append(item_of(line, named, asked, orders))
+        found[-1].notes += [f"the inventory has {file}"] if file in paths else []
+    return found

@@ -39,7 +39,7 @@ class Period:
             moved = begun + dt.timedelta(days=1) if is_leap_day else begun
             return moments.text_of(moved.replace(year=begun.year + self.count))
         except (ValueError, OverflowError):
-            return "9999-12-31T23:59:59Z"
+            return moments.LAST
 
 
 @dataclass(frozen=True)

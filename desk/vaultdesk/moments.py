@@ -8,6 +8,7 @@ from collections.abc import Iterator
 
 from vaultdesk.errors import UsageError
 
+LAST = "9999-12-31T23:59:59Z"  # that a vault can keep
 FAR = 30  # years after which an end is asked about
 DATE = re.compile(r"\d{4}-\d{2}-\d{2}")
 MOMENT = re.compile(r"\d{4}-\d{2}-\d{2}T\d{2}:\d{2}:\d{2}(Z|[+-]\d{2}:\d{2})")

@@ -52,7 +52,7 @@ SHEET = (
 UNWRITTEN = re.compile("[\\x00-\\x08\\x0b\\x0c\\x0d\\x0e-\\x1f\\ufffe\\uffff]|_(?=x[0-9A-Fa-f]{4}_)")
 
 
-def _letters(column: int) -> str:
+def letters(column: int) -> str:
     """The letters of a column, from 0 on: A, B .. Z, AA .."""
     text = ""
     while column >= 0:
@@ -65,7 +65,7 @@ def _cell(row: int, column: int, text: str) -> str:
     if len(text) > LONGEST:
         raise DeskError(f"a cell of a spreadsheet has at most {LONGEST:,} characters, and one has {len(text):,}")
     written = UNWRITTEN.sub(lambda it: f"_x{ord(it[0]):04X}_", text)
-    place = f"{_letters(column)}{row}"
+    place = f"{letters(column)}{row}"
     return f'<c r="{place}" s="1" t="inlineStr"><is><t xml:space="preserve">{escape(written)}</t></is></c>'
 
 

@@ -4,3 +4,15 @@ mod RegisterParts
 mod Staying
 mod Walking
 mod Written
+mod RowTexts
+mod MomentTexts
+mod CellTexts
+mod EventCells
+mod LegibleEvents
+mod Restored
+mod Lines
+mod EqualTexts
+mod RegisterCells
+mod CertificateLines
+mod LawfulDates
+mod TypedWalk

@@ -1,5 +1,5 @@
 -- The text of events: CSV with a header and a record for each event.
-use Rattle.std.specs.Prelude.{ℕ, List, [], ◌∷◌, ◌++◌, Bool, true, false, Option, Some, None, codes}
+use Rattle.std.specs.Prelude.{ℕ, List, [], ◌∷◌, ◌++◌, Bool, true, false, Option, Some, None, codes, unwrap_or}
 use Rattle.std.specs.Fmt.{decimal}
 use Rattle.std.specs.List.{flat_map}
 use Rattle.csv.specs.Writing.{row_text, default_writer}
@@ -42,18 +42,11 @@ bypass_name false = codes "false"
 -- the retention, the hold and the bypass of a setting; else four empty cells
 unfoldable pub lock_cells : Happening → List (List ℕ)
 lock_cells (Locked s) = retention_cells s.lock.retention ++ hold_name s.lock.hold ∷ bypass_name s.bypass ∷ []
-lock_cells (Admitted by dept) = [] ∷ [] ∷ [] ∷ [] ∷ []
-lock_cells (Moved t) = [] ∷ [] ∷ [] ∷ [] ∷ []
-lock_cells (Gone r) = [] ∷ [] ∷ [] ∷ [] ∷ []
+lock_cells _ = [] ∷ [] ∷ [] ∷ [] ∷ []
 
--- a marker is of no department
-abbrev pub department_cell : Option (List ℕ) → List ℕ
-department_cell None = []
-department_cell (Some dept) = dept
-
--- the cause of a removal; the department that has the entry from then on; the number of the move
+-- the cause of a removal; the department that has the entry from then on, which a marker hasn't; the number of the move
 unfoldable pub last_cells : Happening → List (List ℕ)
-last_cells (Admitted by dept) = [] ∷ department_cell dept ∷ [] ∷ []
+last_cells (Admitted by dept) = [] ∷ unwrap_or dept [] ∷ [] ∷ []
 last_cells (Locked s) = [] ∷ [] ∷ [] ∷ []
 last_cells (Moved t) = [] ∷ t.dept ∷ decimal t.number ∷ []
 last_cells (Gone r) = cause_kind r.cause ∷ [] ∷ [] ∷ []

@@ -9,3 +9,4 @@ pub mod Taking
 pub mod Takers
 pub mod Faults
 pub mod Seal
+pub mod Typed

@@ -2,26 +2,19 @@
 use Rattle.std.specs.Prelude.{ℕ, ◌≡◌, ◌≤◌, ◌==◌, List, [], ◌++◌, length, drop, if◌then◌else◌, Some, Result, Ok, Err}
 use Rattle.vault_core_model.specs.declared.halt.Halt.{Halt}
 use Rattle.vault_core_model.specs.Vault.{Vault}
+use Rattle.vault_core_evidence.specs.Events.{events_in}
 use Rattle.vault_core_evidence.specs.Parts.{next_of, part}
-use Rattle.vault_files_events.specs.EventsText.{asked_in, event_rows, events_header}
+use Rattle.vault_files_events.specs.EventsText.{event_rows, events_header}
 use Rattle.vault_files_events.specs.Seal.{StopsAs}
 use Rattle.vault_files_events.specs.declared.page.TextPage.{TextPage}
 
--- the part after 0 is the first, and begins with the header
-abbrev pub header_if_first : List ℕ → ℕ → List ℕ
-header_if_first header after = if after == 0 then header else []
-
--- the records of the part after an id, of what was before m
-abbrev pub page_text : ℕ → ℕ → Vault → List ℕ
-page_text m after v = header_if_first events_header after ++ event_rows (asked_in (Some m) (part after v))
-
 -- the records of all entries after an id
 abbrev pub rest_text : ℕ → ℕ → Vault → List ℕ
-rest_text m after v = event_rows (asked_in (Some m) (drop after v.histories))
+rest_text m after v = event_rows (events_in m (drop after v.histories))
 
--- the part after an id, and where the next one begins
+-- the part after an id, and where the next one begins; the part after 0 is the first, and begins with the header
 abbrev pub page_of : ℕ → ℕ → Vault → TextPage
-page_of m after v = record { text = page_text m after v; next = next_of (length v.histories) after }
+page_of m after v = record { text = (if after == 0 then events_header else []) ++ event_rows (events_in m (part after v)); next = next_of (length v.histories) after }
 
 -- a part is of what was before a moment that isn't past the last one
 abbrev pub PagesAs : Result TextPage Halt → ℕ → ℕ → Vault → Type 0

@@ -1,11 +1,10 @@
 -- A part of the register of removals: the records of the removed ones among some entries, by rising id.
-use Rattle.std.specs.Prelude.{ℕ, List, [], ◌++◌, length, drop, flat_map, Option, Some, None}
+use Rattle.std.specs.Prelude.{ℕ, ◌==◌, if◌then◌else◌, List, [], ◌++◌, length, drop, flat_map, Option, Some, None}
 use Rattle.vault_core_model.specs.declared.records.Entry.{Entry}
 use Rattle.vault_core_model.specs.declared.records.History.{History}
 use Rattle.vault_core_model.specs.Vault.{Vault}
 use Rattle.vault_core_evidence.specs.Parts.{next_of, part}
 use Rattle.vault_files_texts.specs.Register.{header, row}
-use Rattle.vault_files_events.specs.Page.{header_if_first}
 use Rattle.vault_files_events.specs.declared.page.TextPage.{TextPage}
 
 -- the record of what was found of an entry, which may be nothing
@@ -17,13 +16,10 @@ row_found (Some e) = row e
 abbrev pub rows_in : List History → List ℕ
 rows_in hs = flat_map (λ h. row h.entry) hs
 
-abbrev pub page_text : ℕ → Vault → List ℕ
-page_text after v = header_if_first header after ++ rows_in (part after v)
-
 -- the records of the removed ones among all entries after an id
 abbrev pub rest_text : ℕ → Vault → List ℕ
 rest_text after v = rows_in (drop after v.histories)
 
--- the part after an id, and where the next one begins
+-- the part after an id, and where the next one begins; the part after 0 is the first, and begins with the header
 abbrev pub page_of : ℕ → Vault → TextPage
-page_of after v = record { text = page_text after v; next = next_of (length v.histories) after }
+page_of after v = record { text = (if after == 0 then header else []) ++ rows_in (part after v); next = next_of (length v.histories) after }

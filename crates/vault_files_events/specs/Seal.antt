@@ -1,5 +1,5 @@
 -- The seal over what happened in a vault before a moment.
-use Rattle.std.specs.Prelude.{◌≡◌, ◌≤◌, ◌<◌, ⊤, ℕ, List, ◌++◌, length, Option, Some, None, Result, Ok, Err, codes, unwrap_or}
+use Rattle.std.specs.Prelude.{◌≡◌, ◌≢◌, ◌≤◌, ◌<◌, ⊤, ℕ, List, ◌++◌, length, Option, Some, None, Result, Ok, Err, codes, unwrap_or}
 use Rattle.std.specs.Fmt.{decimal}
 use Rattle.hex.specs.Hex.{encode_lower}
 use Rattle.sha2.specs.Sha256.{sha256}
@@ -8,21 +8,20 @@ use Rattle.vault_base.specs.declared.refusal.Refusal.TheVariants as refusal
 use Rattle.vault_core_model.specs.declared.halt.Halt.{Halt}
 use Rattle.vault_core_model.specs.declared.halt.Halt.TheVariants as halt
 use Rattle.vault_core_model.specs.Vault.{Vault}
-use Rattle.vault_core_evidence.specs.Events.{Event, events_before}
+use Rattle.vault_core_evidence.specs.Events.{events_before}
 use Rattle.vault_files_texts.specs.Certificate.{labelled}
 use Rattle.vault_files_events.specs.Counts.{admissions}
 use Rattle.vault_files_events.specs.EventsText.{events_text}
 use Rattle.vault_files_events.specs.declared.seal_lines.Seal.{Seal}
 
--- the seal of these events, which were before m: how many entries were admitted, how many events there were, and
--- the digest of their text
-abbrev pub seal_over : ℕ → List Event → Seal
-seal_over m events =
-    record { before = m; entries = admissions events; events = length events; digest = sha256 (events_text events) }
-
--- the seal of what happened in a vault before m
+-- the seal of what happened in a vault before m: how many entries were admitted, how many events there were, and the digest of their text
 abbrev pub seal_of : ℕ → Vault → Seal
-seal_of m v = seal_over m (events_before m v)
+seal_of m v =
+    record { before = m; entries = admissions (events_before m v); events = length (events_before m v); digest = sha256 (events_text (events_before m v)) }
+
+-- two texts are different and have one SHA-256 digest
+abbrev pub Collide : List ℕ → List ℕ → Type 0
+Collide s t = (s ≢ t) × (sha256 s ≡ sha256 t)
 
 -- its four lines
 abbrev pub seal_text : Seal → List ℕ

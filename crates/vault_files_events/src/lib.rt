@@ -14,6 +14,7 @@ mod seal_lines;
 mod sealing;
 mod taker;
 mod takers;
+pub mod typed;
 mod walk;
 
 pub use crate::counted::Counted;

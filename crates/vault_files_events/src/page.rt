@@ -1,5 +1,5 @@
 //! A part of the text of events: the records of some entries, by rising id.
-ghost use Rattle.std.specs.Prelude.{◌≡◌, ◌≤◌, ◌-◌, ◌++◌, IfOk, OnOk, Err, length, take, drop};
+ghost use Rattle.std.specs.Prelude.{◌≡◌, ◌≤◌, ◌-◌, ◌==◌, ◌++◌, [], if◌then◌else◌, IfOk, OnOk, Err, length, take, drop};
 ghost use Rattle.vault_base.specs.declared.refusal.Refusal.{Refusal as AnyRefusal};
 ghost use Rattle.vault_base.specs.declared.refusal.Refusal.TheVariants.{InvalidArgument};
 ghost use Rattle.vault_core_model.specs.Halts.{is_device};
@@ -34,7 +34,7 @@ pub(crate) fn header_if_first(
     header: &[u8],
     after: u32,
 ) -> Result<Vec<u8>, AllocError>
-    ensures { IfOk result (λ text. text.items ≡ spec.header_if_first header.now after) }
+    ensures { IfOk result (λ text. text.items ≡ (if after == 0 then header.now else [])) }
 {
     if after == 0 {
         Vec::from_slice(alloc, header)

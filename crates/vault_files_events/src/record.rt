@@ -1,5 +1,5 @@
 //! The record of each kind of event.
-ghost use Rattle.std.specs.Prelude.{◌≡◌, [], ◌∷◌, ◌++◌, IfOk, OnOk};
+ghost use Rattle.std.specs.Prelude.{◌≡◌, [], ◌∷◌, ◌++◌, IfOk, OnOk, unwrap_or};
 ghost use Rattle.csv.specs.Records.{fields_of, partial_of};
 ghost use Rattle.csv.specs.Writing.{row_text, default_writer};
 ghost use Rattle.vault_core_evidence.specs.Events as events;
@@ -29,7 +29,7 @@ fn record_text(alloc: Global, cells: &ByteRecord) -> Result<Vec<u8>, ExportFault
 
 /// The first of the departments that had an entry; empty of a marker, which none has.
 fn first_department(tenures: &[Tenure]) -> &str
-    ensures { result.now ≡ spec.department_cell (events.first_department tenures.now) }
+    ensures { result.now ≡ unwrap_or (events.first_department tenures.now) [] }
 {
     match tenures {
         [first, ..] => first.dept.as_str(),

@@ -1,11 +1,12 @@
 //! The seal over what happened in a vault before a moment.
-ghost use Rattle.std.specs.Prelude.{◌≡◌, ◌≤◌, ◌<◌, Err, None, unwrap_or, MatchOption};
+ghost use Rattle.std.specs.Prelude.{◌≡◌, ◌≤◌, ◌<◌, IfOk, Err, None, unwrap_or, MatchOption};
 ghost use Rattle.vault_base.specs.declared.refusal.Refusal.{Refusal as AnyRefusal};
 ghost use Rattle.vault_base.specs.declared.refusal.Refusal.TheVariants.{InvalidArgument};
 ghost use Rattle.vault_core_model.specs.Leaves.{LeavesSame};
 ghost use Rattle.vault_core_model.specs.Halts.{is_device};
 ghost use Rattle.vault_files_events.specs.Faults.{keeper_fault_of};
 ghost use Rattle.vault_files_events.specs.Seal.{SealsAs};
+ghost use Rattle.vault_files_events.specs.Typed.{AreTyped};
 
 use crate::seal_lines::Seal;
 use crate::takers::Digesting;
@@ -39,13 +40,14 @@ fn reached(before: Option<Moment>, last: Moment) -> Option<Moment>
 
 /// The seal of what happened in a vault before a moment, and without one, before the last moment of the vault. What was
 /// done at the moment itself isn't part of it: more may still be done at the last moment, and so only what is before it is
-/// settled.
+/// settled. Each value of the entries that are sealed is of its type.
 ///
 /// `InvalidArgument` comes where the vault hasn't reached the moment, and no other refusal. `Memory` comes where room for
 /// an entry's records was refused, and `Device` where the vault's device failed, and there always. The vault is never
 /// changed.
 pub fn seal<K: Keeper>(alloc: Global, keeper: &mut K, before: Option<Moment>) -> Result<Seal, Halt>
     ensures sealed { K.is_honest keeper.new → SealsAs result before (K.vault keeper.old) }
+    ensures typed { K.is_honest keeper.new → IfOk result (λ seal. AreTyped (K.vault keeper.old)) }
     ensures leaves { LeavesSame K.Kept keeper.old keeper.new (is_device result) }
     // Whatever the device does, nothing else is refused.
     ensures refused { (r : AnyRefusal) → result ≡ Err (Halt.Refused r) → r ≡ InvalidArgument }

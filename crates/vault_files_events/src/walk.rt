@@ -1,11 +1,12 @@
 //! A walk over all entries of a vault, one at a time, that has the text of their events taken.
-ghost use Rattle.std.specs.Prelude.{◌≡◌, ◌+◌, IfOk, OnErr, Err, false, length};
+ghost use Rattle.std.specs.Prelude.{◌≡◌, ◌+◌, IfOk, IfSome, OnErr, Err, false, length};
 ghost use Rattle.vault_core_evidence.specs.Events.{events_asked};
 ghost use Rattle.vault_core_model.specs.Leaves.{LeavesSame};
 ghost use Rattle.vault_core_model.specs.Vault.{history_of};
 ghost use Rattle.vault_files_events.specs.EventsText.{asked_found, event_rows, events_text};
 ghost use Rattle.vault_files_events.specs.Past.{asked_past};
 ghost use Rattle.vault_files_events.specs.Taking.{TookCounted, TookSome};
+ghost use Rattle.vault_files_events.specs.Typed.{AreTyped, IsTyped};
 ghost use Rattle.vault_files_texts.specs.Faults.{is_device_met};
 
 use crate::counted::Counted;
@@ -51,6 +52,7 @@ fn take_past<T: Taker>(
 }
 
 /// Has the records of the entry of an id taken.
+#[tactic(auto, using(crate::proofs::TypedWalk::on_ok, crate::proofs::TypedWalk::typed_found))]
 fn take_entry<K: Keeper, T: Taker>(
     alloc: Global,
     keeper: &mut K,
@@ -60,6 +62,7 @@ fn take_entry<K: Keeper, T: Taker>(
 ) -> Result<Counted, ExportFault>
     ensures ok { K.is_honest keeper.new → IfOk result (TookCounted T.took taker.old taker.new event_rows (asked_found before.now (history_of (K.vault keeper.old) id))) }
     ensures err { K.is_honest keeper.new → OnErr result (TookSome T.took taker.old (event_rows (asked_found before.now (history_of (K.vault keeper.old) id))) taker.new) }
+    ensures typed { K.is_honest keeper.new → IfOk result (λ n. IfSome (history_of (K.vault keeper.old) id) (λ h. IsTyped h.entry)) }
     ensures leaves { LeavesSame K.Kept keeper.old keeper.new (is_device_met result) }
 {
     let Some(past) = read_past(keeper, id)? else {
@@ -79,6 +82,7 @@ fn take_each<K: Keeper, T: Taker>(
     requires entries { K.is_honest keeper.old → entries ≡ length (K.vault keeper.old).histories }
     ensures ok { K.is_honest keeper.new → IfOk result (TookCounted T.took taker.old taker.new event_rows (events_asked before.now (K.vault keeper.old))) }
     ensures err { K.is_honest keeper.new → OnErr result (TookSome T.took taker.old (event_rows (events_asked before.now (K.vault keeper.old))) taker.new) }
+    ensures typed { K.is_honest keeper.new → IfOk result (λ n. AreTyped (K.vault keeper.old)) }
     ensures leaves { LeavesSame K.Kept keeper.old keeper.new (is_device_met result) }
 {
     let mut counted = Counted::none();
@@ -104,6 +108,7 @@ pub(crate) fn take_events<K: Keeper, T: Taker>(
 ) -> Result<Counted, ExportFault>
     ensures ok { K.is_honest keeper.new → IfOk result (TookCounted T.took taker.old taker.new events_text (events_asked before.now (K.vault keeper.old))) }
     ensures err { K.is_honest keeper.new → OnErr result (TookSome T.took taker.old (events_text (events_asked before.now (K.vault keeper.old))) taker.new) }
+    ensures typed { K.is_honest keeper.new → IfOk result (λ n. AreTyped (K.vault keeper.old)) }
     ensures leaves { LeavesSame K.Kept keeper.old keeper.new (is_device_met result) }
 {
     taker.take(HEADER)?;
