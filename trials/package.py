@@ -47,6 +47,12 @@ esac
 COUNTING = '#!/bin/sh\necho "$1" >> /tmp/calls\nexec /usr/bin/vaultctl "$@"\n'
 SYNCHRONIZED = "#!/bin/sh\necho yes\n"
 NIGHT = "vault-serve@records.service"
+# How exposed each unit may be at most, as systemd-analyze counts it from 0 to 10, but for what carries out a command of
+# the office.
+MOST_EXPOSED = {
+    "vault-serve@": 1.5, "vault-s3@": 1.5, "vault-follow@": 1.7, "vault-run@": 2.3, "vault-check@": 2.5,
+    "vault-failed@": 10,
+}  # fmt: skip
 # Words of the desk up to the one that is completed, and what that may become.
 DESK_COMPLETED = [
     (("vaultdesk", "re"), ["register", "release", "report", "restore", "retain"]),
@@ -466,6 +472,15 @@ class Files(Case):
             # the manual pages that the units name aren't installed here
             ours = [it for it in ran.stderr.splitlines() if "vault-" in it and "Command 'man " not in it]
             check(ours == [], f"{unit.name}: {ours}")
+
+    @needs("systemd-analyze")
+    def test_units_are_shut_in(self):
+        units = {it.name.partition("@")[0] + "@": it for it in (self.unpacked / "usr/lib/systemd/system").glob("*.service")}
+        check(units.keys() == MOST_EXPOSED.keys(), f"there are the units {units}")
+        for name, unit in units.items():
+            says = said("systemd-analyze", "security", "--offline=yes", "--no-pager", unit)
+            found = float(re.search(r"Overall exposure level for .*: ([0-9.]+) ", says)[1])
+            check(found <= MOST_EXPOSED[name], f"{name} is exposed by {found}: {says}")
 
     def test_html(self):
         """Each link of a page leads to a page of the package or into the page itself, each picture that it shows is
