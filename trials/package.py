@@ -24,6 +24,7 @@ import desk_words
 
 TAKES_LONG = True
 INCLUDED = "python3,curl,sqlite3,openssl"
+OTHER_PAGES = ("AUDITOR", "COURT", "ENGINE", "OFFICES", "ENGINEER")
 STOP = """\
 read -r server < /tmp/server
 rm /tmp/server
@@ -159,7 +160,7 @@ def try_manual(root, debian):
 def try_others(root):
     """The pages for the auditor and the engineer, with a script in the place of systemctl."""
     root.program("systemctl", SYSTEMCTL)
-    for page in ("AUDITOR", "COURT", "ENGINE", "OFFICES", "ENGINEER"):
+    for page in OTHER_PAGES:
         printed_as_shown(f"docs/{page}.md", root.folder)
     units = ("vault-serve@records.service", "vault-check@records.timer", "vault-run@records.timer")
     asked = root.asked()

@@ -53,8 +53,10 @@ class Trail(MachineTest):
 
     def test_a_file_is_taken_in_once(self) -> None:
         log = self.written("access.log", b"ann GET /docs/a 403\n")
-        told = "1 of 1 pieces of the log of access.log of 2024-01-14 were taken in"
-        self.assertIn(told, self.done("trail", "docs", log))
+        told = "1 of 1 pieces of the log of access.log of 2024-01-14 were taken in\n"
+        self.assertEqual(told, self.done("trail", "docs", log))
+        told = "0 of 1 pieces of the log of access.log of 2024-01-14 were taken in; the others were there\n"
+        self.assertEqual(told, self.done("trail", "docs", log))
         [row] = json.loads(self.done("trail", "docs", log, "--json"))
         self.assertEqual((row["again"], row["version"]), (True, 1))
         self.assertEqual(self.keys(), ["access.log/2024-01-14/0001"])

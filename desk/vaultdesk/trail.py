@@ -104,7 +104,8 @@ def trail(engine: Engine, words: argparse.Namespace) -> None:
     if pieces == [b""]:
         print(f"{what} is empty: an empty document {'was taken in' if fresh else 'was there already'}")
     else:
-        print(f"{fresh} of {len(rows)} pieces of {what} were taken in; the others were there")
+        rest = "" if fresh == len(rows) else "; the others were there"
+        print(f"{fresh} of {len(rows)} pieces of {what} were taken in{rest}")
 
 
 def add(commands: argparse._SubParsersAction[argparse.ArgumentParser], common: argparse.ArgumentParser) -> None:
