@@ -40,6 +40,7 @@ SYSTEMCTL = """\
 case $1 in
 is-active) if [ -e /tmp/server ]; then echo active; else echo inactive; fi ;;
 is-enabled) if [ -e /tmp/enabled ]; then echo enabled; else echo disabled; fi ;;
+show) echo 0 ;;
 stop) echo "$*" >> /tmp/asked; [ ! -e /tmp/server ] || sh /tmp/stop ;;
 *) echo "$*" >> /tmp/asked ;;
 esac
@@ -372,19 +373,24 @@ def try_users(root):
 
 
 def try_full_disk(root):
-    """A server whose disk is full refuses what it can't keep and goes on: it may write no file beyond some blocks."""
+    """A server whose disk is full refuses what it can't keep and goes on: it may write no file beyond some blocks. The
+    check says so until it is started anew by somebody."""
     root.run(
         "rm -f /tmp/asked; cd /var/lib/vaultctl;"
         " runuser -u vaultctl -- vaultctl caller records.vault bob put get --dept records --as registrar"
     )
-    root.serve("trap '' XFSZ; ulimit -f 2000;")
+    root.run("install -d -o vaultctl -g vaultctl -m 750 /run/vaultctl/records")
+    root.serve("trap '' XFSZ; ulimit -f 2000;", "--lines /run/vaultctl/records/lines")
+    root.run("vaultdesk check records")
     told = root.run(
         "head -c 400000 /dev/zero > /tmp/large;"
         " for it in 1 2 3 4 5 6; do curl -s -o /dev/null -w '%{http_code} ' -X PUT"
         f" -H 'x-vault-caller: bob' --data-binary @/tmp/large http://127.0.0.1:{root.port}/drafts/$it; done"
     )
     check(told.startswith("200 ") and "500 " in told, f"puts on a full disk are answered {told}")
-    root.run("vaultdesk check records")
+    says = root.run("vaultdesk check records", status=1)
+    wanted = "failed [a-z0-9 ]+ since the server was started.* the disk works and has room; then start the server anew"
+    check(re.search(wanted, says), f"of a server whose disk is full the check says {says}")
     check(root.asked() == [], "a server whose disk is full is started anew, though it goes on")
     root.stop()
     root.run("vaultctl verify /var/lib/vaultctl/records.vault")

@@ -34,7 +34,7 @@ class Batches(unittest.TestCase):
             r"vault-serve@a\x2db.service", "vault-serve@a-x2db.service", "y" * 199 + "1", "y" * 199 + "2", "x:y",
         ]  # fmt: skip
         # One that is named as another one's batch is.
-        names.append(trail.batch_of(names[0], day).removeprefix("trail_").removesuffix(f"-{day}"))
+        names.append(trail.batch_of(names[0], day)[6:].removesuffix(f"-{day}"))
         found = [trail.batch_of(it, day) for it in names]
         self.assertEqual(len(set(found)), len(names))
         for it in found:
