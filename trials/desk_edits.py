@@ -404,6 +404,8 @@ EDITS = [
     ("trail", "plain = f\"trail-{name}-{day}\"", "plain = f\"trail-{name.upper()}-{day}\"",
      TRAIL + "Batches.test_a_name_that_a_batch_can_have_stays"),
     # what isn't there, what changes, when a night was done
+    ("backup", " or recheck.vault.is_read_only(source.resolve().parent)", "",
+     "test_night.Backup.test_what_is_only_in_the_log_comes_from_a_medium_that_cant_be_written"),
     ("engine", "            reading.look_for(self.desk.file)  #", "            pass  #",
      "test_evidence.Verify.test_a_file_that_isnt_there_isnt_damaged"),
     ("engine", "\"report\", \"certificate\",", "\"report\", \"certificate\", \"run\",",

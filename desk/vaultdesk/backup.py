@@ -10,7 +10,7 @@ import subprocess
 import time
 from pathlib import Path
 
-from vaultdesk import conf, config, reading, snapshot
+from vaultdesk import conf, config, reading, recheck, snapshot
 from vaultdesk.errors import DeskError, UsageError
 from vaultdesk.output import print_json
 from vaultdesk.owner import owner_of
@@ -27,10 +27,11 @@ def stamp() -> str:
 
 
 def read_copy(source: Path, target: Path) -> None:
-    """Copies a vault by SQLite's online backup, or where a program has it, as it is at one moment.
+    """Copies a vault by SQLite's online backup, or its files as they are at one moment, where a program has it.
 
     `DeskError` where it can't be read or written."""
-    if snapshot.is_taken(source):
+    # SQLite can't read a log in a folder that is read alone.
+    if snapshot.is_taken(source) or recheck.vault.is_read_only(source.resolve().parent):
         snapshot.copy(source, target)
         return
     try:
