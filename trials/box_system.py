@@ -109,8 +109,8 @@ tell "logs as documents"
 NIGHT = given("edited", "ENGINEER", "# systemctl edit vault-run@records.service") + """\
 echo TRUST_CLOCK=yes >> /etc/vaultctl/records.conf
 systemctl start vault-run@records.service || fail "the night: $(log_of vault-run@records)"
-told='the log of vault-serve@records.service of .* is empty: an empty document was there already'
-log_of vault-run@records | grep -q "$told" || fail "the night takes in no log: $(log_of vault-run@records)"
+empty='the log of vault-serve@records.service of .* is empty: an empty document was there already'
+log_of vault-run@records | grep -q "$empty" || fail "the night takes in no log: $(log_of vault-run@records)"
 printf '#!/bin/sh\\nid -un >> /trial/deposited\\ntail -n 4 /var/lib/vaultctl/records.seals >> /trial/deposited\\n' > /usr/local/sbin/deposit-seals
 chmod 755 /usr/local/sbin/deposit-seals
 """ + given("cat > /etc/systemd/system/vault-run@records.service.d/seals.conf", "ENGINEER", "[Service]") + """\
@@ -255,6 +255,7 @@ key=$(cut -d ' ' -f 1,2 /var/lib/vaultctl/.ssh/id_ed25519.pub)
 sed -i "s|ssh-ed25519 AAAA..|$key|" /trial/box
 nsenter --mount --target "$(pgrep -o -f 'sshd -D -p 22')" sh -eu /trial/box
 until_served
+sed -i 's|--log$|& --journal %i.journals/now/journal|' /etc/systemd/system/$server.d/override.conf # as the page says
 """ + given("carry_out", "OFFICES", "# echo STANDBY=vaultctl@other.example.org >> /etc/vaultctl/records.conf") + """\
 is "$(status -X PUT --data followed $url/drafts/followed)" 200 "a put to a vault that is followed"
 there=/trial/other/records.standby/now/records.vault

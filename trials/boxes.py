@@ -47,7 +47,9 @@ def boxes(page: str, text: str | None = None) -> Iterator[Box]:
 
 def shown(page: str, first: str, replaced: Mapping[str, str] | None = None) -> str:
     """The box of a page that begins with that line, without prompts, and with each of some texts replaced."""
-    (box,) = (it for it in boxes(page) if it.lines[0] == first)
+    found = [it for it in boxes(page) if it.lines[0] == first]
+    check(len(found) == 1, f"{page}.md has {len(found)} boxes that begin with {first!r}: the trial is for another one")
+    box = found[0]
     TAKEN.add(box.name())
     text = "".join(re.sub(r"^[#$] ", "", line) + "\n" for line in box.lines)
     for old, new in (replaced or {}).items():
