@@ -3,10 +3,13 @@
 A box that begins with ```console is carried out by `pages.py`, and one with ```root by `package.py`, where they name
 its page. Of any other box a trial takes the text from the page, by `shown`: so what it carries out is what the page
 shows, and a box that is new or altered makes a trial fail. `box_system.py` does so in a system that it boots.
+
+`python3 -m trials.boxes` prints the table: each box, and what tries it.
 """
 
 import importlib
 import re
+import sys
 from typing import Iterator, Mapping, NamedTuple
 
 from trials.program import TOP, Case, check
@@ -16,7 +19,8 @@ BOXED = ("ENGINEER", "S3", "OFFICES", "AUDITOR")
 TAKERS = ("box_system", "timestamps")
 # The page and the first line of each box that nothing can carry out here, with the reason.
 REASONS: dict[tuple[str, str], str] = {}
-TAKEN: set[tuple[str, str]] = set()
+# The module that takes each box.
+TAKEN: dict[tuple[str, str], str] = {}
 
 
 class Box(NamedTuple):
@@ -50,7 +54,7 @@ def shown(page: str, first: str, replaced: Mapping[str, str] | None = None) -> s
     found = [it for it in boxes(page) if it.lines[0] == first]
     check(len(found) == 1, f"{page}.md has {len(found)} boxes that begin with {first!r}: the trial is for another one")
     box = found[0]
-    TAKEN.add(box.name())
+    TAKEN[box.name()] = sys._getframe(1).f_globals["__name__"].rpartition(".")[2]
     text = "".join(re.sub(r"^[#$] ", "", line) + "\n" for line in box.lines)
     for old, new in (replaced or {}).items():
         check(old in text, f"{page}.md:{box.line}: there is no {old!r} to be replaced")
@@ -71,7 +75,7 @@ def tried(found: Iterator[Box]) -> dict[tuple[str, str], list[str]]:
         if box.kind == "root" and box.page in package.OTHER_PAGES:
             by.append("package.py")
         if box.name() in TAKEN:
-            by.append(f"{' or '.join(TAKERS)}")
+            by.append(f"{TAKEN[box.name()]}.py")
         if box.name() in REASONS:
             by.append(f"nothing: {REASONS[box.name()]}")
     return tries
@@ -85,7 +89,8 @@ class Boxes(Case):
         self.assertEqual(len(tries), len(there), "two boxes begin with the same line")
         self.assertEqual([name for name, by in tries.items() if not by], [], "nothing tries these boxes")
         self.assertEqual([name for name, by in tries.items() if len(by) > 1 and name in REASONS], [])
-        self.assertEqual((REASONS.keys() | TAKEN) - tries.keys(), set(), "there are no such boxes")
+        self.assertEqual((REASONS.keys() | TAKEN.keys()) - tries.keys(), set(), "there are no such boxes")
+        self.assertEqual(set(TAKEN.values()), set(TAKERS))
 
     def test_one_that_nothing_tries_is_found(self) -> None:
         text = "```\n# systemctl mask vault-serve@records\n```\n```console\n$ ls\n```\n"
@@ -94,3 +99,14 @@ class Boxes(Case):
             (1, "", ["# systemctl mask vault-serve@records"]), (4, "console", ["$ ls"]),
         ])  # fmt: skip
         self.assertEqual(list(tried(iter(found)).values()), [[], ["pages.py"]])
+
+
+def main() -> None:
+    """Prints a line for each box: its page and line, what tries it, and its first line."""
+    for page in BOXED:
+        for box in boxes(page):
+            print(f"{page}.md:{box.line}: {', '.join(*tried(iter([box])).values())}: {box.lines[0]}")
+
+
+if __name__ == "__main__":
+    importlib.import_module("trials.boxes").main()
