@@ -86,8 +86,9 @@ cp /etc/nginx/vault.users /etc/nginx/vaults.users
 chown --reference=/etc/nginx/vault.users /etc/nginx/vaults.users
 """ + given("carry_out", "OFFICES", "# cp /usr/share/doc/vaultctl/examples/nginx-vaults.conf /etc/nginx/conf.d/vaults-site.conf") + """\
 until_asked https://vaults.example.org/drafts/d hello
-asked -X PUT --data filed https://vaults.example.org/cases/c > /trial/body
-is "$(asked https://vaults.example.org/cases/c)" filed "a get of the other"
+filed() { [ "$(asked -X PUT --data filed -o /trial/body -w '%{http_code}' https://vaults.example.org/cases/c || true)" = 200 ]; }
+for it in $(seq 60); do filed && break; sleep 0.5; done
+until_asked https://vaults.example.org/cases/c filed
 cp /var/log/nginx/access.log /var/log/nginx/access.log.1
 tell "nginx before one vault, and before two"
 """
