@@ -396,4 +396,20 @@ EDITS = [
     ("find", "            if path.stat().st_size > MOST:\n", "            if False:\n",
      FIND + "test_a_file_that_no_version_can_be_is_no_wrong_no"),
     ("find", "        _say_nothing(engine, words)\n", "        pass\n", FIND + "test_where_nothing_is_found_it_says_so"),
+    # logs whose names no batch can have
+    ("trail", "    if BATCH.fullmatch(plain):\n", "    if True:\n", TRAIL + "Batches.test_each_log_of_a_day_has_one_of_its_own"),
+    ("trail", "f\"trail_{shown}", "f\"trail-{shown}", TRAIL + "Batches.test_each_log_of_a_day_has_one_of_its_own"),
+    ("trail", "hashlib.sha256(name.encode())", "hashlib.sha256(shown.encode())",
+     TRAIL + "Batches.test_each_log_of_a_day_has_one_of_its_own"),
+    ("trail", "plain = f\"trail-{name}-{day}\"", "plain = f\"trail-{name.upper()}-{day}\"",
+     TRAIL + "Batches.test_a_name_that_a_batch_can_have_stays"),
+    # what isn't there, what changes, when a night was done
+    ("backup", " or recheck.vault.is_read_only(source.resolve().parent)", "",
+     "test_night.Backup.test_what_is_only_in_the_log_comes_from_a_medium_that_cant_be_written"),
+    ("engine", "            reading.look_for(self.desk.file)  #", "            pass  #",
+     "test_evidence.Verify.test_a_file_that_isnt_there_isnt_damaged"),
+    ("engine", "\"report\", \"certificate\",", "\"report\", \"certificate\", \"run\",",
+     "test_modules.Modules.test_a_command_that_is_taken_for_a_read_changes_nothing"),
+    ("night", "        if self.is_whole:\n            self.done(lambda: last_done", "        if True:\n            self.done(lambda: last_done",
+     "test_copies.Metrics.test_when_each_part_of_a_night_was_last_done"),
 ]  # fmt: skip

@@ -94,9 +94,9 @@ EDITS = [
     ("units", "os.O_CREAT, 0o600), \"wb\")", "os.O_CREAT, 0o644), \"wb\")", LOCKS + "test_who_works_on_a_vault_is_for_root_to_lock"),
     ("conf", "        place.chmod(0o755)\n", "        pass\n", LOCKS + "test_who_works_on_a_vault_is_for_root_to_lock"),
     # how things are
-    ("status", "    if reply[\"error\"][\"code\"] == \"MalformedBody\":\n", "    if False:\n",
+    ("door", "        if reply[\"error\"][\"code\"] == \"MalformedBody\":\n", "        if False:\n",
      "test_status.Status.test_an_earlier_server_doesnt_say_it"),
-    ("status", "    if found[\"failures\"]:\n", "    if False:\n", "test_status.Status.test_a_file_that_failed"),
+    ("status", "    if fault:\n", "    if False:\n", "test_status.Status.test_a_file_that_failed"),
     ("status", "    if engine.at is not None:\n", "    if False:\n", "test_status.Status.test_it_is_of_now"),
     ("status", "    if door is None:\n", "    if False:\n", "test_status.Status.test_where_no_server_is_it_says_so"),
     # what is answered in parts
@@ -126,4 +126,12 @@ EDITS = [
     ("s3/words", "        if not engine.is_served:\n", "        if False:\n",
      S3 + "OwnBuckets.test_those_without_a_default_retention_are_said"),
     ("s3/words", "buckets WHERE mode = 0 ORDER", "buckets ORDER", S3 + "OwnBuckets.test_those_without_a_default_retention_are_said"),
+    # a server that refuses changes
+    ("health", "        if self.failures:\n", "        if False:\n", "test_server.Changes.test_one_that_refuses_changes"),
+    ("health", "        if self.moved:\n", "        if False:\n", "test_server.Changes.test_one_that_refuses_changes"),
+    ("health", "(file, snapshot.log_of(file)) if", "(file,) if", "test_status.Status.test_another_file_in_its_place"),
+    ("health", "    return (there.st_dev, there.st_ino) in opened\n", "    return True\n", "test_status.Status.test_another_file_in_its_place"),
+    ("server", "fault = health.fault(served.unit) if health.moved else \"\"", "fault = \"\"",
+     "test_server.Check.test_one_whose_file_is_away_is_never_started_anew"),
+    ("metrics", "int(not found.fault)", "1", "test_copies.Metrics.test_one_that_refuses_changes_serves_nobody"),
 ]  # fmt: skip

@@ -24,6 +24,7 @@ import desk_words
 
 TAKES_LONG = True
 INCLUDED = "python3,curl,sqlite3,openssl"
+OTHER_PAGES = ("AUDITOR", "COURT", "ENGINE", "OFFICES", "ENGINEER")
 STOP = """\
 read -r server < /tmp/server
 rm /tmp/server
@@ -39,6 +40,7 @@ SYSTEMCTL = """\
 case $1 in
 is-active) if [ -e /tmp/server ]; then echo active; else echo inactive; fi ;;
 is-enabled) if [ -e /tmp/enabled ]; then echo enabled; else echo disabled; fi ;;
+show) echo 0 ;;
 stop) echo "$*" >> /tmp/asked; [ ! -e /tmp/server ] || sh /tmp/stop ;;
 *) echo "$*" >> /tmp/asked ;;
 esac
@@ -47,6 +49,12 @@ esac
 COUNTING = '#!/bin/sh\necho "$1" >> /tmp/calls\nexec /usr/bin/vaultctl "$@"\n'
 SYNCHRONIZED = "#!/bin/sh\necho yes\n"
 NIGHT = "vault-serve@records.service"
+# How exposed each unit may be at most, as systemd-analyze counts it from 0 to 10, but for what carries out a command of
+# the office.
+MOST_EXPOSED = {
+    "vault-serve@": 1.5, "vault-s3@": 1.5, "vault-follow@": 1.7, "vault-run@": 2.3, "vault-check@": 2.5,
+    "vault-failed@": 10,
+}  # fmt: skip
 # Words of the desk up to the one that is completed, and what that may become.
 DESK_COMPLETED = [
     (("vaultdesk", "re"), ["register", "release", "report", "restore", "retain"]),
@@ -153,7 +161,7 @@ def try_manual(root, debian):
 def try_others(root):
     """The pages for the auditor and the engineer, with a script in the place of systemctl."""
     root.program("systemctl", SYSTEMCTL)
-    for page in ("AUDITOR", "COURT", "ENGINE", "OFFICES", "ENGINEER"):
+    for page in OTHER_PAGES:
         printed_as_shown(f"docs/{page}.md", root.folder)
     units = ("vault-serve@records.service", "vault-check@records.timer", "vault-run@records.timer")
     asked = root.asked()
@@ -365,19 +373,24 @@ def try_users(root):
 
 
 def try_full_disk(root):
-    """A server whose disk is full refuses what it can't keep and goes on: it may write no file beyond some blocks."""
+    """A server whose disk is full refuses what it can't keep and goes on: it may write no file beyond some blocks. The
+    check says so until it is started anew by somebody."""
     root.run(
         "rm -f /tmp/asked; cd /var/lib/vaultctl;"
         " runuser -u vaultctl -- vaultctl caller records.vault bob put get --dept records --as registrar"
     )
-    root.serve("trap '' XFSZ; ulimit -f 2000;")
+    root.run("install -d -o vaultctl -g vaultctl -m 750 /run/vaultctl/records")
+    root.serve("trap '' XFSZ; ulimit -f 2000;", "--lines /run/vaultctl/records/lines")
+    root.run("vaultdesk check records")
     told = root.run(
         "head -c 400000 /dev/zero > /tmp/large;"
         " for it in 1 2 3 4 5 6; do curl -s -o /dev/null -w '%{http_code} ' -X PUT"
         f" -H 'x-vault-caller: bob' --data-binary @/tmp/large http://127.0.0.1:{root.port}/drafts/$it; done"
     )
     check(told.startswith("200 ") and "500 " in told, f"puts on a full disk are answered {told}")
-    root.run("vaultdesk check records")
+    says = root.run("vaultdesk check records", status=1)
+    wanted = "failed [a-z0-9 ]+ since the server was started.* the disk works and has room; then start the server anew"
+    check(re.search(wanted, says), f"of a server whose disk is full the check says {says}")
     check(root.asked() == [], "a server whose disk is full is started anew, though it goes on")
     root.stop()
     root.run("vaultctl verify /var/lib/vaultctl/records.vault")
@@ -466,6 +479,15 @@ class Files(Case):
             # the manual pages that the units name aren't installed here
             ours = [it for it in ran.stderr.splitlines() if "vault-" in it and "Command 'man " not in it]
             check(ours == [], f"{unit.name}: {ours}")
+
+    @needs("systemd-analyze")
+    def test_units_are_shut_in(self):
+        units = {it.name.partition("@")[0] + "@": it for it in (self.unpacked / "usr/lib/systemd/system").glob("*.service")}
+        check(units.keys() == MOST_EXPOSED.keys(), f"there are the units {units}")
+        for name, unit in units.items():
+            says = said("systemd-analyze", "security", "--offline=yes", "--no-pager", unit)
+            found = float(re.search(r"Overall exposure level for .*: ([0-9.]+) ", says)[1])
+            check(found <= MOST_EXPOSED[name], f"{name} is exposed by {found}: {says}")
 
     def test_html(self):
         """Each link of a page leads to a page of the package or into the page itself, each picture that it shows is

@@ -13,9 +13,11 @@ import re
 import threading
 from typing import Iterator
 
-from trials.program import CONTRIB, TOP, Case, Ran, check, needs, ran_words
+from trials.boxes import shown
+from trials.program import CONTRIB, Case, Ran, check, needs, ran_words
 
-PAGE = TOP / "docs" / "ENGINEER.md"
+# The commands of the page: of the day, those that ask for a stamp, and the one that looks at it.
+COMMANDS = shown("ENGINEER", "day=$(date -u +%Y%m%d)").strip().splitlines()
 ADDRESS = "https://tsa.example.org/"
 FORM = "application/timestamp-query"
 CONFIGURATION = """\
@@ -79,14 +81,6 @@ def served(folder: pathlib.Path) -> Iterator[str]:
         server.shutdown()
 
 
-def commands() -> list[str]:
-    """The commands of the page: of the day, those that ask for a stamp, and the one that looks at it."""
-    blocks = re.findall(r"^```\n(.*?)^```$", PAGE.read_text(), re.M | re.S)
-    found = [it for it in blocks if "openssl ts -query" in it]
-    check(len(found) == 1, f"{len(found)} blocks of the page ask for a stamp")
-    return found[0].strip().splitlines()
-
-
 def exchange(path: pathlib.Path, old: bytes, new: bytes) -> bytes:
     """Exchanges bytes of a file, which has them; what it was."""
     before = path.read_bytes()
@@ -122,7 +116,7 @@ class Timestamps(Case):
 
     def test_stamps(self) -> None:
         (self.office / "tsa-root.pem").write_bytes((self.one / "root.pem").read_bytes())
-        day, *asks, looks = commands()
+        day, *asks, looks = COMMANDS
         with served(self.one) as address:
             ran = self.shell("\n".join(["set -e", day, *asks]).replace(ADDRESS, address))
             check(ran.status == 0, f"no stamp: {ran}")

@@ -327,21 +327,27 @@ def booted(root, script):
     return [line for line in text.splitlines() if line.startswith("trial: ")]
 
 
+def prepared(folder, included):
+    """A clean system with the package in it, which carries out a script as it is booted."""
+    folder.chmod(0o755)
+    said(TOP / "tools" / "package", PROGRAM, folder / "made")
+    root = Root(folder / "root", included)
+    (debian,) = (folder / "made").glob("*.deb")
+    (root.folder / "trial").mkdir()
+    root.put(debian, "/trial/vaultctl.deb")
+    root.run("dpkg -i /trial/vaultctl.deb")
+    (root.folder / "etc/systemd/system/trial.service").write_text(UNIT)
+    wants = root.folder / "etc/systemd/system/multi-user.target.wants"
+    wants.mkdir(exist_ok=True)
+    (wants / "trial.service").symlink_to("../trial.service")
+    return root
+
+
 class Units(Case):
     @needs_system
     @needs("systemd-nspawn")
     def test_boots(self):
-        self.folder.chmod(0o755)
-        said(TOP / "tools" / "package", PROGRAM, self.folder / "made")
-        root = Root(self.folder / "root", INCLUDED)
-        (debian,) = (self.folder / "made").glob("*.deb")
-        (root.folder / "trial").mkdir()
-        root.put(debian, "/trial/vaultctl.deb")
-        root.run("dpkg -i /trial/vaultctl.deb")
+        root = prepared(self.folder, INCLUDED)
         (root.folder / "trial" / "failing").write_text(FAILING)
-        (root.folder / "etc/systemd/system/trial.service").write_text(UNIT)
-        wants = root.folder / "etc/systemd/system/multi-user.target.wants"
-        wants.mkdir(exist_ok=True)
-        (wants / "trial.service").symlink_to("../trial.service")
         for script in (FIRST, SECOND):
             print("\n".join(booted(root, script)))

@@ -53,9 +53,11 @@ class Copies(MachineTest):
 
 
 class Metrics(ServedTest):
-    def numbers(self) -> dict[str, int]:
+    def numbers(self, status: int = 0) -> dict[str, int]:
         """The numbers by their names and labels, as Prometheus reads them."""
-        told = self.done("metrics", "records", at=None)
+        done = self.desk("metrics", "records", at=None)
+        self.assertEqual(done.status, status, done.err)
+        told = done.out
         for line in told.splitlines():
             self.assertRegex(line, r'^(# (HELP|TYPE) vault_\w+ .+|vault_\w+\{(\w+="[^"]*",?)+\} \d+)$')
         return {name: int(value) for name, value in re.findall(r"^(vault_\S+) (\d+)$", told, re.M)}
@@ -80,3 +82,41 @@ class Metrics(ServedTest):
         found = self.numbers()
         self.assertEqual((found['vault_serves{vault="records"}'], found['vault_copies{vault="records"}']), (1, 1))
         self.assertLess(abs(found['vault_newest_copy_seconds{vault="records"}'] - time.time()), 60)
+
+    def test_one_that_refuses_changes_serves_nobody(self) -> None:
+        self.serve()
+        self.configure(PORT=str(self.port))
+        found = self.numbers()
+        failures, moved = 'vault_failures{vault="records"}', 'vault_moved_files{vault="records"}'
+        self.assertEqual((found[failures], found[moved]), (0, 0))
+        away = self.file.with_name("away")
+        self.file.rename(away)
+        self.assertIn("Device", self.desk("put", "docs", "a", self.written("a", b"x"), at=None).err)
+        found = self.numbers(status=1)  # the tables can't be read
+        self.assertEqual((found[failures], found[moved]), (1, 1))
+        self.assertEqual(found['vault_serves{vault="records"}'], 0)
+        self.assertNotIn('vault_legal_holds{vault="records"}', found)
+        away.rename(self.file)
+        found = self.numbers()
+        self.assertEqual((found['vault_serves{vault="records"}'], found[moved]), (0, 0))
+        self.assertEqual(found['vault_legal_holds{vault="records"}'], 0)
+
+    def lasts(self) -> dict[str, int]:
+        """When each part of the night was last done."""
+        return {it: value for it, value in self.numbers().items() if re.match("vault_last_(?!change)", it)}
+
+    def test_when_each_part_of_a_night_was_last_done(self) -> None:
+        self.assertEqual(self.lasts(), {})
+        before = int(time.time())
+        self.done("night", "--clock-is-right", "records", at=None)
+        first = self.lasts()
+        parts = {f'vault_last_{it}_seconds{{vault="records"}}' for it in ("night", "copy", "audit", "seal")}
+        self.assertEqual(first.keys(), parts)
+        for it in first.values():
+            self.assertLessEqual(before, it)
+            self.assertLessEqual(it, time.time())
+        time.sleep(1.1)  # a moment has its second
+        self.configure(BACKUP="/dev/null/none")
+        self.assertEqual(self.desk("night", "--clock-is-right", "records", at=None).status, 1)
+        changed = {it for it, value in self.lasts().items() if value != first[it]}
+        self.assertEqual(changed, {'vault_last_seal_seconds{vault="records"}'})

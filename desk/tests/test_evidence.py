@@ -49,9 +49,17 @@ class Verify(Evidence):
         forged = self.forged("UPDATE departments SET held = held + 1, admitted = admitted + 1")
         done = self.desk("verify", "--vault", str(forged))
         self.assertEqual((done.status, done.out), (1, ""))
-        self.assertIn("damaged departments", done.err)
+        self.assertRegex(done.err, "damaged departments: /.*/docs/ENGINE.md says what each verdict means")
         told = json.loads(self.desk("verify", "--vault", str(forged), "--json").out)
         self.assertEqual(told, {"sound": False, "verdict": "damaged departments", "of_a_copy": False})
+
+    def test_a_file_that_isnt_there_isnt_damaged(self) -> None:
+        for words in (["verify"], ["verify", "--json"], ["lawful"]):
+            done = self.desk(*words, "--vault", str(self.folder / "other.vault"))
+            self.assertEqual((done.status, done.out), (1, ""))
+            self.assertIn("other.vault: there is no such file: --vault or $VAULT names the vault", done.err)
+            self.assertNotIn("amaged", done.err)
+        self.assertEqual(list(self.folder.glob("other*")), [])
 
     def test_while_a_program_has_it_a_copy_is_audited(self) -> None:
         with Engine(Desk(PROGRAM, self.file, "ann")) as engine:

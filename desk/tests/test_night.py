@@ -7,6 +7,7 @@ import datetime as dt
 import io
 import json
 import os
+import shutil
 import sqlite3
 import subprocess
 import tempfile
@@ -19,7 +20,9 @@ from unittest import mock
 
 from tests.machine import STOPPED_AND_STARTED, MachineTest
 from tests.office import PROGRAM
-from vaultdesk import night
+from vaultdesk import night, reading
+from vaultdesk.config import Desk
+from vaultdesk.engine import Engine
 from vaultdesk.errors import DeskError
 
 
@@ -237,6 +240,17 @@ class Backup(MachineTest):
             copy = self.done("backup", str(self.file), str(self.copies), at=None).strip()
         found = subprocess.run([PROGRAM, "verify", copy], capture_output=True, text=True, check=True)
         self.assertEqual(found.stdout, "sound\n")
+
+    def test_what_is_only_in_the_log_comes_from_a_medium_that_cant_be_written(self) -> None:
+        medium = self.folder / "medium"
+        medium.mkdir()
+        with Engine(Desk(PROGRAM, self.file, "ann")) as engine:
+            engine.ask("put", bucket="docs", key="late", text="x")
+            for it in ("", "-wal"):
+                shutil.copyfile(f"{self.file}{it}", f"{medium / 'records.vault'}{it}")
+        with mock.patch("vault_recheck.vault.is_read_only", lambda folder: folder == medium):
+            copy = self.done("backup", str(medium / "records.vault"), str(self.copies), at=None).strip()
+        self.assertEqual(reading.rows(Path(copy), "SELECT key FROM entries"), [("late",)])
 
     def test_one_that_is_not_sound_keeps_its_name(self) -> None:
         with closing(sqlite3.connect(self.file)) as base:

@@ -11,9 +11,11 @@ import sys
 import threading
 from contextlib import closing
 from pathlib import Path
+from typing import Any
 from unittest import mock
 
 from tests.machine import STOPPED_AND_STARTED, UNIT, MachineTest
+from tests.served import ServedTest
 from vaultdesk import units
 
 
@@ -213,6 +215,50 @@ class Check(MachineTest):
         """A check by a process of its own."""
         desk = Path(__file__).resolve().parents[1] / "bin" / "vaultdesk"
         return f"exec {desk} check records"
+
+    def test_one_whose_file_is_away_is_never_started_anew(self) -> None:
+        self.file.rename(self.file.with_name("away"))
+        for answer in (FAILED, SERVES):
+            self.assertIn("not where the server opened it", self.fault(answer))
+        self.assertEqual(self.asked(), [])
+
+
+class Changes(ServedTest):
+    """The check of a server that answers reads, and may refuse changes."""
+
+    def setUp(self) -> None:
+        super().setUp()
+        self.serve()
+        self.configure(PORT=str(self.port))
+
+    def check(self, status: int) -> tuple[str, dict[str, Any]]:
+        """What the check says in words, and as JSON."""
+        words, as_json = (self.desk("check", "records", *it, at=None) for it in ((), ("--json",)))
+        self.assertEqual((words.status, as_json.status), (status, status), words.err)
+        self.assertEqual(self.asked(), [])
+        return words.err, json.loads(as_json.out)
+
+    def test_one_that_changes_its_vault(self) -> None:
+        wanted = {"vault": "records", "serves": True, "fault": "", "failures": 0, "moved": []}
+        self.assertEqual(self.check(0), ("", wanted))
+
+    def test_one_that_refuses_changes(self) -> None:
+        away = self.file.with_name("away")
+        self.file.rename(away)
+        told, found = self.check(1)
+        self.assertIn(f"vault records: {self.file}: not where the server opened it", told)
+        self.assertEqual((found["serves"], found["moved"], found["failures"]), (False, [str(self.file)], 0))
+        self.assertIn("Device", self.desk("put", "docs", "a", self.written("a", b"x"), at=None).err)
+        away.rename(self.file)
+        told, found = self.check(1)
+        self.assertIn(f"start the server anew: systemctl restart {UNIT}", told)
+        self.assertEqual((found["serves"], found["moved"], found["failures"]), (False, [], 1))
+
+    def test_a_caller_who_may_not_ask_is_no_fault(self) -> None:
+        self.configure(PORT=str(self.port), ADMIN="ann")
+        told, found = self.check(0)
+        self.assertIn("whether its file failed isn't known: AccessDenied right:admin", told)
+        self.assertEqual((found["serves"], found["failures"]), (True, None))
 
 
 class Glue(MachineTest):

@@ -43,6 +43,31 @@ class Status(ServedTest):
         self.assertEqual((done.status, done.out), (1, ""))
         self.assertIn("no server of the vault takes lines", done.err)
 
+    def test_a_file_that_is_away_and_one_that_is_back(self) -> None:
+        self.serve()
+        away = self.file.with_name("away")
+        self.file.rename(away)
+        done = self.status("--json")
+        self.assertEqual((done.status, json.loads(done.out)["moved"]), (1, [str(self.file)]))
+        self.assertIn(f"{self.file}: not where the server opened it, so every change is refused", done.err)
+        self.assertIn("Put it back before the server is stopped", done.err)
+        put = ("put", "docs", "a", self.written("a", b"x"))
+        self.assertIn("Device", self.desk(*put, at=None).err)
+        away.rename(self.file)
+        done = self.status()
+        self.assertEqual(done.status, 1)
+        self.assertIn("failed once since the server was started", done.err)
+        self.assertIn("then start the server anew: systemctl restart vault-serve@records.service", done.err)
+
+    def test_another_file_in_its_place(self) -> None:
+        self.serve()
+        log = self.file.with_name("records.vault-wal")
+        log.rename(self.folder / "away")
+        log.write_bytes((self.folder / "away").read_bytes())
+        done = self.status()
+        self.assertEqual(done.status, 1)
+        self.assertIn(f"{log}: not where the server opened it", done.err)
+
     def test_it_is_of_now(self) -> None:
         self.serve()
         done = self.desk("status", "--as", "registrar", at="2024-02-01")
@@ -78,3 +103,4 @@ class Status(ServedTest):
         self.assertIn("failures      2\n", done.out)
         self.assertIn("served since  unknown", done.out)
         self.assertIn("failed 2 times", done.err)
+        self.assertIn("start the server anew", done.err)

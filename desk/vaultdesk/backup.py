@@ -6,13 +6,11 @@ import argparse
 import datetime as dt
 import os
 import re
-import sqlite3
 import subprocess
 import time
-from contextlib import closing
 from pathlib import Path
 
-from vaultdesk import conf, config, snapshot
+from vaultdesk import conf, config, reading, recheck, snapshot
 from vaultdesk.errors import DeskError, UsageError
 from vaultdesk.output import print_json
 from vaultdesk.owner import owner_of
@@ -29,23 +27,18 @@ def stamp() -> str:
 
 
 def read_copy(source: Path, target: Path) -> None:
-    """Copies a vault by SQLite's online backup, or where a program has it, as it is at one moment.
+    """Copies a vault by SQLite's online backup, or its files as they are at one moment, where a program has it.
 
     `DeskError` where it can't be read or written."""
-    if snapshot.is_taken(source):
+    # SQLite can't read a log in a folder that is read alone.
+    if snapshot.is_taken(source) or recheck.vault.is_read_only(source.resolve().parent):
         snapshot.copy(source, target)
         return
     try:
-        with closing(sqlite3.connect(f"{source.resolve().as_uri()}?mode=ro", uri=True, timeout=0)) as opened:
-            opened.isolation_level = None
-            # A backup waits for ever for a file that is locked: so the file is read first, which fails at once.
-            opened.execute("BEGIN")
-            opened.execute("SELECT count(*) FROM sqlite_master").fetchone()
-            with closing(sqlite3.connect(target)) as made:
-                opened.backup(made)
-    except sqlite3.Error as error:
+        reading.back_up(source, target)
+    except DeskError:
         target.unlink(missing_ok=True)
-        raise DeskError(f"{source}: {error}") from error
+        raise
 
 
 def _synced(path: Path) -> None:

@@ -13,13 +13,15 @@ import select
 import socket
 import struct
 import time
-from collections.abc import Iterator
+from collections.abc import Iterator, Mapping
 from contextlib import closing, contextmanager
 from pathlib import Path
+from typing import Any
 
 from vaultdesk import conf, moments
 from vaultdesk.config import Desk
-from vaultdesk.errors import EngineError
+from vaultdesk.errors import DeskError, EngineError
+from vaultdesk.refusals import refused
 from vaultdesk.ways import Answer, Line, text_of
 
 PATIENCE = 300.0  # seconds for the reply: a long run may be under way
@@ -48,6 +50,16 @@ class LinesDoor:
         after = moments.now()
         return Answer(reply, after, before == after)
 
+    def ask(self, caller: str, do: str, **members: Any) -> Mapping[str, Any]:
+        """What the server answers to a line that isn't a command. `Refused` where it refuses that, `EngineError` where
+        no reply comes, `DeskError` where the server is of an earlier version."""
+        reply = self.answer({"as": caller, "do": do, **members}, None).reply
+        if "ok" in reply:
+            return dict(reply["ok"])
+        if reply["error"]["code"] == "MalformedBody":
+            raise DeskError(f"the server is of an earlier version, which doesn't answer `{do}`")
+        raise refused(reply["error"])
+
     def close(self) -> None:
         """Nothing is open between two lines."""
 
@@ -70,6 +82,12 @@ class LinesDoor:
                 return True
         except _Nobody:
             return False
+
+    def process(self) -> int | None:
+        """The process that listens there; none where that isn't known, as at a port. `EngineError` where nobody
+        does, or one may not come."""
+        with self._connected(LOOK) as connection:
+            return _process_of(connection)
 
     def _exchange(self, connection: socket.socket, line: Line) -> Line:
         """The reply to a line, after which the connection is done."""
@@ -128,13 +146,18 @@ def _failed(connection: socket.socket, place: tuple[str, int] | str) -> OSError 
 # ---- the server's process
 
 
+def _process_of(connection: socket.socket) -> int | None:
+    """The process that listens at the other end of a Unix socket; none where that isn't known."""
+    if connection.family != socket.AF_UNIX:
+        return None
+    number, _, _ = struct.unpack("3i", connection.getsockopt(socket.SOL_SOCKET, socket.SO_PEERCRED, 12))
+    return int(number) or None
+
+
 @contextmanager
 def _watched(connection: socket.socket) -> Iterator[int | None]:
     """A descriptor of the process that listens at the other end of a Unix socket; none where that isn't known."""
-    if connection.family != socket.AF_UNIX:
-        yield None
-        return
-    number, _, _ = struct.unpack("3i", connection.getsockopt(socket.SOL_SOCKET, socket.SO_PEERCRED, 12))
+    number = _process_of(connection)
     try:
         process = os.pidfd_open(number) if number else None
     except OSError:

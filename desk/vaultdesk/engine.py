@@ -9,7 +9,7 @@ from pathlib import Path
 from types import TracebackType
 from typing import Any
 
-from vaultdesk import moments, snapshot
+from vaultdesk import moments, reading, snapshot
 from vaultdesk.config import Desk
 from vaultdesk.door import LinesDoor, door_of
 from vaultdesk.errors import EngineError, UsageError
@@ -106,11 +106,12 @@ class Engine:
     def tables(self) -> Path:
         """A file whose tables can be read: the vault's own, which is closed first, or while a server has it, a copy.
 
-        The copy is one until a change is asked for. `EngineError` where the file can't be read."""
+        The copy is one until a change is asked for. `EngineError` where the file can't be read, or isn't there."""
         if self._past is not None:
             self._past.close()
         if self._tables is None:
             self._end_ways()
+            reading.look_for(self.desk.file)  # the program's verdict on a file that isn't there is that it is damaged
             self._tables = self._copies.enter_context(snapshot.readable(self.desk.file))
         return self._tables
 

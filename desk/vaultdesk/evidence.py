@@ -14,7 +14,7 @@ from collections.abc import Iterable, Sequence
 from pathlib import Path
 from typing import Any
 
-from vaultdesk import moments, parts, recheck
+from vaultdesk import beside, moments, parts, recheck
 from vaultdesk.engine import Engine
 from vaultdesk.errors import DeskError, EngineError, UsageError
 from vaultdesk.output import print_json, say, say_while_long
@@ -158,7 +158,7 @@ def verify(engine: Engine, words: argparse.Namespace) -> None:
     elif is_sound:
         print("sound, by a copy of the vault as it is now" if is_copy else "sound")
     if not is_sound:
-        raise DeskError(f"{engine.desk.file}: {verdict}: docs/ENGINE.md says what each verdict means")
+        raise DeskError(f"{engine.desk.file}: {verdict}: {beside.page('ENGINE')} says what each verdict means")
 
 
 def _judged(engine: Engine) -> str:
@@ -183,7 +183,7 @@ def lawful(engine: Engine, words: argparse.Namespace) -> None:
         more = "; that the records of one move agree, within each part alone" if words.parts else ""
         print(f"lawful{more}")
     if verdict != "lawful":
-        raise DeskError(f"{engine.desk.file}: {verdict}: docs/formats/PROGRAM.md says what each rule is")
+        raise DeskError(f"{engine.desk.file}: {verdict}: {beside.page('formats/PROGRAM')} says what each rule is")
 
 
 def add(commands: argparse._SubParsersAction[argparse.ArgumentParser], common: argparse.ArgumentParser) -> None:

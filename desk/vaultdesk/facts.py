@@ -2,21 +2,18 @@
 
 from __future__ import annotations
 
-import sqlite3
 from collections import Counter
 from collections.abc import Sequence
-from contextlib import closing
 from pathlib import Path
 from typing import Any, NamedTuple
 
-from vaultdesk import moments
+from vaultdesk import moments, reading
 from vaultdesk.errors import DeskError
-from vaultdesk.office import BUCKETS, rights_text
+from vaultdesk.reading import Tables
 
 SCHEMA = 3
 DAY = 86_400
 CAUSES = ("request", "bypass", "rule")
-MODES = ("", "GOVERNANCE", "COMPLIANCE")
 MONTHS = 13  # that a page looks ahead: the rest of the month, and the twelve after
 
 
@@ -122,32 +119,30 @@ def months_from(month: str, count: int) -> list[str]:
     return [f"{it // 12:04}-{it % 12 + 1:02}" for it in range(first, first + count)]
 
 
-def _departments(base: sqlite3.Connection, at: int) -> list[Department]:
-    rows = base.execute(
-        "SELECT name, admitted, received, held, removed, handed, closed, weighted FROM departments ORDER BY name"
-    )
+def _departments(tables: Tables, at: int) -> list[Department]:
+    """Of each department its sums, as a report of that moment has them."""
     return [
-        Department(name, admitted, received, held, removed, handed, closed + held * (at // DAY) - weighted)
-        for name, admitted, received, held, removed, handed, closed, weighted in rows
+        Department(
+            it["department"], it["admitted"], it["received"], it["held"], it["removed"], it["handed"], it["byte_days"]
+        )
+        for it in tables.query("report", at=moments.of_seconds(at))
     ]
 
 
-def default_text(mode: int, days: int | None, years: int | None) -> str:
+def _default_text(text: str) -> str:
     """A default retention as `COMPLIANCE for 10 years`, or `none`."""
-    if not mode:
-        return "none"
-    count, unit = (days, "day") if days is not None else (years, "year")
-    return f"{MODES[mode]} for {count} {unit}" + ("" if count == 1 else "s")
+    return "none" if text == "-" else text.replace(" ", " for ", 1)
 
 
-def _buckets(base: sqlite3.Connection) -> list[Bucket]:
+def _buckets(tables: Tables) -> list[Bucket]:
     """Of each bucket its default, what it holds, and how many legal holds are on."""
-    defaults = {name: default_text(*row) for name, *row in base.execute("SELECT name, mode, days, years FROM buckets")}
-    holds = Counter(bucket for *_, bucket, _, _, _ in base.execute(HOLDS))
     return [
-        Bucket(name, department, defaults[name], documents, size, markers, holds[name])
-        for name, department, documents, size, markers, _ in base.execute(BUCKETS)
-    ]
+        Bucket(
+            it["bucket"], it["department"], _default_text(it["default"]), it["versions"], it["bytes"], it["markers"],
+            it["holds"],
+        )
+        for it in tables.query("buckets")
+    ]  # fmt: skip
 
 
 def _entries_text(prefix: str, larger: int | None, smaller: int | None) -> str:
@@ -172,23 +167,29 @@ def _does_text(days: int | None, lone: int, older: int | None, keep: int | None)
     return "; ".join(parts)
 
 
-def _rules(base: sqlite3.Connection) -> list[Rule]:
+def _rules(tables: Tables) -> list[Rule]:
     columns = "bucket, id, enabled, prefix, larger, smaller, days, lone, nc_days, nc_keep"
-    rows = base.execute(f"SELECT {columns} FROM rules ORDER BY bucket, n")
+    rows = tables.rows(f"SELECT {columns} FROM rules ORDER BY bucket, n")
     return [
         Rule(bucket, name, "yes" if on else "no", _entries_text(*those), _does_text(*action))
         for bucket, name, on, *those, action in ((*it[:6], it[6:]) for it in rows)
     ]
 
 
-def _callers(base: sqlite3.Connection) -> list[Caller]:
-    rows = base.execute("SELECT name, dept, closed, rights FROM callers ORDER BY closed, name")
-    return [Caller(it[0], it[1] or "none", "closed" if it[2] else "open", rights_text(it[3])) for it in rows]
+def _none(text: str) -> str:
+    return "none" if text == "-" else text
 
 
-def _removals(base: sqlite3.Connection) -> list[Removal]:
+def _callers(tables: Tables) -> list[Caller]:
+    """The callers by their names, closed ones last."""
+    rows = tables.query("callers")
+    found = [Caller(it["caller"], _none(it["department"]), it["state"], _none(it["rights"])) for it in rows]
+    return sorted(found, key=lambda it: (it.state == "closed", it.name))
+
+
+def _removals(tables: Tables) -> list[Removal]:
     """The rows of the register, by rising id."""
-    rows = base.execute(
+    rows = tables.rows(
         "SELECT id, bucket, key, marker, size, digest, admitted, by_rule, admitted_by, removed, cause, cause_by"
         " FROM entries WHERE removed IS NOT NULL ORDER BY id"
     )
@@ -202,9 +203,9 @@ def _removals(base: sqlite3.Connection) -> list[Removal]:
     ]  # fmt: skip
 
 
-def _ending(base: sqlite3.Connection, at: int) -> list[Ending]:
+def _ending(tables: Tables, at: int) -> list[Ending]:
     """The months from that of the moment on, each with the retentions that end in it."""
-    rows = base.execute(
+    rows = tables.rows(
         "SELECT until, size, hold FROM entries JOIN settings USING (id)"
         " WHERE removed IS NULL AND mode > 0 AND until > ?"
         " AND n = (SELECT max(n) FROM settings AS any WHERE any.id = entries.id)",
@@ -228,37 +229,31 @@ HOLDS = (
 )
 
 
-def _holds(base: sqlite3.Connection, at: int) -> list[Hold]:
+def _holds(tables: Tables, at: int) -> list[Hold]:
     """The documents with a legal hold on, the oldest hold first."""
     return [
         Hold(moments.of_seconds(since), at // DAY - since // DAY, caller, bucket, key, str(number), size)
-        for since, caller, bucket, key, number, size in base.execute(HOLDS)
+        for since, caller, bucket, key, number, size in tables.rows(HOLDS)
     ]
 
 
-def _read(base: sqlite3.Connection, name: str, at: int) -> Facts:
-    schema = base.execute("SELECT schema, last FROM meta").fetchone()
-    if schema is None or schema[0] != SCHEMA:
-        raise DeskError(f"its schema is {schema and schema[0]}, and {SCHEMA} is known here")
-    last = schema[1]
+def _read(tables: Tables, file: Path, at: int) -> Facts:
+    found = tables.rows("SELECT schema, last FROM meta")
+    schema, last = found[0] if found else (None, 0)
+    if schema != SCHEMA:
+        raise DeskError(f"{file}: its schema is {schema}, and {SCHEMA} is known here")
     if at < last:
-        raise DeskError(f"its last change is later, at {moments.of_seconds(last)}")
+        raise DeskError(f"{file}: its last change is later, at {moments.of_seconds(last)}")
     return Facts(
-        name, moments.of_seconds(at), moments.of_seconds(last), _departments(base, at), _buckets(base), _rules(base),
-        _callers(base), _removals(base), _ending(base, at), _holds(base, at),
+        file.name, moments.of_seconds(at), moments.of_seconds(last), _departments(tables, at), _buckets(tables),
+        _rules(tables), _callers(tables), _removals(tables), _ending(tables, at), _holds(tables, at),
     )  # fmt: skip
 
 
 def facts_of(file: Path, at: int) -> Facts:
     """What a vault's file has of a moment that isn't before its last change. `DeskError` where it can't be read."""
-    try:
-        with closing(sqlite3.connect(f"{file.resolve().as_uri()}?mode=ro", uri=True, isolation_level=None)) as base:
-            base.execute("BEGIN")
-            return _read(base, file.name, at)
-    except sqlite3.Error as error:
-        raise DeskError(f"{file}: {error}: is it a vault, and does nothing else have it?") from error
-    except DeskError as error:
-        raise DeskError(f"{file}: {error}") from error
+    with reading.at_one_moment(file) as tables:
+        return _read(tables, file, at)
 
 
 def removed_by_month(removals: Sequence[Removal]) -> list[tuple[str, list[int], int]]:

@@ -8,15 +8,19 @@ from collections.abc import Iterator
 from pathlib import Path
 from typing import NamedTuple
 
-from vaultdesk import conf, config, copies, moments, reading, server, snapshot
+from vaultdesk import conf, config, copies, last_done, moments, reading, server, snapshot
 from vaultdesk.errors import DeskError
 from vaultdesk.office import BUCKETS
-from vaultdesk.output import print_json
+from vaultdesk.output import print_json, say
+from vaultdesk.units import Served
 
 ABOUT = """Prints numbers of vaults in the text form that Prometheus reads, as from a file of its node exporter
 (textfile collector): what departments hold, what buckets hold, legal holds that are on, removals by cause, the moments
-of the last change and of the newest copy, the files' bytes, and of a vault with units whether it serves. They come from
-the tables, and while a server has the vault, from a copy for the moment: so each call takes as long as copying it."""
+of the last change and of the newest copy, and the files' bytes. Of a vault with units also whether it serves, as check
+says it, how often its file failed, and the moments of the last night, audit of the whole vault, copy and seal: how long
+ago each was is the time less the moment. The first come from the tables, and while a server has the vault, from a copy
+for the moment: so each call takes as long as copying it. Where they can't be read, the status is 1, and the others are
+printed all the same."""
 CAUSES = ("request", "bypass", "rule")
 HOLDS = """
 SELECT count(*) FROM entries AS e JOIN settings AS s ON s.id = e.id
@@ -42,7 +46,13 @@ def _escaped(text: str) -> str:
     return text.replace("\\", "\\\\").replace('"', '\\"').replace("\n", "\\n")
 
 
-def _of_tables(tables: Path, vault: str) -> Iterator[Number]:
+def _of_tables(file: Path, vault: str) -> Iterator[Number]:
+    """What the tables of a vault say, or while a program has it, those of a copy."""
+    with snapshot.readable(file) as tables:
+        yield from _of_readable(tables, vault)
+
+
+def _of_readable(tables: Path, vault: str) -> Iterator[Number]:
     own = {"vault": vault}
     [(last,)] = reading.rows(tables, "SELECT last FROM meta")
     yield Number("vault_last_change_seconds", "moment of the last change, since 1970", own, last)
@@ -69,29 +79,38 @@ def _of_files(file: Path, vault: str) -> Iterator[Number]:
 
 
 def _of_units(name: str) -> Iterator[Number]:
-    """Of a vault with a configuration: whether it serves, and its copies."""
-    given = conf.read(name)
-    own = {"vault": name}
-    serves = not server.asked(given.port()).fault(given.port())
-    yield Number("vault_serves", "1 where the server answers a request", own, int(serves))
-    found = copies.found_in(given.backup(), name) if given.backup().exists() else []
-    there = [it for it in found if it.suffix == ".vault"]
+    """Of a vault with a configuration: whether it serves, what its night did when, and its copies."""
+    served, own = Served(name), {"vault": name}
+    found = server.seen(served)
+    yield Number("vault_serves", "1 where the server answers, and its file is in order", own, int(not found.fault))
+    if found.health.failures is not None:
+        about = "how often the vault's file failed since the server was started"
+        yield Number("vault_failures", about, own, found.health.failures)
+    away = len(found.health.moved)
+    yield Number("vault_moved_files", "files that aren't where the server opened them", own, away)
+    for part, moment in last_done.read(served.file).items():
+        yield Number(f"vault_last_{part}_seconds", last_done.PARTS[part], own, moment)
+    folder = served.conf.backup()
+    there = [it for it in copies.found_in(folder, name) if it.suffix == ".vault"] if folder.exists() else []
     yield Number("vault_copies", "copies that are sound by their names", own, len(there))
     if there:
         made = moments.seconds_of(copies.made_at(there[0]))
         yield Number("vault_newest_copy_seconds", "moment of the newest copy, since 1970", own, made)
 
 
-def numbers_of(vault: str) -> list[Number]:
-    """The numbers of a vault, by its name or its file. `DeskError` where it can't be read."""
+def numbers_of(vault: str, faults: list[str]) -> list[Number]:
+    """The numbers of a vault, by its name or its file; why some can't be had is put to the faults."""
     file = config.settings().file_of(vault)
     name = file.name.removesuffix(".vault")
-    with snapshot.readable(file) as tables:
-        found = list(_of_tables(tables, name))
-    found += _of_files(file, name)
-    if conf.is_configured(vault):
-        found += _of_units(vault)
-    return [*found, Number("vault_looked_at_seconds", "moment of these numbers", {"vault": name}, int(time.time()))]
+    found = [Number("vault_looked_at_seconds", "moment of these numbers", {"vault": name}, int(time.time()))]
+    parts = [_of_tables(file, name), _of_files(file, name)]
+    parts += [_of_units(vault)] if conf.is_configured(vault) else []
+    for part in parts:
+        try:
+            found += part
+        except DeskError as error:
+            faults.append(str(error))
+    return found
 
 
 def metrics(words: argparse.Namespace) -> int:
@@ -99,15 +118,23 @@ def metrics(words: argparse.Namespace) -> int:
     vaults = words.vaults or conf.names()
     if not vaults:
         raise DeskError(f"no vault is named, and none has a configuration in {conf.folder()}")
-    found = [it for vault in vaults for it in numbers_of(vault)]
+    faults: list[str] = []
+    found = [it for vault in vaults for it in numbers_of(vault, faults)]
     if words.json:
         print_json([{"name": it.name, **it.labels, "value": it.value} for it in found])
-        return 0
+    else:
+        _print(found)
+    for it in faults:
+        say(f"vaultdesk metrics: {it}")
+    return 1 if faults else 0
+
+
+def _print(found: list[Number]) -> None:
+    """As Prometheus reads them: those of one name stand together."""
     for name in dict.fromkeys(it.name for it in found):
         those = [it for it in found if it.name == name]
         kind = "counter" if name.endswith("_total") else "gauge"
         print(f"# HELP {name} {those[0].about}", f"# TYPE {name} {kind}", *(it.text() for it in those), sep="\n")
-    return 0
 
 
 def add(commands: argparse._SubParsersAction[argparse.ArgumentParser], common: argparse.ArgumentParser) -> None:

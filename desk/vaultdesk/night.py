@@ -14,7 +14,7 @@ from dataclasses import dataclass, field
 from pathlib import Path
 from typing import Any
 
-from vaultdesk import backup, config, evidence, moments, reading, snapshot
+from vaultdesk import backup, config, evidence, last_done, moments, reading, snapshot
 from vaultdesk.config import Desk
 from vaultdesk.engine import Engine
 from vaultdesk.errors import DeskError
@@ -131,6 +131,7 @@ class Night:
     def make_copy(self) -> None:
         """Makes the night's copy."""
         self.copy = backup.made(self.served.file, self.served.conf.backup(), config.program())
+        last_done.note(self.served.file, "copy", "audit")  # it is made only of what its audit calls sound
 
     def make_seal(self) -> None:
         """Appends the seal of all that was before the last moment to those of earlier nights."""
@@ -139,6 +140,7 @@ class Night:
         if self.copy:  # SQLite leaves its index of the log beside a file that was read
             self.copy.with_name(f"{self.copy.name}-shm").unlink(missing_ok=True)
         evidence.append(evidence.seals_beside(self.served.file), self.seal)
+        last_done.note(self.served.file, "seal")
 
     def remove_old(self) -> None:
         """Removes the oldest copies; the one of this night always stays."""
@@ -160,6 +162,8 @@ class Night:
         if self.done(self.make_copy) and is_right:
             self.done(self.remove_old)
         self.done(self.make_seal)
+        if self.is_whole:
+            self.done(lambda: last_done.note(self.served.file, "night"))
         return 0 if self.is_whole else 1
 
     def print(self, as_json: bool) -> None:

@@ -1,7 +1,8 @@
-"""What the desk reads in the vault's tables while the engine hasn't the file; it never writes there.
+"""What the desk reads in the vault's tables while the engine hasn't the file; it never writes there, and nothing else
+of the desk opens them.
 
-Lists and pasts are asked by the queries that auditors have too (`contrib/queries`), so that stock `sqlite3` gives the
-same answers.
+Lists, pasts and sums are asked by the queries that auditors have too (`contrib/queries`), so that stock `sqlite3` gives
+the same answers.
 """
 
 from __future__ import annotations
@@ -27,12 +28,19 @@ NO_LOCKS = "CREATE TEMP VIEW settings AS SELECT id, n, 0 AS mode, 0 AS until, 0 
 # A query that is given what is no date, or no version, ends with an error of SQLite that quotes what the query says.
 SAID_BY_QUERY = re.compile(r"(?:JSON path error near|bad JSON path:) '(.*)'", re.DOTALL)
 
+# What is said beside an error of SQLite that has such a text.
+WHY = {
+    "locked": ": a server or another program has the vault: see vaultdesk offline",
+    "no such table": ": is it a vault?",
+    "not a database": ": is it a vault?",
+}
+
 
 def _error(file: Path, error: sqlite3.Error) -> DeskError:
     said = SAID_BY_QUERY.fullmatch(str(error))
     if said:
         return DeskError(said[1].replace("''", "'"))
-    why = ": a server or another program has the vault: see vaultdesk offline" if "locked" in str(error) else ""
+    why = next((words for text, words in WHY.items() if text in str(error)), "")
     return EngineError(f"{file}: {error}{why}")
 
 
@@ -47,27 +55,58 @@ def _immutable(file: Path) -> str:
     return "&immutable=1"
 
 
-@contextmanager
-def _opened(file: Path) -> Iterator[sqlite3.Connection]:
-    """The file for reading alone. `EngineError` where it can't be read, or a program has it."""
+class Tables:
+    """A vault's tables, open for reading alone."""
+
+    def __init__(self, opened: sqlite3.Connection) -> None:
+        self._opened = opened
+
+    def rows(self, statement: str, values: Values = ()) -> list[tuple[Any, ...]]:
+        """The rows of a statement."""
+        return list(self._opened.execute(statement, values))
+
+    def query(self, name: str, **values: Any) -> list[Row]:
+        """The rows of one of the auditor's queries, by the names of its columns; values are those of its parameters."""
+        statement = (beside.place_of("queries") / f"{name}.sql").read_text(encoding="utf-8")
+        found = self._opened.execute(statement, values)
+        names = [it[0] for it in found.description]
+        return [dict(zip(names, it, strict=True)) for it in found]
+
+
+def look_for(file: Path) -> None:
+    """`EngineError` where there is no such file, or one may not look."""
     try:
         is_there = file.is_file()
     except PermissionError as error:
         raise EngineError(f"{file}: {error.strerror}: ask as the vault's owner, or of a copy (--vault COPY)") from error
     if not is_there:
         raise EngineError(f"{file}: there is no such file: --vault or $VAULT names the vault")
+
+
+@contextmanager
+def _opened(file: Path, timeout: float = 2) -> Iterator[sqlite3.Connection]:
+    """The file for reading alone. `EngineError` where it can't be read, or a program has it."""
+    look_for(file)
     place = f"file:{urllib.parse.quote(str(file.resolve()))}?mode=ro{_immutable(file)}"
     try:
-        with closing(sqlite3.connect(place, uri=True, timeout=2)) as opened:
+        with closing(sqlite3.connect(place, uri=True, timeout=timeout, isolation_level=None)) as opened:
             yield opened
     except sqlite3.Error as error:
         raise _error(file, error) from error
 
 
+@contextmanager
+def at_one_moment(file: Path) -> Iterator[Tables]:
+    """The tables of a file as they are at one moment. The faults of reads within it are those of `rows`."""
+    with _opened(file) as opened:
+        opened.execute("BEGIN")
+        yield Tables(opened)
+
+
 def rows(file: Path, statement: str, values: Values = ()) -> list[tuple[Any, ...]]:
     """The rows of a statement. `EngineError` where the file can't be read, or a program has it."""
     with _opened(file) as opened:
-        return list(opened.execute(statement, values))
+        return Tables(opened).rows(statement, values)
 
 
 def query(file: Path, name: str, **values: Any) -> list[Row]:
@@ -75,7 +114,7 @@ def query(file: Path, name: str, **values: Any) -> list[Row]:
 
     `EngineError` as of `rows`, `DeskError` where the query says that a value isn't one."""
     with _opened(file) as opened:
-        return _queried(opened, name, values)
+        return Tables(opened).query(name, **values)
 
 
 def unguarded(file: Path, name: str, **values: Any) -> list[Row]:
@@ -84,20 +123,21 @@ def unguarded(file: Path, name: str, **values: Any) -> list[Row]:
     Errors as of `query`."""
     with _opened(file) as opened:
         opened.execute(NO_LOCKS)
-        return _queried(opened, name, values)
-
-
-def _queried(opened: sqlite3.Connection, name: str, values: Values) -> list[Row]:
-    statement = (beside.place_of("queries") / f"{name}.sql").read_text(encoding="utf-8")
-    opened.row_factory = sqlite3.Row
-    return [dict(it) for it in opened.execute(statement, values)]
+        return Tables(opened).query(name, **values)
 
 
 def of_two(file: Path, old: Path, statement: str) -> list[tuple[Any, ...]]:
     """The rows of a query over two vaults, of which the other one's tables are named `old`."""
-    try:
-        with closing(sqlite3.connect(f"{file.resolve().as_uri()}?mode=ro", uri=True)) as opened:
-            opened.execute("ATTACH ? AS old", (f"{old.resolve().as_uri()}?mode=ro",))
-            return list(opened.execute(statement))
-    except sqlite3.Error as error:
-        raise EngineError(f"{file}, {old}: {error}") from error
+    with _opened(file) as opened:
+        opened.execute("ATTACH ? AS old", (f"{old.resolve().as_uri()}?mode=ro",))
+        return Tables(opened).rows(statement)
+
+
+def back_up(file: Path, target: Path) -> None:
+    """Copies a vault that no program has, by SQLite's online backup. `EngineError` where that can't be done."""
+    with _opened(file, timeout=0) as opened:
+        # A backup waits for ever for a file that is locked: so the file is read first, which fails at once.
+        opened.execute("BEGIN")
+        opened.execute("SELECT count(*) FROM sqlite_master").fetchone()
+        with closing(sqlite3.connect(target)) as made:
+            opened.backup(made)

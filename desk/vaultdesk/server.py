@@ -11,10 +11,12 @@ from pathlib import Path
 
 from vaultdesk.backup import stamp
 from vaultdesk.errors import DeskError, UsageError
+from vaultdesk.health import Health, health_of
 from vaultdesk.output import print_json, say
 from vaultdesk.units import Busy, Served, Standstill, systemctl
 
 PATIENCE = 30  # seconds for the server's answer
+FAILED = "its file failed (500)"
 OFFLINE = """Stops the server of a vault, runs a command as the vaults' owner, in their folder, and starts the server
 again, also where the command fails. Standard input, output and error are the caller's, and the status is
 the command's; where the server doesn't start again, the status is never 0. A server that didn't run isn't started.
@@ -24,8 +26,10 @@ RESTORE = """Puts a copy of a vault in the vault's place, and starts its server.
 else is done: where it isn't sound, all stays as it is, and the server isn't stopped. The files that were there are
 moved to a folder NAME-MOMENT.replaced beside them: remove it yourself."""
 CHECK = """The status is 0 where the server answers, where it is about to start, where it should not run, and where
-another job has stopped it for its work. It is 1, with a line that says why, in all other cases: no answer, nobody is
-served, or a server that is enabled and doesn't run. A server whose file failed is started anew first."""
+another job has stopped it for its work. It is 1, with a line that says why and what to do, in all other cases: no
+answer; nobody is served; a server that is enabled and doesn't run; one whose files aren't where it opened them; one
+whose file failed since it was started, which its door for lines says to the caller ADMIN. A server that answers 500 is
+started anew first, unless its files are away: what is only in a log that was removed would be gone."""
 
 
 # ---- a command while it is stopped
@@ -149,7 +153,7 @@ class Answer:
         if self.status == 0:
             return f"no answer at port {port}"
         if self.status == 500:
-            return "its file failed (500)"
+            return FAILED
         if self.status == 503 and "ClockBack" in self.body:
             cause = "nobody is served (503 ClockBack): the machine's clock is before the vault's last change"
             return f"{cause}. Set the clock right; where that change is dated ahead, it serves again after its moment"
@@ -176,24 +180,38 @@ def asked(port: int) -> Answer:
         connection.close()
 
 
-def _fault(served: Served) -> str:
-    """What is wrong with the server of a vault, after it was started anew where its file failed; empty: nothing."""
+@dataclass(frozen=True)
+class Seen:
+    """What is seen of a vault's server: what is wrong with it, empty where nothing is, and how its files are."""
+
+    fault: str = ""
+    health: Health = Health()
+
+
+def seen(served: Served) -> Seen:
+    """How a server is that runs: what it answers, whether its files are in their place, whether one failed."""
+    answer, port = asked(served.conf.port()), served.conf.port()
+    health = health_of(served.file, served.door(PATIENCE), served.conf.admin(), served.process())
+    fault = health.fault(served.unit) if health.moved else ""
+    return Seen(fault or answer.fault(port) or health.fault(served.unit), health)
+
+
+def _looked_at(served: Served) -> Seen:
+    """The same of a server that may not run, after it was started anew where it answers that its file failed."""
     state = served.state()
     if state in ("activating", "deactivating", "reloading"):
-        return ""
+        return Seen()
     if state != "active":
-        if served.is_enabled():
-            return f"its server is enabled and doesn't run: see systemctl status {served.unit}"
-        return ""
-    port = served.conf.port()
-    answer = asked(port)
-    if answer.status == 500:
-        say(f"vaultdesk check: vault {served.name}: its file failed: the server is started anew")
-        systemctl("reset-failed", served.unit)
-        if systemctl("restart", served.unit)[0] != 0:
-            return f"its file failed, and its server doesn't start: see systemctl status {served.unit}"
-        answer = asked(port)
-    return answer.fault(port)
+        why = f"its server is enabled and doesn't run: see systemctl status {served.unit}"
+        return Seen(why if served.is_enabled() else "")
+    found = seen(served)
+    if found.fault != FAILED:
+        return found
+    say(f"vaultdesk check: vault {served.name}: its file failed: the server is started anew")
+    systemctl("reset-failed", served.unit)
+    if systemctl("restart", served.unit)[0] != 0:
+        return Seen(f"its file failed, and its server doesn't start: see systemctl status {served.unit}")
+    return seen(served)
 
 
 def check(words: argparse.Namespace) -> int:
@@ -201,11 +219,15 @@ def check(words: argparse.Namespace) -> int:
     served = Served(words.name)
     try:
         with served.locked(patience=0):
-            fault = _fault(served)
+            found = _looked_at(served)
     except Busy:
-        fault = ""
+        found = Seen()
+    fault, health = found.fault, found.health
+    if health.unknown:
+        say(f"vaultdesk check: vault {served.name}: whether its file failed isn't known: {health.unknown}")
     if words.json:
-        print_json({"vault": served.name, "serves": not fault, "fault": fault})
+        how = {"failures": health.failures, "moved": [str(it) for it in health.moved]}
+        print_json({"vault": served.name, "serves": not fault, "fault": fault, **how})
     if fault:
         raise DeskError(f"vault {served.name}: {fault}")
     served.forget_alarm("vault-check")

@@ -4,16 +4,19 @@ from __future__ import annotations
 
 import argparse
 from collections.abc import Mapping
+from pathlib import Path
 from typing import Any
 
+from vaultdesk import conf
 from vaultdesk.engine import Engine
 from vaultdesk.errors import DeskError, UsageError
+from vaultdesk.health import Health, moved
 from vaultdesk.output import print_json
-from vaultdesk.refusals import refused
 
 ABOUT = """Says how a vault is that a server has: since when it is served and by which version, how many entries were
-ever admitted, when the last change was, and how often its file failed since then. It takes a caller with the right
-admin. Where the file failed the status is 1."""
+ever admitted, when the last change was, how often its file failed since then, and whether its files are where the
+server opened them. It takes a caller with the right admin. Where the file failed or isn't there the status is 1, and a
+line says what to do."""
 # What is said of each, in this order.
 NAMED = (("since", "served since"), ("version", "version"), ("entries", "entries"), ("last", "last change"),
          ("failures", "failures"))  # fmt: skip
@@ -27,12 +30,7 @@ def asked(engine: Engine, do: str, **members: Any) -> Mapping[str, Any]:
     door = engine.door
     if door is None:
         raise DeskError("no server of the vault takes lines: there is none that could be asked")
-    reply = door.answer({"as": engine.desk.caller, "do": do, **members}, None).reply
-    if "ok" in reply:
-        return dict(reply["ok"])
-    if reply["error"]["code"] == "MalformedBody":
-        raise DeskError(f"the server is of an earlier version, which doesn't answer `{do}`")
-    raise refused(reply["error"])
+    return door.ask(engine.desk.caller, do, **members)
 
 
 def state(engine: Engine) -> Mapping[str, Any]:
@@ -40,17 +38,28 @@ def state(engine: Engine) -> Mapping[str, Any]:
     return asked(engine, "status")
 
 
+def unit_of(file: Path) -> str:
+    """The unit that serves a vault, where it has a configuration; else empty."""
+    name = file.name.removesuffix(".vault")
+    is_ours = conf.is_configured(name) and file.absolute() == conf.vaults_folder().absolute() / f"{name}.vault"
+    return f"vault-serve@{name}.service" if is_ours else ""
+
+
 def status(engine: Engine, words: argparse.Namespace) -> None:
-    """Prints what the server of the vault says of itself. `DeskError` where the vault's file failed."""
+    """Prints what the server of the vault says of itself. `DeskError` where the vault's file failed, or was moved."""
     found = state(engine)
+    assert engine.door
+    file = engine.desk.vault
+    away = moved(file, engine.door.process()) if file else ()
     if words.json:
-        print_json(found)
+        print_json({**found, "moved": [str(it) for it in away]})
     else:
         for name, label in NAMED:
             value = "unknown, as the clock showed no moment" if found[name] is None else found[name]
             print(f"{label:12}  {value}")
-    if found["failures"]:
-        raise DeskError(f"its file failed {found['failures']} times: start the server anew, and look at the disk")
+    fault = Health(away, found["failures"]).fault(unit_of(file) if file else "")
+    if fault:
+        raise DeskError(fault)
 
 
 def add(commands: argparse._SubParsersAction[argparse.ArgumentParser], common: argparse.ArgumentParser) -> None:

@@ -4,6 +4,7 @@ from __future__ import annotations
 
 import argparse
 import datetime as dt
+import hashlib
 import re
 import subprocess
 import sys
@@ -17,13 +18,26 @@ from vaultdesk.engine import Engine
 from vaultdesk.errors import DeskError, UsageError
 from vaultdesk.output import counted_off, print_json
 
-NAME = re.compile(r"[A-Za-z0-9@._-]{1,60}")
+NAME = re.compile(r"[A-Za-z0-9:@\\._-]{1,255}")  # as systemd allows it for a unit
+BATCH = re.compile(r"[a-z0-9._-]{1,64}")
+SHOWN, DIGITS = 20, 26  # of a name that no batch can have: how much of it is shown, and of its digest
 ABOUT = """Takes a log into the vault, in pieces of at most 1 MiB that end with a line, as documents NAME/DAY/0001 and
 so on: what nginx, a server, a gateway or sudo wrote of a day. The bucket's default retention guards them as it guards
 all documents, so give it one in COMPLIANCE. The log is a file, standard input (-), or with --unit what systemd's
 journal has of a unit for the day, yesterday if none is named, in UTC. Given again for the same day, nothing is taken
-in twice; where the log has grown since, the last piece is refused, and what is new needs another name. An empty log
-is taken in as an empty document, so that each day has one."""
+in twice; where the log has grown since, the last piece is refused, and what is new needs another name. The log of a day
+on which nothing was written is taken in as an empty document, so that each day has one, and that is printed."""
+
+
+def batch_of(name: str, day: dt.date) -> str:
+    """The batch in which a log of a day is taken in: the same each time, and no two logs of a day have one.
+
+    Where the name can't stand in a batch's name, a part of it and the digest of the whole do, after another sign."""
+    plain = f"trail-{name}-{day}"
+    if BATCH.fullmatch(plain):
+        return plain
+    shown = re.sub(r"[^a-z0-9._-]", "-", name.lower())[:SHOWN]
+    return f"trail_{shown}-{hashlib.sha256(name.encode()).hexdigest()[:DIGITS]}-{day}"
 
 
 def pieces_of(content: bytes) -> Iterator[bytes]:
@@ -72,20 +86,26 @@ def trail(engine: Engine, words: argparse.Namespace) -> None:
         raise UsageError("give the log's FILE, or --unit UNIT")
     name = words.name or words.unit or ("" if words.path == "-" else Path(words.path).name)
     if not NAME.fullmatch(name):
-        raise UsageError(f"{name!r} is no name of a log: give --name, with 1 to 60 of letters, digits, @, ., _ and -")
+        signs = "letters, digits, @, :, ., _, - and \\"
+        raise UsageError(f"{name!r} is no name of a log: give --name, with 1 to 255 of {signs}")
     day = _day(words, engine.at or moments.now())
     pieces = list(pieces_of(_content(words, day)))
     rows: list[dict[str, Any]] = []
     for line, piece in enumerate(counted_off(pieces, "pieces were taken in"), start=1):
         key = f"{name}/{day}/{line:04}"
-        place = {"bucket": words.bucket, "batch": f"trail-{name}-{day}", "line": line, "key": key}
+        place = {"bucket": words.bucket, "batch": batch_of(name, day), "line": line, "key": key}
         done = engine.ask("intake", **place, hex=piece.hex())
         rows.append({"version": done["version_id"], "key": key, "bytes": len(piece), "again": done["again"]})
     if words.json:
         print_json(rows)
+        return
+    fresh = sum(not it["again"] for it in rows)
+    what = f"the log of {name} of {day}"
+    if pieces == [b""]:
+        print(f"{what} is empty: an empty document {'was taken in' if fresh else 'was there already'}")
     else:
-        fresh = sum(not it["again"] for it in rows)
-        print(f"{fresh} of {len(rows)} pieces of {name} of {day} were taken in; the others were there")
+        rest = "" if fresh == len(rows) else "; the others were there"
+        print(f"{fresh} of {len(rows)} pieces of {what} were taken in{rest}")
 
 
 def add(commands: argparse._SubParsersAction[argparse.ArgumentParser], common: argparse.ArgumentParser) -> None:

@@ -66,6 +66,11 @@ class Served:
         """The door at which the server takes lines, as its unit says."""
         return LinesDoor(str(conf.lines_of(self.name)), patience)
 
+    def process(self) -> int | None:
+        """The server's process, as systemd has it; none where none runs."""
+        number = systemctl("show", "-P", "MainPID", self.unit)[1]
+        return int(number) if number.isdecimal() and int(number) else None
+
     def is_enabled(self) -> bool:
         """Whether the server is to run."""
         return systemctl("is-enabled", self.unit)[1].startswith("enabled")

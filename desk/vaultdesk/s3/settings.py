@@ -1,7 +1,7 @@
 """The gateway's settings, a file (TOML)::
 
     vault = "/var/lib/vaultctl/records.vault"   # or its name in the desk's settings
-    keys = "/etc/vaultctl/keys.toml"            # the access keys, which vaultdesk s3 key makes
+    keys = "/var/lib/vaultctl/records.keys.toml"  # the access keys, which vaultdesk s3 key makes
     door = "/run/vaultctl/records/lines"        # where its server takes lines; left out, it is found
     admin = "registrar"                         # a caller with the right admin, who asks which buckets there are
     etags = "/var/lib/vaultctl/records.etags"   # MD5s of contents; may be lost
