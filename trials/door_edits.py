@@ -127,6 +127,10 @@ EDITS = [
      S3 + "OwnBuckets.test_those_without_a_default_retention_are_said"),
     ("s3/words", "buckets WHERE mode = 0 ORDER", "buckets ORDER", S3 + "OwnBuckets.test_those_without_a_default_retention_are_said"),
     # a server that refuses changes
+    ("health_port", "HTTPStatus.SERVICE_UNAVAILABLE if fault else HTTPStatus.OK", "HTTPStatus.OK",
+     "test_health_port.Asked.test_a_server_whose_file_is_away"),
+    ("health_port", "time.monotonic() >= self._until", "not self._until",
+     "test_health_port.Asked.test_what_was_seen_is_answered_for_a_short_while"),
     ("health", "        if self.failures:\n", "        if False:\n", "test_server.Changes.test_one_that_refuses_changes"),
     ("health", "        if self.moved:\n", "        if False:\n", "test_server.Changes.test_one_that_refuses_changes"),
     ("health", "(file, snapshot.log_of(file)) if", "(file,) if", "test_status.Status.test_another_file_in_its_place"),

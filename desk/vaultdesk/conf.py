@@ -18,6 +18,7 @@ from vaultdesk.output import say
 
 KNOWN = (
     "PORT", "LINES_GROUP", "ADMIN", "BUCKETS", "NIGHT", "BACKUP", "KEEP", "ALARM", "TRUST_CLOCK", "MAX_JUMP", "STANDBY",
+    "HEALTH",
 )  # fmt: skip
 NAME = re.compile(r"[A-Za-z0-9_][A-Za-z0-9_.-]*")  # of a vault: a file's name, and a unit's
 CALLER = re.compile(r"[a-z0-9._-]{1,64}")
@@ -89,6 +90,12 @@ class Configuration:
         if "PORT" not in self.values:
             raise DeskError(f"{self.path}: PORT is missing: the port of 127.0.0.1 at which the vault is served")
         return self._number("PORT", self.values["PORT"], 1, 65_535)
+
+    def health(self) -> str:
+        """Where load balancers ask how the vault is: PORT or ADDRESS:PORT."""
+        if "HEALTH" not in self.values:
+            raise DeskError(f"{self.path}: HEALTH is missing: the port at which load balancers ask, as HEALTH=8081")
+        return self.values["HEALTH"]
 
     def buckets(self) -> list[tuple[str, str]]:
         """The buckets whose rules the night carries out, each with the caller who asks for it."""
