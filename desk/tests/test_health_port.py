@@ -50,7 +50,7 @@ class Asked(ServedTest):
         self.assertEqual(self.answer()[0], 200)
         self.file.rename(self.file.with_name("away"))
         self.assertEqual(self.answer()[0], 200)
-        self.at.look._until = 0
+        self.at.look._until = 0.001
         self.assertEqual(self.answer()[0], 503)
 
     def test_one_that_says_nothing_holds_nobody_up(self) -> None:
