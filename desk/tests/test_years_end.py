@@ -58,7 +58,9 @@ class YearsEnd(OfficeTest):
         [reply] = self.lines({"do": "certificate", "bucket": "docs", "id": 2}, at=LATER)
         self.assertEqual((out / "certificate-0000000002.txt").read_bytes().decode(), reply["ok"]["text"])
         self.assertEqual(sorted(it.name for it in out.glob("*.txt")), [f"certificate-000000000{n}.txt" for n in (1, 2)])
-        self.assertIn("Müller", (out / "certificates.html").read_text(encoding="utf-8"))
+        page = (out / "certificates.html").read_text(encoding="utf-8")
+        self.assertIn("Müller", page)
+        self.assertEqual(page.count("The certificate doesn't show that its bytes were wiped"), 2)
         there = {it: it.write_bytes(b"mine") for it in out.iterdir()}
         for it in ("certificate-0000000001.txt", "certificate-0000000002.txt", "certificates.html"):
             done = self.desk("certificates", str(out), at=LATER)

@@ -239,7 +239,7 @@ def _subcommand(
 
 def add(commands: argparse._SubParsersAction[argparse.ArgumentParser], common: argparse.ArgumentParser) -> None:
     """Adds the subcommands to the desk's words."""
-    example = 'put letters "2025/002 Miller" letter.pdf --until 2035-01-01'
+    example = 'put letters "2025/002 permit" letter.pdf --until 2035-01-01'
     it = _subcommand(commands, common, put, "put a file's content as a new version", example)
     it.add_argument("key")
     it.add_argument("path", help="the file; - is standard input")
@@ -249,7 +249,7 @@ def add(commands: argparse._SubParsersAction[argparse.ArgumentParser], common: a
     it.add_argument("--new", action="store_true", help="only if nothing is held under KEY")
     it.add_argument("--yes", action="store_true", help="don't ask")
 
-    example = 'get letters "2025/002 Miller" letter.pdf'
+    example = 'get letters "2025/002 permit" letter.pdf'
     it = _subcommand(commands, common, get, "write a version's content to a file", example)
     it.add_argument("key")
     it.add_argument("path", nargs="?", help="the file to write (default: standard output)")

@@ -137,7 +137,7 @@ def add(commands: argparse._SubParsersAction[argparse.ArgumentParser], common: a
         "find",
         parents=[common],
         help="find versions, held and removed ones: by a part of the key, content, date",
-        epilog="Examples: vaultdesk find Miller --held; vaultdesk find --same-as scan.pdf; "
+        epilog="Examples: vaultdesk find permit --held; vaultdesk find --same-as scan.pdf; "
         "vaultdesk find --prefix 2024/ --since 2024-06-01 --before 2024-07-01 --csv",
     )
     it.add_argument("text", nargs="?", help="a part of the key, letter by letter")

@@ -19,6 +19,11 @@ from vaultdesk.output import counted_off, print_json, print_rows, refusals, say,
 from vaultdesk.targets import Target, add_targets, targets
 from vaultdesk.trying import Work, work
 
+UNWIPED = """\
+What is removed isn't wiped: no command reads it again, but its bytes may stay readable in unused parts of the vault's
+files, and in copies of these, older and later ones. Its key and its digest stay in the vault for ever, with who removed
+it and when.
+"""
 WIDTH = 96  # columns of a line that says what a refusal means
 COLUMNS = ("bucket", "version", "was", "is", "refused", "key")
 Row = dict[str, Any]
@@ -283,7 +288,8 @@ def add(commands: argparse._SubParsersAction[argparse.ArgumentParser], common: a
     it.set_defaults(run=rm)
 
     example = "Example: vaultdesk delete letters 2025/002 --version 17"
-    it = commands.add_parser("delete", parents=[common], help="remove a version for good", epilog=example)
+    what = "remove a version for good"
+    it = commands.add_parser("delete", parents=[common], help=what, description=UNWIPED, epilog=example)
     add_targets(it)
     it.add_argument("--bypass", action="store_true", help="also under a retention in GOVERNANCE")
     add_yes(it)

@@ -26,11 +26,15 @@ CHARGED = ("dept", "since", "before", "byte_days", "admitted", "received", "remo
 SUMS = ("admitted", "received", "held", "removed", "handed", "byte_days")
 PAGE = """<!DOCTYPE html>
 <html lang="en"><head><meta charset="utf-8"><title>Certificates of destruction</title>
-<style>pre {{ page-break-after: always; white-space: pre-wrap; font: 11pt monospace; }}</style></head>
+<style>section {{ page-break-after: always; }} pre {{ white-space: pre-wrap; font: 11pt monospace; }}</style></head>
 <body>
 {}
 </body></html>
 """
+
+CERTIFICATE = """<section><pre>{}</pre>
+<p>The vault removed this version; no command reads it again. The certificate doesn't show that its bytes were wiped:
+they may stay readable in unused parts of the vault's files, and in copies of them.</p></section>"""
 
 
 def register(engine: Engine, in_parts: bool = False) -> list[Row]:
@@ -91,7 +95,7 @@ def certificates(engine: Engine, words: argparse.Namespace) -> None:
         certified = counted_off(_certified(engine, rows, callers), "certificates", len(rows))
         for path, text in zip(paths, certified, strict=True):
             path.write_bytes(text.encode())
-            texts.append(f"<pre>{html.escape(text)}</pre>")
+            texts.append(CERTIFICATE.format(html.escape(text)))
         page.write_text(PAGE.format("\n".join(texts)), encoding="utf-8")
     except OSError as error:
         raise DeskError(f"{error.filename}: {error.strerror}") from error
