@@ -2,6 +2,8 @@
 ghost use Rattle.std.specs.Prelude.{None, true};
 
 use crate::counting::Counting;
+use crate::moving_clock::MovingClock;
+use crate::slow_peer::{Part, SlowPeer};
 use std::alloc::Global;
 use std::cell::Cell;
 use std::io;
@@ -14,8 +16,6 @@ use vault_core_model::command::Command;
 use vault_core_model::keeper::Keeper;
 use vault_core_model::reply::Reply;
 use vault_http::{Hears, Hosts, Nobody};
-use vault_tests_peers::clocks::MovingClock;
-use vault_tests_peers::slow::{Part, SlowPeer};
 use vault_transcript::transcript::opened;
 use vaultctl_log::entry::{Entry, log_entry};
 use vaultctl_serve_lines::doors::{Arrived, Doors};

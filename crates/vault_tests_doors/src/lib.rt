@@ -1,19 +1,12 @@
-//! Tests of both doors of a server. Over peers in memory it is known what they send and when: what comes in time is taken,
-//! each connection has its entry in the log, and a line is heard of before it is answered. Over loopback, with clients and
-//! server in one process: what is answered, and peers that are gone before they are answered.
+//! Tests of both doors of a server, over peers in memory of which it is known what they send and when: each connection has
+//! its entry in the log, and a command is heard of before its reply or answer is taken.
 #![tactic(auto)]
 
-#[cfg(test)]
-mod broken;
 #[cfg(test)]
 mod counting;
 #[cfg(test)]
 mod doors;
 #[cfg(test)]
-mod hearing;
+mod moving_clock;
 #[cfg(test)]
-mod in_time;
-#[cfg(test)]
-mod late;
-#[cfg(test)]
-mod served;
+mod slow_peer;

@@ -1,10 +1,9 @@
-//! Peers that take their time.
-use crate::clocks::MovingClock;
+//! Peers that take their time, by a clock that moves only as one waits for them.
+use crate::moving_clock::MovingClock;
 use std::alloc::Global;
 use std::cell::Cell;
 use std::io;
 use std::io::Read;
-use std::net::{Ipv4Addr, OpenListener, SocketAddr};
 use std::time::Duration;
 use vaultctl_serve::peer::Peer;
 
@@ -79,48 +78,5 @@ impl Peer for SlowPeer<'_, '_> {
 
     fn end(&self) -> io::Result<()> {
         Ok(())
-    }
-}
-
-/// A listener to which `silent` silent peers come, one after another, and then a slow one, if there is one.
-#[derive(Drop)]
-pub struct SlowPeers<'a, 'p> {
-    pub clock: &'a MovingClock,
-    pub silent: Cell<u32>,
-    pub last: Cell<Option<&'p [Part]>>,
-    pub pace: u64,
-    /// What they took of their answers.
-    pub taken: &'a Cell<Vec<u8>>,
-    pub alloc: Global,
-}
-
-impl<'p> SlowPeers<'_, 'p> {
-    /// What the next peer sends; none where none comes any more.
-    fn next_parts(&self) -> Option<&'p [Part]> {
-        let silent = self.silent.get();
-        if silent == 0 {
-            return self.last.replace(None);
-        }
-        self.silent.set(silent - 1);
-        Some(&[])
-    }
-}
-
-impl<'a, 'p> OpenListener for SlowPeers<'a, 'p> {
-    type Stream = SlowPeer<'a, 'p>;
-
-    fn accept(&self) -> io::Result<(SlowPeer<'a, 'p>, SocketAddr)> {
-        let Some(parts) = self.next_parts() else {
-            return Err(io::Error::from(io::ErrorKind::ConnectionAborted));
-        };
-        let peer = SlowPeer {
-            clock: self.clock,
-            parts: Cell::new(parts),
-            came: Cell::new(0),
-            pace: self.pace,
-            taken: self.taken,
-            alloc: self.alloc,
-        };
-        Ok((peer, SocketAddr::from((Ipv4Addr::LOCALHOST, 1))))
     }
 }
