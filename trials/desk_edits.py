@@ -6,7 +6,7 @@ the text in its place, and the test.
 
 FIND, HELD = "test_find.Find.", "test_find.Held."
 HISTORY, ANSWER = "test_history.History.", "test_answer.Answer."
-SEALS, COMPARE = "test_evidence.Seals.", "test_evidence.Compare."
+SEALS, COMPARE, TORN = "test_evidence.Seals.", "test_evidence.Compare.", "test_evidence.Torn."
 LOCKS, CASES = "test_locks.Locks.", "test_cases.OfCases."
 DOCUMENTS, OFFLINE = "test_documents.PutAndGet.", "test_server.Offline."
 DELIVERIES, YEARS_END = "test_deliveries.Deliveries.", "test_years_end.YearsEnd."
@@ -105,13 +105,18 @@ EDITS = [
     # seals and copies
     ("evidence", "if any(it != seal for it in there):", "if False:",
      SEALS + "test_seals_are_appended_once_and_never_over_others"),
-    ("evidence", "    if there:\n        return False\n", "",
+    ("evidence", "            if not there:\n", "            if True:\n",
      SEALS + "test_seals_are_appended_once_and_never_over_others"),
     ("evidence", "return list(recheck.events.differing_seals(base, list(seals)))",
      "return list(recheck.events.differing_seals(base, list(seals)[:1]))",
      SEALS + "test_all_seals_come_out_again_and_a_forgery_is_found"),
-    ("evidence", "for path in words.files or [seals_beside(engine.desk.file)]",
-     "for path in (words.files or [seals_beside(engine.desk.file)])[:1]",
+    ("disk", "    if end and os.pread(file.fileno(), 1, end - 1) != b\"\\n\":  #", "    if False:  #",
+     TORN + "test_the_next_one_comes_after_a_lines_end"),
+    ("disk", "    os.fsync(file.fileno())\n", "", TORN + "test_it_is_on_the_disk_before_that_is_said"),
+    ("evidence", "            if is_new:\n", "            if False:\n", TORN + "test_it_is_on_the_disk_before_that_is_said"),
+    ("answer", "    for it in checked.torn:\n", "    for it in []:\n", TORN + "test_those_who_check_seals_name_it"),
+    ("evidence", "for path in words.files or [str(seals_beside(engine.desk.file))]",
+     "for path in (words.files or [str(seals_beside(engine.desk.file))])[:1]",
      SEALS + "test_several_files_are_one_pass"),
     ("evidence", "recheck.compare.differences(old, new)", "recheck.compare.differences(new, old)",
      COMPARE + "test_what_came_since_is_no_difference"),
@@ -144,9 +149,9 @@ EDITS = [
      CASES + "test_a_case_is_released_by_its_name_and_nothing_else_is"),
     ("cases", "        if rows and rows[0] != HEAD:\n", "        if False:\n",
      CASES + "test_a_file_of_cases_that_isnt_one_stops_before_any_change"),
-    ("cases", "            if written != len(content):\n", "            if False:\n",
+    ("disk", "    if written != len(content):\n", "    if False:\n",
      CASES + "test_a_disk_that_is_full_is_said_and_leaves_whole_records"),
-    ("cases", "                    self._file.truncate(end)\n", "                    pass\n",
+    ("disk", "            file.truncate(end)\n", "            pass\n",
      CASES + "test_a_disk_that_is_full_is_said_and_leaves_whole_records"),
     ("locks", "it.bucket, it.key, version, was))", "it.bucket, it.key, version, \"\"))",
      CASES + "test_a_case_is_noted_with_who_and_what_the_lock_was"),

@@ -1,9 +1,11 @@
 """All that ever happened to each entry, as CSV, and seals of what lies before a moment."""
 
 import csv
+import functools
 import hashlib
 import io
 import itertools
+import re
 import sqlite3
 import sys
 from typing import Iterable, Iterator, NamedTuple, Optional, TextIO
@@ -15,6 +17,14 @@ from vault_recheck.vault import (
 HEADER = "version,event,moment,by,bucket,key,kind,size,sha256,mode,until,hold,bypass,cause,department,move\n"
 ENTRIES_AT_ONCE = 1_000
 LABELS = ("before", "entries", "events", "sha256")
+MOMENT = r"\d{4}-\d\d-\d\dT\d\d:\d\d:\d\dZ"
+# What a seal consists of, one by one: a beginning of it is any number of these, from the first on.
+ATOMS = [
+    *"before: ", *re.findall(r"\\d|[^{}\\]", MOMENT.replace(r"\d{4}", r"\d" * 4)), r"\n+",
+    *"entries: ", r"\d+", r"\n+", *"events: ", r"\d+", r"\n+", *"sha256: ", *["[0-9a-f]"] * 64,
+]  # fmt: skip
+WHOLE = re.compile(rf"before: ({MOMENT})\n+entries: (\d+)\n+events: (\d+)\n+sha256: ([0-9a-f]{{64}})(?=[\s\0]|$)")
+BEGUN = re.compile(functools.reduce(lambda rest, atom: f"(?:{atom}{rest})?", reversed(ATOMS[:-1]), ""))
 
 
 class TooLate(Exception):
@@ -38,6 +48,13 @@ class Seal(NamedTuple):
     def text(self) -> str:
         values = (moment_text(self.before), self.entries, self.events, self.sha256)
         return "".join(f"{label}: {value}\n" for label, value in zip(LABELS, values))
+
+
+class Sealed(NamedTuple):
+    """What a file of seals has: the seals, and a line for each that was cut as it was written."""
+
+    seals: list[Seal]
+    torn: list[str]
 
 
 # ---- events
@@ -136,18 +153,32 @@ def seals_of(base: sqlite3.Connection, moments: list[int]) -> list[Seal]:
     return [it.seal() for it in sealings]
 
 
-def read_seals(lines: Iterable[str]) -> list[Seal]:
-    """The seals of a text, each of four lines; blank lines may stand between. ValueError where it is another text."""
-    given = [it.rstrip("\n") for it in lines if it.strip()]
-    found = []
-    for at in range(0, len(given), len(LABELS)):
-        labels, _, values = zip(*(it.partition(": ") for it in given[at:at + len(LABELS)]))
-        if labels != LABELS:
-            raise ValueError(f"the seal that begins with {given[at]!r} hasn't the lines {', '.join(LABELS)}")
-        before, entries, events, digest = values
-        found.append(Seal(moment_of(before), int(entries), int(events), digest))
-    if not found:
-        raise ValueError("there is no seal")
+def torn_text(line: int, part: str) -> str:
+    """What is said of a seal that was cut."""
+    moment = re.match(rf"before: ({MOMENT})\n", part)
+    return f"line {line}: {f'the seal of {moment[1]}' if moment else 'a seal'} was cut as it was written: it isn't compared"
+
+
+def read_seals(text: str) -> Sealed:
+    """The seals of a text, each of four lines, and what was cut as it was written. Blank lines may stand between.
+
+    A cut seal is a beginning of one, and may have NULs after it, as a loss of power leaves them. What was written next
+    is read from its own beginning on, on the same line too. ValueError where the text has anything else."""
+    found, line = Sealed([], []), 1
+    begins = sorted({0, *(it.start() for it in re.finditer("before: ", text))})
+    for part in (text[it:next_one] for it, next_one in itertools.pairwise([*begins, len(text)])):
+        whole = WHOLE.match(part.lstrip("\n"))
+        if whole:
+            before, entries, events, digest = whole.groups()
+            found.seals.append(Seal(moment_of(before), int(entries), int(events), digest))
+        left = part[part.index(whole[0]) + len(whole[0]):] if whole else part
+        rest = left.strip("\0\n\t ")
+        if not BEGUN.fullmatch(rest):
+            raise ValueError(f"what begins with {rest.splitlines()[0]!r} isn't a seal, of the lines {', '.join(LABELS)}")
+        if rest or "\0" in left:
+            at = part.count("\n", 0, len(part) - len(left.lstrip("\n")))
+            found.torn.append(torn_text(line + at, rest))
+        line += part.count("\n")
     return found
 
 
@@ -166,8 +197,10 @@ def differing_seals(base: sqlite3.Connection, seals: list[Seal]) -> Iterator[str
             )
 
 
-def check_seals(base: sqlite3.Connection, name: str) -> list[str]:
-    """The differences of the seals in a file of that name."""
-    with open(name, encoding="utf-8") as lines:
-        seals = read_seals(lines)
-    return list(differing_seals(base, seals))
+def check_seals(base: sqlite3.Connection, name: str) -> tuple[list[str], list[str]]:
+    """The differences of the seals in a file of that name, and what of it was cut; ValueError where it has no seal."""
+    with open(name, encoding="utf-8") as file:
+        found = read_seals(file.read())
+    if not found.seals:
+        raise ValueError("; ".join(["there is no seal", *found.torn]))
+    return list(differing_seals(base, found.seals)), found.torn

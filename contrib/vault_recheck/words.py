@@ -119,9 +119,11 @@ def do_seal(words: argparse.Namespace) -> int:
 def do_check_seals(words: argparse.Namespace) -> int:
     with audited(words.file, words.immutable) as base:
         try:
-            found = check_seals(base, words.seals)
+            found, torn = check_seals(base, words.seals)
         except ValueError as error:
             raise Refused(f"{words.seals}: {error}") from error
+    for it in torn:
+        print(f"torn {it}")
     for it in found:
         print(f"differs {it}")
     if not found:

@@ -5,12 +5,17 @@ from __future__ import annotations
 import hashlib
 import io
 import json
+import os
 import shutil
 import sqlite3
+import subprocess
+import sys
 from pathlib import Path
+from unittest import mock
 
 from tests.office import PROGRAM, OfficeTest
-from vaultdesk import recheck
+from tests.test_cases import Full
+from vaultdesk import beside, evidence, recheck
 from vaultdesk.config import Desk
 from vaultdesk.engine import Engine
 
@@ -137,6 +142,87 @@ class Seals(Evidence):
         done = self.desk("seal", "--vault", str(copy))
         self.assertEqual((done.status, done.out), (1, ""))
         self.assertIn("damaged", done.err)
+
+
+class Torn(Evidence):
+    """A seal that was cut as it was written, by a loss of power or a disk that was full."""
+
+    def setUp(self) -> None:
+        super().setUp()
+        self.first, self.second = (self.done("seal", "--before", it, "--json") for it in (DAYS[2], DAYS[5]))
+        self.seals.write_text(self.text(self.first))
+
+    def text(self, seal: str) -> str:
+        told = json.loads(seal)
+        return "".join(f"{it}: {told[it]}\n" for it in ("before", "entries", "events", "sha256"))
+
+    def test_wherever_it_was_cut_it_is_named_and_accuses_nobody(self) -> None:
+        whole = self.text(self.second)
+        for cut in range(1, len(whole) - 1):
+            for between in ("", "\n", "\0\0\n"):
+                self.seals.write_text(f"{self.text(self.first)}{whole[:cut]}{between}{whole}")
+                found = evidence.read_seals(self.seals)
+                self.assertEqual([it.entries for it in found.seals], [2, 5], (cut, between))
+                [line] = found.torn
+                self.assertRegex(line, r"^line 5: .* was cut as it was written: it isn't compared$")
+
+    def test_the_next_one_comes_after_a_lines_end(self) -> None:
+        whole = self.text(self.second)
+        for cut in (3, len(whole) - 65, len(whole) - 11, len(whole) - 1):
+            begun = self.text(self.first) + whole[:cut]
+            self.seals.write_text(begun)
+            done = self.desk("seal", "--before", DAYS[5], "--append")
+            is_whole = cut == len(whole) - 1  # but for the line's end
+            self.assertEqual((done.status, "was cut as it was written" in done.err), (0, not is_whole), cut)
+            self.assertEqual(self.seals.read_text(), begun if is_whole else f"{begun}\n{whole}")
+            self.assertEqual(self.desk("seal", "--before", DAYS[7], "--append").status, 0)
+            self.assertEqual([it.entries for it in evidence.read_seals(self.seals).seals], [2, 5, 7])
+
+    def test_those_who_check_seals_name_it(self) -> None:
+        self.seals.write_text(self.text(self.first) + self.text(self.second)[:70])
+        line = f"line 5: the seal of {DAYS[5]} was cut as it was written: it isn't compared"
+        out = self.done("check-seals")
+        self.assertIn(f"torn {self.seals}: {line}\nas sealed: 1 seal, {DAYS[2]}\n", out)
+        told = json.loads(self.done("check-seals", "--json"))
+        self.assertEqual((told["seals"], told["differing"], told["torn"]), (1, [], [f"{self.seals}: {line}"]))
+        script = beside.place_of("vault_recheck").parent / "vault-recheck"
+        words = [sys.executable, str(script), "check-seals", str(self.file), str(self.seals)]
+        ran = subprocess.run(words, capture_output=True, encoding="utf-8", check=True)
+        self.assertEqual(ran.stdout, f"torn {line}\nas sealed\n")
+        page = self.done("answer", "1", "--seals", str(self.seals))
+        self.assertIn(line, " ".join(page.split()))
+        self.assertIn(f"1 seal of {self.seals}, and as sealed", " ".join(page.split()))
+
+    def test_a_file_of_nothing_else_has_no_seal_to_check(self) -> None:
+        self.seals.write_text(self.text(self.first)[:40])
+        for words in (["check-seals"], ["answer", "1", "--seals", str(self.seals)]):
+            done = self.desk(*words)
+            self.assertEqual((done.status, done.out), (1, ""))
+            self.assertIn("there is no seal; line 1: the seal of", done.err)
+        self.assertIn("no seal", self.done("answer", "1"))
+        self.seals.write_bytes(b"")
+        self.assertEqual(self.desk("seal", "--before", DAYS[2], "--append").status, 0)
+        self.assertEqual(self.seals.read_text(), self.text(self.first))
+
+    def test_a_disk_that_is_full_leaves_whole_seals(self) -> None:
+        with mock.patch("vaultdesk.evidence.open", lambda file, *_, **__: Full(file, "ab"), create=True):
+            done = self.desk("seal", "--before", DAYS[5], "--append")
+        self.assertEqual(done.status, 1)
+        self.assertIn("No space left on device", done.err)
+        self.assertEqual(self.seals.read_text(), self.text(self.first))
+
+    def test_it_is_on_the_disk_before_that_is_said(self) -> None:
+        synced = list[str]()
+
+        def sync(descriptor: int) -> None:
+            synced.append(os.readlink(f"/proc/self/fd/{descriptor}"))
+
+        with mock.patch("os.fsync", sync):
+            self.desk("seal", "--before", DAYS[5], "--append")
+            self.assertEqual(synced, [str(self.seals)])
+            other = self.folder / "other.seals"
+            self.desk("seal", "--before", DAYS[5], "--append", str(other))
+        self.assertEqual(synced[1:], [str(other), str(self.folder)])
 
 
 class Compare(Evidence):

@@ -50,7 +50,7 @@ class Part:
 
 @dataclass(frozen=True)
 class Checked:
-    """What vault-recheck found. `sealed` is the last moment whose seal comes out of the file."""
+    """What vault-recheck found. `sealed` is the last moment whose seal comes out of the file, `torn` what was cut."""
 
     last: str
     breach: str
@@ -59,6 +59,7 @@ class Checked:
     count: int = 0
     differing: Sequence[str] = field(default_factory=list)
     sealed: str = ""
+    torn: Sequence[str] = ()
 
     @property
     def is_good(self) -> bool:
@@ -129,7 +130,8 @@ def _checked(engine: Engine, given: str | None) -> Checked:
     """What vault-recheck says of the vault, and of the seals that are given or beside its file."""
     beside = evidence.seals_beside(engine.desk.file)
     path = Path(given) if given else beside if beside.is_file() else None
-    seals = evidence.read_seals(path) if path else []
+    read = evidence.given_seals if given else evidence.read_seals
+    seals, torn = read(path) if path else evidence.Sealed([], [])
     say_while_long(f"{recheck.WHO}, audits the file first")
     with recheck.audited(engine.tables) as base:
         last = recheck.vault.moment_text(recheck.vault.meta_of(base).last)
@@ -139,7 +141,7 @@ def _checked(engine: Engine, given: str | None) -> Checked:
     said = f"unlawful {breach.id} {breach.rule}: {breach.why}" if breach else ""
     texts = sorted(recheck.vault.moment_text(it.before) for it in seals)
     good = [it for it in texts if not any(line.startswith(it) for line in differing)]
-    return Checked(last, said, contradictions, path, len(seals), differing, good[-1] if good else "")
+    return Checked(last, said, contradictions, path, len(seals), differing, good[-1] if good else "", torn)
 
 
 def _checked_sentences(checked: Checked, found: Sequence[Event]) -> Iterator[str]:
@@ -161,7 +163,11 @@ def _checked_sentences(checked: Checked, found: Sequence[Event]) -> Iterator[str
         return
     for it in checked.differing:
         yield f"Seals: {checked.seals} differs: {it}"
-    if not checked.differing:
+    for it in checked.torn:
+        yield f"Seals: {checked.seals}, {it}"
+    if not checked.count:
+        yield f"Seals: {checked.seals} has no seal that could be compared."
+    elif not checked.differing:
         yield f"Seals: {evidence.counted(checked.count, 'seal')} of {checked.seals}, and as sealed."
     if checked.sealed:
         before = sum(it.moment < checked.sealed for it in found)

@@ -9,7 +9,6 @@ from __future__ import annotations
 import argparse
 import contextlib
 import csv
-import errno
 import io
 import os
 from collections.abc import Iterator
@@ -17,7 +16,7 @@ from dataclasses import dataclass, fields
 from pathlib import Path
 from typing import Any
 
-from vaultdesk import moments, reading
+from vaultdesk import disk, moments, reading
 from vaultdesk.engine import Engine
 from vaultdesk.errors import DeskError, UsageError
 from vaultdesk.output import print_table
@@ -109,26 +108,22 @@ class Cases:
     def open(self) -> Iterator[None]:
         """Opens the file for records that come. `DeskError` where it can't be written: before anything is changed."""
         try:
-            opened = os.open(self.path, os.O_WRONLY | os.O_CREAT | os.O_APPEND, 0o600)
+            opened = os.open(self.path, os.O_RDWR | os.O_CREAT | os.O_APPEND, 0o600)
         except OSError as error:
             raise DeskError(f"{self.path}: {error.strerror}: nothing was changed") from error
-        with open(opened, "ab", buffering=0) as self._file:
+        with open(opened, "ab+", buffering=0) as self._file:
             if self._file.tell() == 0:
                 self._write(HEAD, "nothing was changed")
+                disk.sync(self.path.absolute().parent)
             yield
 
     def _write(self, row: list[str], otherwise: str) -> None:
-        """Appends a record as a whole, or nothing of it: then `DeskError`, which says what is the case otherwise."""
+        """Appends a record as a whole, on the disk, or nothing of it: `DeskError` says what is the case otherwise."""
         assert self._file
         text = io.StringIO()
         csv.writer(text, lineterminator="\n").writerow(row)
-        content, end = text.getvalue().encode(), self._file.seek(0, os.SEEK_END)
         try:
-            written = self._file.write(content)
-            if written != len(content):
-                if self._file.seek(0, os.SEEK_END) == end + written:  # else somebody has a record after it by now
-                    self._file.truncate(end)
-                raise OSError(errno.ENOSPC, os.strerror(errno.ENOSPC))
+            disk.append(self._file, text.getvalue().encode())
         except OSError as error:
             raise DeskError(f"{self.path}: {error.strerror}: {otherwise}") from error
 

@@ -8,18 +8,20 @@ with `--parts` a seal is of what the server answers.
 from __future__ import annotations
 
 import argparse
+import fcntl
 import os
 import subprocess
 from collections.abc import Iterable, Sequence
 from pathlib import Path
 from typing import Any
 
-from vaultdesk import beside, moments, parts, recheck
+from vaultdesk import beside, disk, moments, parts, recheck
 from vaultdesk.engine import Engine
 from vaultdesk.errors import DeskError, EngineError, UsageError
 from vaultdesk.output import print_json, say, say_while_long
 
 Seal = recheck.events.Seal
+Sealed = recheck.events.Sealed
 PARTS = "ask the server that has the vault, part by part, and read no file: as a caller with the right admin"
 
 
@@ -28,13 +30,20 @@ def seals_beside(file: Path) -> Path:
     return file.with_suffix(".seals") if file.suffix == ".vault" else file.with_name(f"{file.name}.seals")
 
 
-def read_seals(path: Path) -> list[Seal]:
-    """The seals of a file. `DeskError` where it can't be read, or has something else."""
+def read_seals(path: Path) -> Sealed:
+    """What a file of seals has. `DeskError` where it can't be read, or has something else."""
     try:
-        with path.open(encoding="utf-8") as lines:
-            return recheck.events.read_seals(lines)
+        return recheck.events.read_seals(path.read_text(encoding="utf-8"))
     except (OSError, ValueError) as error:
         raise DeskError(f"{path}: {error}") from error
+
+
+def given_seals(path: Path) -> Sealed:
+    """The same of a file that somebody gave to have its seals checked: `DeskError` also where it has no whole one."""
+    found = read_seals(path)
+    if not found.seals:
+        raise DeskError("; ".join([f"{path}: there is no seal", *found.torn]))
+    return found
 
 
 def seal_json(seal: Seal) -> dict[str, Any]:
@@ -67,20 +76,28 @@ def seal_of(file: Path, before: str | None) -> Seal:
 
 
 def append(path: Path, seal: Seal) -> bool:
-    """Appends a seal to those of a file, in one piece; false where it is there already.
+    """Appends a seal to those of a file, in one piece and on the disk; false where it is there already.
 
-    `DeskError` where the file has another seal of that moment, or can't be written."""
-    there = [it for it in read_seals(path) if it.before == seal.before] if path.exists() else []
-    if any(it != seal for it in there):
-        raise DeskError(f"{path} has another seal of that moment: the vault isn't what was sealed; see check-seals")
-    if there:
-        return False
+    What was cut as it was written is said. `DeskError` where the file has another seal of that moment, or can't be
+    written."""
     try:
-        with open(os.open(path, os.O_WRONLY | os.O_CREAT | os.O_APPEND, 0o600), "wb", buffering=0) as file:
-            file.write(seal.text().encode())
+        is_new = not path.exists()
+        with open(os.open(path, os.O_RDWR | os.O_CREAT | os.O_APPEND, 0o600), "ab+", buffering=0) as file:
+            fcntl.flock(file, fcntl.LOCK_EX)
+            found = read_seals(path)
+            for it in found.torn:
+                say(f"{path}: {it}")
+            there = [it for it in found.seals if it.before == seal.before]
+            if any(it != seal for it in there):
+                why = "has another seal of that moment: the vault isn't what was sealed; see check-seals"
+                raise DeskError(f"{path} {why}")
+            if not there:
+                disk.append(file, seal.text().encode())
+            if is_new:
+                disk.sync(path.absolute().parent)
+            return not there
     except OSError as error:
         raise DeskError(f"{path}: {error.strerror}") from error
-    return True
 
 
 def seal(engine: Engine, words: argparse.Namespace) -> None:
@@ -115,11 +132,15 @@ def span_text(seals: Iterable[Seal]) -> str:
 
 def check_seals(engine: Engine, words: argparse.Namespace) -> None:
     """Says whether each seal of the files comes out of the vault again."""
-    seals = [it for path in words.files or [seals_beside(engine.desk.file)] for it in read_seals(Path(path))]
+    files = {path: given_seals(Path(path)) for path in words.files or [str(seals_beside(engine.desk.file))]}
+    seals = [it for found in files.values() for it in found.seals]
+    torn = [f"{path}: {it}" for path, found in files.items() for it in found.torn]
     found = differing(engine.tables, seals)
     if words.json:
-        print_json({"seals": len(seals), "differing": found, "by": recheck.WHO})
+        print_json({"seals": len(seals), "differing": found, "torn": torn, "by": recheck.WHO})
     else:
+        for it in torn:
+            print(f"torn {it}")
         for it in found:
             print(f"differs {it}")
         if not found:
