@@ -13,7 +13,8 @@ DELIVERIES, YEARS_END = "test_deliveries.Deliveries.", "test_years_end.YearsEnd.
 EXPORT, LIMITS, COPIES = "test_documents.Export.", "test_limits.Limits.", "test_copies.Copies."
 TRAIL, EXPIRE, RULES = "test_trail.", "test_policies.Expire.", "test_policies.Rules."
 ASKING, USERS, OFFICES = "test_asking.Confirm.", "test_users.Users.", "test_offices.Offices."
-NIGHTLY, BACKUP, RESTORE = "test_night.Night.", "test_night.Backup.", "test_server.Restore."
+NIGHTLY, BACKUP, RESTORE = "test_night.Night.", "test_night.Backup.", "test_restoring.Restore."
+LOST, KILLED = "test_restoring.Lost.", "test_restoring.Killed."
 MOMENTS, ROWS, PARTS = "test_moments.Moments.", "test_moments.Rows.", "test_night.Parts."
 LINES, KNOWN = "test_engine.Lines.", "test_engine.Known."
 LOCK, COLUMN, SHEETS = "test_inventory.Locks.", "test_inventory.Columns.", "test_sheets.Spreadsheets."
@@ -299,7 +300,7 @@ EDITS = [
     ("policies", "            confirm(words, f\"the rules of {len(buckets)} buckets are carried out as of this moment\")\n", "",
      EXPIRE + "test_it_is_said_first_and_then_done"),
     ("deliveries", "        confirm(words, question)\n", "        pass\n", DELIVERIES + "test_the_same_content_in_another_batch_is_asked_for"),
-    ("server", "            if words.dry_run:\n", "            if False:\n", RESTORE + "test_a_dry_run_changes_nothing"),
+    ("restoring", "            if words.dry_run:\n", "            if False:\n", RESTORE + "test_a_dry_run_changes_nothing"),
     ("users", "    confirm(words, f\"{words.name} is let in no more\")\n", "", USERS + "test_who_is_removed_is_let_in_no_more"),
     # refusals and faults that are swallowed
     ("locks", "    if summary:\n", "    if False:\n", LOCKS + "test_what_is_refused_is_in_its_row_and_the_rest_is_done"),
@@ -318,11 +319,29 @@ EDITS = [
     ("night", "not self.served.conf.trusts_clock() and not is_synchronized()", "False", NIGHTLY + "test_a_clock_that_nothing_synchronizes"),
     ("night", "        if known and self.now - known > days * DAY:\n", "        if False:\n", NIGHTLY + "test_a_clock_that_is_far_ahead"),
     ("night", "max(last, int(self.mark().stat().st_mtime)) if self.mark().exists() else last", "last", NIGHTLY + "test_the_last_night_is_known"),
-    ("server", "            if verdict != \"sound\":\n                raise DeskError(f\"{words.copy}",
+    ("restoring", "            if verdict != \"sound\":\n                raise DeskError(f\"{words.copy}",
      "            if False:\n                raise DeskError(f\"{words.copy}",
      RESTORE + "test_a_copy_that_is_not_sound_changes_nothing"),
-    ("server", "            it.rename(away / it.name)\n", "            it.unlink()\n",
+    ("restoring", "                os.link(it, self.away / it.name, follow_symlinks=False)\n", "                pass\n",
      RESTORE + "test_a_copy_is_put_back_and_what_stood_there_is_kept"),
+    ("restoring", "        if is_whole:\n", "        if False:\n",
+     KILLED + "test_each_leaves_one_vault_or_the_other_and_the_next_try_goes_on"),
+    ("restoring", "        if self.log.exists():\n", "        if False:\n",
+     KILLED + "test_each_leaves_one_vault_or_the_other_and_the_next_try_goes_on"),
+    ("restoring", "        disk.sync(self.whole)\n", "", KILLED + "test_it_is_on_the_disk_before_that_is_said"),
+    ("restoring", "        self.new.replace(self.file)\n        disk.sync(self.folder)\n", "        self.new.replace(self.file)\n",
+     KILLED + "test_it_is_on_the_disk_before_that_is_said"),
+    ("restoring", "    return served.owner().do(done)\n", "    return done()\n",
+     KILLED + "test_the_vaults_owner_does_it_and_no_link_is_followed"),
+    ("restoring", "            if not end and not is_one:\n", "            if False:\n", RESTORE + "test_what_is_no_database_is_given_to_nobody"),
+    ("restoring", "main.settings AS kept WHERE kept.id = it.id AND kept.n = it.n)", "main.settings AS kept WHERE kept.id = it.id)",
+     LOST + "test_it_is_said_before_and_after"),
+    ("restoring", "AND kept.digest IS it.digest", "", LOST + "test_another_past_is_no_earlier_one"),
+    # links that the vaults' user may lay
+    ("disk", "os.O_CREAT | os.O_EXCL | os.O_NOFOLLOW", "os.O_CREAT | os.O_TRUNC", BACKUP + "test_no_link_is_followed"),
+    ("backup", "os.path.lexists(it)", "it.exists()", BACKUP + "test_no_link_is_followed"),
+    ("backup", "if os.geteuid() == 0 and not is_roots(folder)", "if False",
+     BACKUP + "test_the_vaults_owner_makes_it_where_others_than_root_may_lay_links"),
     ("offices", "        if count > 1:\n            remedy", "        if False:\n            remedy",
      OFFICES + "test_one_port_or_one_bucket_for_two_is_refused"),
     ("offices", "        if count > 1:\n            cause", "        if False:\n            cause",

@@ -285,3 +285,41 @@ class Backup(MachineTest):
             done = self.desk("backup", "records", at=None)
         self.assertEqual((done.status, [it.read_bytes() for it in self.made()]), (1, before))
         self.assertIn("is there already", done.err)
+
+    def test_no_link_is_followed(self) -> None:
+        self.copies.mkdir()
+        victim = self.folder / "victim"
+        stamps = ["20261127T030000Z", "20261127T030001Z"]
+        link = self.copies / f"records-{stamps[0]}.vault.damaged"
+        link.symlink_to(victim)  # to nothing, as yet
+        with mock.patch("vaultdesk.backup.stamp", side_effect=stamps), mock.patch("time.sleep"):
+            copy = Path(self.done("backup", "records", at=None).strip())
+        self.assertEqual((copy.name, victim.exists()), (f"records-{stamps[1]}.vault", False))
+        # One that is laid there between the look and the copy.
+        victim.write_text("secret")
+        for taken in (False, True):
+            with (
+                mock.patch("vaultdesk.backup._unused", return_value=link.with_suffix("")),
+                mock.patch("vaultdesk.snapshot.is_taken", return_value=taken),
+            ):
+                done = self.desk("backup", "records", at=None)
+            self.assertEqual((done.status, victim.read_text()), (int(not taken), "secret"))
+
+    @unittest.skipUnless(os.geteuid() == 0, "it becomes another user")
+    def test_the_vaults_owner_makes_it_where_others_than_root_may_lay_links(self) -> None:
+        self.folder.chmod(0o755)
+        self.copies.mkdir()
+        for it in (self.folder, self.file, Path(f"{self.file}-wal"), self.copies):
+            os.chown(it, 65534, 65534)
+
+        def copied(_: Path, target: Path) -> None:
+            target.write_text(str(os.geteuid()))
+
+        with mock.patch("vaultdesk.backup.read_copy", copied):
+            done = self.desk("backup", "records", at=None)
+        [damaged] = self.made()
+        self.assertEqual((done.status, damaged.read_text()), (1, "65534"))
+        self.assertIn(f"{damaged}: damaged", done.err)
+        damaged.unlink()
+        copy = Path(self.done("backup", "records", at=None).strip())
+        self.assertEqual((copy.stat().st_uid, copy.stat().st_mode & 0o777), (65534, 0o600))

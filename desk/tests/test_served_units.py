@@ -9,6 +9,8 @@ import os
 import socket
 import subprocess
 import threading
+import unittest
+from pathlib import Path
 from unittest import mock
 
 from tests.machine import STOPPED_AND_STARTED, UNIT
@@ -151,6 +153,46 @@ class Started(ServedTest):
         done = self.desk("unit", "started", "records", at=None)
         self.assertEqual(done.status, 1)
         self.assertIn("LINES_GROUP=nobody-of-that-name", done.err)
+
+    def victim(self, folder: Path) -> Path:
+        """A file that nobody but its owner may read, with a socket's name."""
+        folder.mkdir(mode=0o700, exist_ok=True)
+        path = folder / self.where.name
+        path.write_text("secret")
+        path.chmod(0o600)
+        return path
+
+    def stays(self, *paths: Path) -> None:
+        """Fails unless the start is refused, and these are what they were."""
+        group = next(it for it in grp.getgrall() if it.gr_gid not in (0, os.getegid()))
+        self.configure(PORT=self.listens_at, LINES_GROUP=group.gr_name)
+        before = [(it.stat().st_mode, it.stat().st_gid) for it in paths]
+        done = self.desk("unit", "started", "records", at=None)
+        self.assertEqual((done.status, [(it.stat().st_mode, it.stat().st_gid) for it in paths]), (1, before))
+        self.assertIn(str(self.where.parent), done.err)
+
+    def test_a_link_in_its_place_is_followed_by_nobody(self) -> None:
+        self.listen()
+        victim = self.victim(self.folder / "elsewhere")
+        self.where.unlink()
+        self.where.symlink_to(victim)
+        self.stays(victim, victim.parent)
+        self.where.unlink()
+        os.link(victim, self.where)
+        self.stays(victim)
+
+    def test_a_link_in_the_place_of_its_folder_is_followed_by_nobody(self) -> None:
+        self.listen()
+        elsewhere = self.folder / "elsewhere"
+        self.where.parent.rename(elsewhere)  # with a socket of the same user
+        self.where.parent.symlink_to(elsewhere)
+        self.stays(elsewhere / self.where.name, elsewhere)
+
+    @unittest.skipUnless(os.geteuid() == 0, "a file is given to another user")
+    def test_a_socket_of_another_user_stays_his(self) -> None:
+        self.listen()
+        os.chown(self.where, 65534, 65534)
+        self.stays(self.where)
 
     def test_its_door_is_waited_for(self) -> None:
         waits = mock.patch("time.sleep", side_effect=lambda _: self.listen())

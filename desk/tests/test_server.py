@@ -5,11 +5,9 @@ from __future__ import annotations
 import json
 import os
 import socketserver
-import sqlite3
 import subprocess
 import sys
 import threading
-from contextlib import closing
 from pathlib import Path
 from typing import Any
 from unittest import mock
@@ -86,54 +84,6 @@ class Offline(MachineTest):
             done = self.desk("offline", "records", "true", at=None)
         self.assertEqual(done.status, 1)
         self.assertIn("this is for root", done.err)
-
-
-class Restore(MachineTest):
-    def setUp(self) -> None:
-        super().setUp()
-        self.copy = self.done("backup", "records", at=None).strip()
-        self.lines({"do": "add-dept", "as": "registrar", "dept": "later"})
-
-    def departments(self) -> list[str]:
-        with closing(sqlite3.connect(f"{self.file.as_uri()}?mode=ro", uri=True)) as base:
-            return [name for (name,) in base.execute("SELECT name FROM departments ORDER BY name")]
-
-    def test_a_copy_is_put_back_and_what_stood_there_is_kept(self) -> None:
-        self.set_state("active")
-        Path(f"{self.file}-shm").touch()
-        away = json.loads(self.done("restore", "records", self.copy, "--json", at=None))["replaced"]
-        self.assertEqual(self.asked(), STOPPED_AND_STARTED)
-        self.assertFalse(Path(f"{self.file}-shm").exists())
-        self.assertEqual(self.departments(), ["records"])
-        with closing(sqlite3.connect(f"{(Path(away) / self.file.name).as_uri()}?mode=ro", uri=True)) as base:
-            self.assertEqual(base.execute("SELECT count(*) FROM departments").fetchone(), (2,))
-
-    def test_a_server_that_failed_is_started(self) -> None:
-        self.set_state("failed")
-        self.done("restore", "records", self.copy, at=None)
-        self.assertEqual(self.asked(), STOPPED_AND_STARTED)
-
-    def test_a_vault_that_is_not_served_is_not_started(self) -> None:
-        self.done("restore", "records", self.copy, at=None)
-        self.assertEqual(self.asked(), [])
-
-    def unchanged(self, copy: str, *words: str) -> str:
-        """What is said of a copy that changes nothing."""
-        self.set_state("active")
-        before = self.file.read_bytes(), sorted(it.name for it in self.folder.iterdir())
-        done = self.desk("restore", "records", copy, *words, at=None)
-        self.assertEqual((self.file.read_bytes(), sorted(it.name for it in self.folder.iterdir())), before)
-        self.assertEqual(self.asked(), [])
-        self.assertEqual(done.status, 0 if words else 1)
-        return done.err or done.out
-
-    def test_a_copy_that_is_not_sound_changes_nothing(self) -> None:
-        self.assertIn("isn't sound", self.unchanged(self.written("none", b"no vault")))
-        (self.folder / "none").unlink()
-        self.assertIn("isn't a file", self.unchanged(str(self.folder / "absent")))
-
-    def test_a_dry_run_changes_nothing(self) -> None:
-        self.assertIn("is sound, and would be put", self.unchanged(self.copy, "--dry-run"))
 
 
 class Answering(socketserver.BaseRequestHandler):

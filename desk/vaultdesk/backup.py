@@ -10,10 +10,10 @@ import subprocess
 import time
 from pathlib import Path
 
-from vaultdesk import conf, config, reading, recheck, snapshot
+from vaultdesk import conf, config, disk, reading, recheck, snapshot
 from vaultdesk.errors import DeskError, UsageError
 from vaultdesk.output import print_json
-from vaultdesk.owner import owner_of
+from vaultdesk.owner import Owner, is_roots, owner_of
 
 ABOUT = """Makes a copy of a vault, audits the copy, and prints its path, FOLDER/NAME-MOMENT.vault. The copy belongs to
 the vault's owner, who alone can read it. It is made by SQLite's online backup, or while a server has the vault, of
@@ -34,6 +34,7 @@ def read_copy(source: Path, target: Path) -> None:
     if snapshot.is_taken(source) or recheck.vault.is_read_only(source.resolve().parent):
         snapshot.copy(source, target)
         return
+    disk.new_file(target).close()
     try:
         reading.back_up(source, target)
     except DeskError:
@@ -41,38 +42,21 @@ def read_copy(source: Path, target: Path) -> None:
         raise
 
 
-def _synced(path: Path) -> None:
-    descriptor = os.open(path, os.O_RDONLY)
-    try:
-        os.fsync(descriptor)
-    finally:
-        os.close(descriptor)
-
-
 def _unused(folder: Path, name: str) -> Path:
     """The path of a copy that isn't there: of this second, or where a copy of it is there, of a later one."""
     for wait in (0.0, 1.1):
         time.sleep(wait)
         copy = folder / f"{name}-{stamp()}.vault"
-        if not copy.exists() and not copy.with_name(f"{copy.name}.damaged").exists():
+        if not any(os.path.lexists(it) for it in (copy, copy.with_name(f"{copy.name}.damaged"))):
             return copy
     raise DeskError(f"{copy} is there already")
 
 
-def made(source: Path, folder: Path, program: str) -> Path:
-    """Makes a copy of a vault in a folder, audits it, and returns its path: NAME-MOMENT.vault.
-
-    It belongs to whom the vault belongs, who alone can read it. `DeskError` where it isn't sound: then it keeps
-    `.damaged` after its name."""
-    owner = owner_of(source)
-    os.umask(0o077)
-    copy = _unused(folder, source.name.removesuffix(".vault"))
+def _make(source: Path, copy: Path, program: str, owner: Owner) -> None:
+    """Makes a copy of a vault, audits it, and gives it that name."""
     trial = copy.with_name(f"{copy.name}.damaged")
     log, trial_log = Path(f"{copy}-wal"), Path(f"{trial}-wal")
     try:
-        if not folder.is_dir():
-            folder.mkdir(parents=True)
-            owner.give(folder)
         read_copy(source, trial)
         done = subprocess.run([program, "verify", trial], stdout=subprocess.PIPE, check=False)
         verdict = done.stdout.decode("utf-8", "replace").strip()
@@ -82,10 +66,27 @@ def made(source: Path, folder: Path, program: str) -> Path:
         if trial_log.exists():
             trial_log.rename(log)
         trial.rename(copy)
-        _synced(copy)
-        _synced(folder)
+        disk.sync(copy, copy.parent)
     except OSError as error:
         raise DeskError(f"{error.filename}: {error.strerror}") from error
+
+
+def made(source: Path, folder: Path, program: str) -> Path:
+    """Makes a copy of a vault in a folder, audits it, and returns its path: NAME-MOMENT.vault.
+
+    It belongs to whom the vault belongs, who alone can read it, and who makes it in a folder where somebody else than
+    root may lay a link. `DeskError` where it isn't sound: then it keeps `.damaged` after its name."""
+    owner = owner_of(source)
+    os.umask(0o077)
+    try:
+        if not folder.is_dir():
+            folder.mkdir(parents=True)
+            owner.give(folder)
+        does = owner.do if os.geteuid() == 0 and not is_roots(folder) else Owner(0, 0).do
+    except OSError as error:
+        raise DeskError(f"{error.filename}: {error.strerror}") from error
+    copy = _unused(folder, source.name.removesuffix(".vault"))
+    does(lambda: _make(source, copy, program, owner))
     return copy
 
 

@@ -11,7 +11,8 @@ from vaultdesk import (
     policies, trail, years_end,
 )
 from vaultdesk import (
-    backup, closing, copies, glue, health_port, metrics, night, offices, page, server, standby, status, users,
+    backup, closing, copies, glue, health_port, metrics, night, offices, page, restoring, server, standby, status,
+    users,
 )
 from vaultdesk.s3 import words as s3
 from vaultdesk.config import desk
@@ -24,7 +25,7 @@ FAMILIES = (
     documents, exporting, find, history, locks, cases, policies, deliveries, years_end, evidence, answer, office, trail,
     status, closing,
 )  # fmt: skip
-MACHINE = (page, backup, copies, night, server, health_port, metrics, offices, users, s3, standby, glue)
+MACHINE = (page, backup, copies, restoring, night, server, health_port, metrics, offices, users, s3, standby, glue)
 ABOUT = """The office's desk: documents, deliveries, locks, rules, evidence, the year's end and the office itself, in
 words and without JSON. vaultdesk COMMAND --help has the words of each. Status: 0 done; 1 refused or a fault; 2 the
 words aren't understood."""

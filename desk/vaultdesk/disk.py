@@ -6,16 +6,23 @@ import errno
 import io
 import os
 from pathlib import Path
+from typing import BinaryIO
 
 
 def sync(*paths: Path) -> None:
     """Has the content of files, and the names in folders, on the disk. `OSError` where that fails."""
     for it in paths:
-        descriptor = os.open(it, os.O_RDONLY | os.O_NOFOLLOW)
+        descriptor = os.open(it, os.O_RDONLY)
         try:
             os.fsync(descriptor)
         finally:
             os.close(descriptor)
+
+
+def new_file(path: Path) -> BinaryIO:
+    """A new file that is its owner's alone, to be written: a link or a file that is there is neither followed nor
+    written over. `FileExistsError` then."""
+    return open(os.open(path, os.O_WRONLY | os.O_CREAT | os.O_EXCL | os.O_NOFOLLOW, 0o600), "wb")
 
 
 def append(file: io.FileIO, content: bytes) -> None:

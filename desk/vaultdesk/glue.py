@@ -3,13 +3,15 @@
 from __future__ import annotations
 
 import argparse
+import contextlib
 import functools
 import grp
 import os
 import re
+import stat
 import subprocess
 import time
-from collections.abc import Callable
+from collections.abc import Callable, Iterator
 from pathlib import Path
 
 from vaultdesk import conf
@@ -59,17 +61,32 @@ def _door_of(process: Path) -> str:
     return words[words.index("--lines") + 1] if "--lines" in words[:-1] else ""
 
 
+@contextlib.contextmanager
+def _held(name: Path | str, flags: int, folder: int | None = None) -> Iterator[int]:
+    """A descriptor by which a file or folder can be given to somebody: of itself, where a link is in its place too."""
+    found = os.open(name, os.O_PATH | os.O_NOFOLLOW | flags, dir_fd=folder)
+    try:
+        yield found
+    finally:
+        os.close(found)
+
+
 def _let_in(place: Path, group: str) -> None:
     """Has the door of a server open for the members of a group, where one is named: else for those of its folder's.
 
-    `DeskError` where there is no such group."""
+    The folder is the server's user's, who may lay there what he likes, and it is root who asks: so all goes by
+    descriptors. `DeskError` where there is no such group, or what is there isn't a socket of that user's."""
     try:
         number = grp.getgrnam(group).gr_gid if group else -1
     except KeyError as error:
         raise DeskError(f"LINES_GROUP={group}: this machine has no such group") from error
-    for it, mode in ((place.parent, 0o750), (place, 0o660)):
-        os.chown(it, -1, number)
-        it.chmod(mode)
+    with _held(place.parent, os.O_DIRECTORY) as folder, _held(place.name, 0, folder) as door:
+        found = os.fstat(door)
+        if not stat.S_ISSOCK(found.st_mode) or found.st_uid != os.fstat(folder).st_uid:
+            raise DeskError(f"{place} isn't the server's socket: somebody put another thing there; nothing was changed")
+        for it, mode in ((folder, 0o750), (door, 0o660)):
+            os.chown(f"/proc/self/fd/{it}", -1, number)
+            os.chmod(f"/proc/self/fd/{it}", mode)
 
 
 def started(words: argparse.Namespace) -> int:
@@ -91,6 +108,8 @@ def started(words: argparse.Namespace) -> int:
             _let_in(Path(served.door().where), served.conf.lines_group())
     except FileNotFoundError as error:
         raise DeskError("the server ended before it listened") from error
+    except OSError as error:
+        raise DeskError(f"{error.filename}: {error.strerror}") from error
     if systemctl("show", "-P", "NRestarts", served.unit)[1] == "0":
         systemctl("reset-failed", served.unit)
     served.forget_alarm("vault-serve")

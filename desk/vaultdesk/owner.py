@@ -2,9 +2,11 @@
 
 from __future__ import annotations
 
+import json
 import os
 import pwd
 import signal
+import stat
 import subprocess
 import sys
 import traceback
@@ -13,6 +15,7 @@ from contextlib import contextmanager
 from dataclasses import dataclass
 from pathlib import Path
 from types import FrameType
+from typing import Any
 
 from vaultdesk.errors import DeskError
 from vaultdesk.output import say
@@ -108,6 +111,34 @@ class Owner:
             raise
         return max(os.waitstatus_to_exitcode(status), 0) if os.WIFEXITED(status) else 1
 
+    def do(self, work: Callable[[], Any]) -> Any:
+        """What work comes to that is done as that user: a value that JSON can have. Its `DeskError` is raised here."""
+        if not self.is_other():
+            return work()
+        reading, writing = os.pipe()
+
+        def reported() -> int:
+            try:
+                found = {"value": work()}
+            except DeskError as error:
+                found = {"fault": str(error)}
+            with open(writing, "w", encoding="utf-8") as file:
+                json.dump(found, file)
+            return 0
+
+        with open(reading, encoding="utf-8") as file:
+            try:
+                status = self.carry_out(reported)
+            finally:
+                os.close(writing)
+            text = file.read()
+        if status != 0 or not text:
+            raise DeskError("the work of the vaults' owner ended before its end")
+        found = json.loads(text)
+        if "fault" in found:
+            raise DeskError(found["fault"])
+        return found["value"]
+
     def _worked(self, work: Callable[[], int]) -> int:
         """The status of work, after this process has become the user for good."""
         status = 1
@@ -125,6 +156,14 @@ class Owner:
             sys.stdout.flush()
             sys.stderr.flush()
         return status
+
+
+def is_roots(folder: Path) -> bool:
+    """Whether nobody but root may lay a file or a link in a folder, or another folder in its place."""
+    there, *above = (it.stat() for it in (folder.resolve(), *folder.resolve().parents))
+    others = stat.S_IWGRP | stat.S_IWOTH
+    is_kept = all(it.st_uid == 0 and (not it.st_mode & others or it.st_mode & stat.S_ISVTX) for it in above)
+    return there.st_uid == 0 and not there.st_mode & others and is_kept
 
 
 def owner_of(path: Path) -> Owner:

@@ -15,9 +15,14 @@ from contextlib import closing, contextmanager
 from pathlib import Path
 from typing import Any
 
-from vaultdesk import beside, recheck
+from vaultdesk import beside, recheck, snapshot
 from vaultdesk.errors import DeskError, EngineError
 from vaultdesk.output import say
+
+
+class NoDatabase(EngineError):
+    """A file is none that SQLite can read."""
+
 
 Values = Sequence[Any] | Mapping[str, Any]
 Row = dict[str, Any]
@@ -141,3 +146,21 @@ def back_up(file: Path, target: Path) -> None:
         opened.execute("SELECT count(*) FROM sqlite_master").fetchone()
         with closing(sqlite3.connect(target)) as made:
             opened.backup(made)
+
+
+def take_in_log(copy: Path) -> None:
+    """Copies the log of a copy that nobody else has open into its file, so that it is one file.
+
+    `NoDatabase` where it is no file that SQLite can read, `EngineError` where that can't be done."""
+    log = snapshot.log_of(copy)
+    if log.exists():
+        try:
+            with closing(sqlite3.connect(copy, isolation_level=None)) as opened:
+                is_busy, pages, copied = opened.execute("PRAGMA wal_checkpoint(TRUNCATE)").fetchone()
+        except sqlite3.Error as error:
+            kind = NoDatabase if type(error) is sqlite3.DatabaseError else EngineError
+            raise kind(f"{copy}: {error}") from error
+        if is_busy or pages != copied or pages < 0:
+            raise EngineError(f"{copy}: its log can't be copied into it")
+    for end in ("-wal", "-shm"):
+        Path(f"{copy}{end}").unlink(missing_ok=True)

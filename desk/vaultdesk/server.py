@@ -1,15 +1,12 @@
-"""Around a vault's server: a command while it is stopped, a copy that is put back, and whether it serves."""
+"""Around a vault's server: a command while it is stopped, and whether it serves."""
 
 from __future__ import annotations
 
 import argparse
 import http.client
 import secrets
-import shutil
 from dataclasses import dataclass
-from pathlib import Path
 
-from vaultdesk.backup import stamp
 from vaultdesk.errors import DeskError, UsageError
 from vaultdesk.health import Health, health_of
 from vaultdesk.output import print_json, say
@@ -22,9 +19,6 @@ again, also where the command fails. Standard input, output and error are the ca
 the command's; where the server doesn't start again, the status is never 0. A server that didn't run isn't started.
 While another job works on the vault, this one waits. With --json, standard output has the command, its status and
 what became of the server, and what the command prints goes to standard error."""
-RESTORE = """Puts a copy of a vault in the vault's place, and starts its server. The copy is audited before anything
-else is done: where it isn't sound, all stays as it is, and the server isn't stopped. The files that were there are
-moved to a folder NAME-MOMENT.replaced beside them: remove it yourself."""
 CHECK = """The status is 0 where the server answers, where it is about to start, where it should not run, and where
 another job has stopped it for its work. It is 1, with a line that says why and what to do, in all other cases: no
 answer; nobody is served; a server that is enabled and doesn't run; one whose files aren't where it opened them; one
@@ -63,77 +57,6 @@ def _carried_out(served: Served, words: argparse.Namespace) -> int:
             child.terminate()
             raise
     return status if status >= 0 else 128 - status
-
-
-# ---- a copy that is put back
-
-
-def _bring(served: Served, copy: Path, new: Path) -> None:
-    """Puts the files of the copy beside the vault, as they are owned and may be read there."""
-    _clear(new)
-    for source, target in ((copy, new), (Path(f"{copy}-wal"), Path(f"{new}-wal"))):
-        if source.is_file():
-            shutil.copyfile(source, target)
-            served.owner().give(target)
-
-
-def _clear(new: Path) -> None:
-    for it in (new, Path(f"{new}-wal"), Path(f"{new}-shm")):
-        it.unlink(missing_ok=True)
-
-
-def _exchange(served: Served, new: Path) -> Path:
-    """Moves what stood there away, and the copy to its place. The index of the old log (-shm) fits no other."""
-    away = served.folder / f"{served.name}-{stamp()}.replaced"
-    away.mkdir()
-    served.owner().give(away)
-    log = Path(f"{served.file}-wal")
-    for it in (served.file, log):
-        if it.exists():
-            it.rename(away / it.name)
-    for it in (Path(f"{served.file}-shm"), Path(f"{new}-shm")):
-        it.unlink(missing_ok=True)
-    new_log = Path(f"{new}-wal")
-    if new_log.exists():
-        new_log.rename(log)
-    new.rename(served.file)
-    return away
-
-
-def restore(words: argparse.Namespace) -> int:
-    """Audits a copy of a vault, and puts it in the vault's place; what stood there is moved to a folder beside it."""
-    served = Served(words.name)
-    copy = Path(words.copy).resolve()
-    with served.alone():
-        if not copy.is_file():
-            raise DeskError(f"{words.copy} isn't a file")
-        new = served.folder / f"{served.file.name}.restored"
-        try:
-            _bring(served, copy, new)
-            verdict = served.verdict(new)
-            if verdict != "sound":
-                raise DeskError(f"{words.copy} isn't sound ({verdict}): nothing was changed")
-            if words.dry_run:
-                _print(words, f"{words.copy} is sound, and would be put in the place of {served.file}", None)
-                return 0
-            with served.standing_still(served.state() == "failed" or served.is_enabled()):
-                away = _exchange(served, new)
-                verdict = served.verdict(served.file)
-                if verdict != "sound":
-                    raise DeskError(f"{served.file} isn't sound ({verdict}); what stood there is in {away}")
-        except OSError as error:
-            raise DeskError(f"{error.filename}: {error.strerror}") from error
-        finally:
-            _clear(new)
-    _print(words, f"{served.file} is put back from {words.copy}; what stood there is in {away}", away)
-    return 0
-
-
-def _print(words: argparse.Namespace, text: str, away: Path | None) -> None:
-    if words.json:
-        print_json({"vault": words.name, "copy": words.copy, "replaced": str(away) if away else None})
-    else:
-        print(text)
 
 
 # ---- whether it serves
@@ -246,14 +169,6 @@ def add(commands: argparse._SubParsersAction[argparse.ArgumentParser], common: a
     text = "run by the vaults' owner, in their folder; its status is this one's"
     it.add_argument("given", nargs=argparse.REMAINDER, metavar="COMMAND", help=text)
     it.set_defaults(do=offline)
-
-    example = "Example: vaultdesk restore records /var/backups/vaultctl/records-20261127T030000Z.vault"
-    what = "put a copy of a vault in the vault's place"
-    it = commands.add_parser("restore", parents=[common], help=what, description=RESTORE, epilog=example)
-    it.add_argument("name", metavar="NAME", help=NAMED)
-    it.add_argument("copy", metavar="COPY", help="a copy of a vault's file; COPY-wal goes with it, if it is there")
-    it.add_argument("--dry-run", action="store_true", help="audit the copy, and change nothing")
-    it.set_defaults(do=restore)
 
     what = "ask a vault's server whether it serves, and start it anew where its file failed"
     example = "Example: vaultdesk check records"

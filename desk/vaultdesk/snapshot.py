@@ -9,6 +9,7 @@ from __future__ import annotations
 
 import fcntl
 import os
+import shutil
 import struct
 import tempfile
 import time
@@ -17,6 +18,7 @@ from contextlib import contextmanager
 from pathlib import Path
 from typing import BinaryIO
 
+from vaultdesk import disk
 from vaultdesk.errors import EngineError
 
 HEAD = 32  # bytes of the log's head, which has the salt
@@ -80,14 +82,10 @@ def whole_changes(log: BinaryIO) -> bytes:
 
 
 def _copy_file(file: Path, target: Path) -> None:
-    with file.open("rb") as source, _made(target) as made:
+    target.unlink(missing_ok=True)
+    with file.open("rb") as source, disk.new_file(target) as made:
         while piece := source.read(PIECE):
             made.write(piece)
-
-
-def _made(path: Path) -> BinaryIO:
-    """A new file, or an old one emptied, that is its owner's alone."""
-    return open(os.open(path, os.O_WRONLY | os.O_CREAT | os.O_TRUNC, 0o600), "wb")
 
 
 def _copied_once(file: Path, target: Path) -> bool:
@@ -100,7 +98,7 @@ def _copied_once(file: Path, target: Path) -> bool:
             changes = whole_changes(opened)
     log_of(target).unlink(missing_ok=True)
     if changes:
-        with _made(log_of(target)) as made:
+        with disk.new_file(log_of(target)) as made:
             made.write(changes)
     return before == _head(log) and changes[:HEAD] in (b"", before)
 
@@ -125,15 +123,32 @@ def copy(file: Path, target: Path) -> None:
         raise EngineError(f"{error.filename or target}: {error.strerror}{remedy}") from error
 
 
+class NoRoom(EngineError):
+    """A folder has too little room for what is to be copied there."""
+
+
+def look_for_room(folder: Path, size: int) -> None:
+    """`NoRoom` where a folder has no room for so many bytes more."""
+    free = shutil.disk_usage(folder).free
+    if size > free:
+        raise NoRoom(f"{folder} has {free:,} bytes free, and a copy of the vault takes {size:,} there: make room")
+
+
+def size_of(file: Path) -> int:
+    """The bytes of a vault's file and its log."""
+    return sum(it.stat().st_size for it in (file, log_of(file)) if it.exists())
+
+
 @contextmanager
 def readable(file: Path, folder: Path | None = None) -> Iterator[Path]:
     """A file whose tables can be read: the vault's own, or while a program has it open, a copy as the vault is now.
 
     The copy is in a new folder within `folder` (left out: that of temporary files), and goes with the `with` block.
-    `EngineError` as of `copy`."""
+    `NoRoom` where there is none for it, `EngineError` as of `copy`."""
     if not is_taken(file):
         yield file
         return
+    look_for_room(folder or Path(tempfile.gettempdir()), size_of(file))
     with tempfile.TemporaryDirectory(prefix=".copy-", dir=folder) as place:
         target = Path(place) / file.name
         copy(file, target)
