@@ -13,9 +13,10 @@ import subprocess
 import tempfile
 import time
 import unittest
-from collections.abc import Callable
+from collections.abc import Callable, Iterator
 from contextlib import closing
 from pathlib import Path
+from typing import Any
 from unittest import mock
 
 from tests.machine import STOPPED_AND_STARTED, MachineTest
@@ -32,13 +33,25 @@ def ago(days: float) -> str:
     return moment.strftime("%Y-%m-%dT%H:%M:%SZ")
 
 
-PARTS = ["look_at_clock", "warn_of_memory", "carry_out", "make_copy", "remove_old", "make_seal"]
+@contextlib.contextmanager
+def little_room(folder: Path) -> Iterator[None]:
+    """A disk with a folder that has ten bytes free; others have room."""
+    found = shutil.disk_usage
+
+    def usage(path: Path) -> Any:
+        return found(path)._replace(free=10) if Path(path) == folder else found(path)
+
+    with mock.patch("shutil.disk_usage", usage):
+        yield
+
+
+PARTS = ["look_at_clock", "warn_of_memory", "carry_out", "note", "make_copy", "remove_old", "make_seal"]
 
 
 class Parts(unittest.TestCase):
     """Which parts of a night are done after one that wasn't, of which nothing is carried out here."""
 
-    def work(self, fails: str) -> tuple[int, list[str]]:
+    def work(self, fails: str, fault: Exception = DeskError("it fails")) -> tuple[int, list[str]]:
         """The status of a night of which that part fails, and its parts in their order."""
         done: list[str] = []
 
@@ -46,7 +59,7 @@ class Parts(unittest.TestCase):
             def carried_out(*_: object) -> None:
                 done.append(name)
                 if name == fails:
-                    raise DeskError(name)
+                    raise fault
 
             return carried_out
 
@@ -71,9 +84,10 @@ class Parts(unittest.TestCase):
         self.assertEqual(self.work("look_at_clock"), (1, wanted))
 
     def test_what_fails_makes_the_night_fail(self) -> None:
-        for name in ("carry_out", "remove_old", "make_seal"):
-            status, done = self.work(name)
-            self.assertEqual((status, done[-1]), (1, "make_seal"), name)
+        for name in ("carry_out", "note", "remove_old", "make_seal"):
+            for fault in (DeskError("it fails"), OSError(28, "No space left on device", "/x")):
+                status, done = self.work(name, fault)
+                self.assertEqual((status, done), (1, PARTS), name)
 
 
 class Night(MachineTest):
@@ -166,6 +180,33 @@ class Night(MachineTest):
         os.utime(mark, (time.time() + 30, time.time() + 30))
         self.done("night", "records", at=None)
         self.assertLess(time.time() - mark.stat().st_mtime, 60)
+
+    def test_where_its_mark_cant_be_made_the_rest_is_done(self) -> None:
+        mark = self.folder / "records.night"
+        mark.symlink_to(self.folder / "none" / "night")
+        done = self.desk("night", "records", "--json", at=None)
+        told = json.loads(done.out)
+        self.assertEqual((done.status, self.keys_marked()), (1, ["2024/a"]))
+        self.assertTrue(told["copy"] and told["seal"], told)
+        self.assertIn(f"vaultdesk night: {mark}: No such file or directory: this night isn't noted", done.err)
+
+    def test_where_its_copy_has_no_room_the_rest_is_done(self) -> None:
+        with little_room(self.copies):
+            done = self.desk("night", "records", "--json", at=None)
+        told = json.loads(done.out)
+        self.assertEqual((done.status, self.keys_marked(), told["copy"]), (1, ["2024/a"], None))
+        self.assertEqual(told["seal"]["entries"], 2)
+        size = sum(Path(f"{self.file}{it}").stat().st_size for it in ("", "-wal"))
+        self.assertIn(f"{self.copies} has 10 bytes free, and a copy of the vault takes {size:,} there", done.err)
+        self.assertEqual(self.made(), [])
+
+    def test_a_seal_that_was_cut_stops_no_night(self) -> None:
+        seals = self.folder / "records.seals"
+        seals.write_text("before: 2024-01-15T09:00:00Z\nentries: 1\nev")
+        done = self.desk("night", "records", at=None)
+        line = "line 1: the seal of 2024-01-15T09:00:00Z was cut as it was written: it isn't compared"
+        self.assertEqual((done.status, done.err), (0, f"{seals}: {line}\n"))
+        self.assertIn("as sealed: 1 seal", self.done("check-seals", at=None))
 
     def test_a_dry_run_changes_nothing(self) -> None:
         old = self.copies / "records-20200101T000000Z.vault"

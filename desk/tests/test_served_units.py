@@ -16,7 +16,7 @@ from unittest import mock
 from tests.machine import STOPPED_AND_STARTED, UNIT
 from tests.office import PROGRAM
 from tests.served import ServedTest
-from tests.test_night import ago
+from tests.test_night import ago, little_room
 from vaultdesk import conf
 
 
@@ -72,6 +72,31 @@ class NightByTheDoor(ServedTest):
         self.assertEqual(set(statuses), {200})
         found = subprocess.run([PROGRAM, "verify", told["copy"]], capture_output=True, text=True, check=True)
         self.assertEqual((self.asked(), found.stdout), ([], "sound\n"))
+
+    def test_where_the_vaults_folder_has_no_room_the_server_is_asked(self) -> None:
+        self.serve()
+        with little_room(self.folder):
+            done = self.desk("night", "records", "--json", at=None)
+        told = json.loads(done.out)
+        self.assertEqual((done.status, told["rules"][0]["marked"], bool(told["copy"])), (0, 1, True))
+        cause = f"{self.folder} has 10 bytes free, and a copy of the vault takes [0-9,]+ there: make room"
+        self.assertRegex(done.err, f"^vaultdesk night: {cause}. The server is asked in its place\n$")
+        # With no room for its copy either, the seal is of what the server says.
+        with little_room(self.folder), little_room(self.copies):
+            done = self.desk("night", "records", "--json", at=None)
+        again = json.loads(done.out)
+        self.assertEqual((done.status, again["copy"], again["seal"]), (1, None, told["seal"]))
+        self.assertEqual([it.name for it in self.folder.iterdir() if it.name.startswith(".copy-")], [])
+
+    def test_where_the_server_may_not_be_asked_no_rule_is_carried_out(self) -> None:
+        self.configure(BUCKETS="docs", ADMIN="ann")
+        self.serve()
+        with little_room(self.folder):
+            done = self.desk("night", "records", "--json", at=None)
+        told = json.loads(done.out)
+        self.assertEqual((done.status, told["rules"], bool(told["copy"]), bool(told["seal"])), (1, [], True, True))
+        self.assertIn("AccessDenied", done.err)
+        self.assertIn("no rule of the vault records was carried out", done.err)
 
     def test_a_dry_run_changes_nothing(self) -> None:
         self.serve()

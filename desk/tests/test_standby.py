@@ -4,6 +4,7 @@ from __future__ import annotations
 
 import json
 import os
+import signal
 import subprocess
 import sys
 import time
@@ -14,6 +15,7 @@ from unittest import mock
 
 from tests.machine import MachineTest
 from tests.office import PROGRAM, Done
+from vaultdesk import standby
 
 DESK = Path(__file__).resolve().parent.parent
 # Goes to no machine, but does what ssh would: a shell gets the words, and the other machine's vaults are elsewhere.
@@ -128,6 +130,32 @@ class Follow(StandbyTest):
         third = self.begin()
         left = {it.name for it in third.parent.parent.iterdir()}
         self.assertEqual(left, {"now", second.parent.name, third.parent.name})
+
+    def test_two_that_begin_while_it_sends(self) -> None:
+        first = self.begin()
+        following = self.follow()
+        self.append(first, {**PUT, "key": "a"})
+        self.assertTrue(self.follows(1))
+        following.send_signal(signal.SIGSTOP)
+        self.begin()
+        third = self.begin()
+        self.assertFalse(first.parent.exists())
+        following.send_signal(signal.SIGCONT)
+        self.append(third, {**PUT, "key": "b"})
+        self.assertTrue(self.follows(1))
+        self.assertIsNone(following.poll())
+
+    def test_a_copy_that_may_be_gone_isnt_sent(self) -> None:
+        first = self.begin().parent
+        with subprocess.Popen(["cat"], stdin=subprocess.PIPE, stdout=subprocess.PIPE) as there:
+            following = standby.Following(first, there)
+            for _ in range(2):  # it isn't the newest, and then it is away
+                self.begin()
+                with self.assertRaises(standby.Begun):
+                    following.send_copy("records", 0)
+            following.to.close()
+            following.reading.join()
+        self.assertEqual((first.exists(), following.wrong, following.answered), (False, "", 0))
 
     def test_it_ends_at_a_line_that_isnt_carried_out(self) -> None:
         journal = self.begin()

@@ -82,6 +82,7 @@ def made(source: Path, folder: Path, program: str) -> Path:
         if not folder.is_dir():
             folder.mkdir(parents=True)
             owner.give(folder)
+        snapshot.look_for_room(folder, snapshot.size_of(source))
         does = owner.do if os.geteuid() == 0 and not is_roots(folder) else Owner(0, 0).do
     except OSError as error:
         raise DeskError(f"{error.filename}: {error.strerror}") from error

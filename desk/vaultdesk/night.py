@@ -4,17 +4,18 @@ from __future__ import annotations
 
 import argparse
 import contextlib
+import functools
 import os
 import subprocess
 import tempfile
 import time
-from collections.abc import Callable
+from collections.abc import Callable, Iterator
 from contextlib import AbstractContextManager
 from dataclasses import dataclass, field
 from pathlib import Path
-from typing import Any
+from typing import Any, TypeVar
 
-from vaultdesk import backup, config, evidence, last_done, moments, reading, snapshot
+from vaultdesk import backup, config, evidence, last_done, moments, parts, reading, recheck, snapshot, status
 from vaultdesk.config import Desk
 from vaultdesk.engine import Engine
 from vaultdesk.errors import DeskError
@@ -32,6 +33,7 @@ where one of these wasn't done to its end."""
 COLUMNS = ("bucket", "marked", "removed", "lone")
 FORETOLD = ("what", "bucket", "version", "key")
 MEMORY = Path("/proc/meminfo")
+It = TypeVar("It")
 
 GONE = """
 SELECT 'removed for good' AS what, bucket, id, key FROM entries JOIN old.entries AS before USING (id, bucket, key)
@@ -50,6 +52,11 @@ def is_synchronized() -> bool:
     except OSError:
         return False
     return done.stdout.strip() == "yes"
+
+
+def why(error: DeskError | OSError) -> str:
+    """What is said of a fault."""
+    return f"{error.filename}: {error.strerror}" if isinstance(error, OSError) and error.filename else str(error)
 
 
 @dataclass
@@ -79,16 +86,43 @@ class Night:
         try:
             part()
             return True
-        except DeskError as error:
-            say(f"vaultdesk night: {error}")
+        except (DeskError, OSError) as error:
+            say(f"vaultdesk night: {why(error)}")
             self.is_whole = False
             return False
 
-    def look_at_clock(self, tables: Path) -> None:
-        """By the vault's tables: `DeskError` where the clock can't be relied on.
+    @contextlib.contextmanager
+    def looked_at(self, file: Path) -> Iterator[Path | None]:
+        """The same as `tables`, and none where no copy can be made, as the folder has no room for it: that is said."""
+        with contextlib.ExitStack() as opened:
+            try:
+                tables = opened.enter_context(self.tables(file))
+            except (DeskError, OSError) as error:
+                if not self.goes_on:
+                    raise
+                say(f"vaultdesk night: {why(error)}. The server is asked in its place")
+                yield None
+                return
+            yield tables
+
+    def asked(self, question: Callable[[Engine], It]) -> It:
+        """What the server answers to the caller ADMIN."""
+        door = self.served.door().where
+        with Engine(Desk(config.program(), self.served.file, self.served.conf.admin(), door), None) as engine:
+            return question(engine)
+
+    def last_change(self, tables: Path | None) -> int:
+        """The moment of the vault's last change, by its tables, or as its server says."""
+        if tables is None:
+            return recheck.vault.moment_of(str(self.asked(status.state)["last"]))
+        [(last,)] = reading.rows(tables, "SELECT last FROM meta")
+        return int(last)
+
+    def look_at_clock(self, tables: Path | None) -> None:
+        """By the vault's last change: `DeskError` where the clock can't be relied on.
 
         What one that is ahead removes can't be put back."""
-        [(last,)] = reading.rows(tables, "SELECT last FROM meta")
+        last = self.last_change(tables)
         self.now = int(time.time())  # after that was read: a server goes on meanwhile
         clock = moments.of_seconds(self.now)
         if self.now < last:
@@ -128,6 +162,14 @@ class Night:
             cause = f"warning: the vault holds {held} bytes, and {free} bytes of memory are free"
             say(f"vaultdesk night: {cause}. Where it can't be opened for want of memory, the kernel kills the server")
 
+    def note(self) -> None:
+        """Notes that a night was whose clock was right."""
+        try:
+            self.mark().touch()
+        except OSError as error:
+            cause = f"{self.mark()}: {error.strerror}: this night isn't noted"
+            raise DeskError(f"{cause}: after MAX_JUMP days without a change the clock is taken for wrong") from error
+
     def make_copy(self) -> None:
         """Makes the night's copy."""
         self.copy = backup.made(self.served.file, self.served.conf.backup(), config.program())
@@ -135,8 +177,8 @@ class Night:
 
     def make_seal(self) -> None:
         """Appends the seal of all that was before the last moment to those of earlier nights."""
-        with self.tables(self.copy or self.served.file) as tables:
-            self.seal = evidence.seal_of(tables, None)
+        with self.looked_at(self.copy or self.served.file) as tables:
+            self.seal = evidence.seal_of(tables, None) if tables else self.asked(lambda it: parts.seal(it, None))
         if self.copy:  # SQLite leaves its index of the log beside a file that was read
             self.copy.with_name(f"{self.copy.name}-shm").unlink(missing_ok=True)
         evidence.append(evidence.seals_beside(self.served.file), self.seal)
@@ -150,13 +192,14 @@ class Night:
 
     def work(self) -> int:
         """All of it, and the status. It is done as the vaults' owner."""
-        with self.tables(self.served.file) as tables:
+        with self.looked_at(self.served.file) as tables:
             is_right = self.done(lambda: self.look_at_clock(tables))
-            self.done(lambda: self.warn_of_memory(tables))
+            if tables:
+                self.done(functools.partial(self.warn_of_memory, tables))
         if is_right:
             door = self.served.door().where if self.goes_on else None
             self.done(lambda: self.carry_out(Desk(config.program(), self.served.file, "", door), None))
-            self.mark().touch()
+            self.done(self.note)
         else:
             say(f"vaultdesk night: no rule of the vault {self.served.name} was carried out")
         if self.done(self.make_copy) and is_right:
@@ -188,6 +231,7 @@ def foretold(night: Night) -> list[dict[str, Any]]:
         old, new = (it / night.served.file.name for it in (before, after))
         for it in (before, after):
             it.mkdir()
+        snapshot.look_for_room(Path(name), 2 * snapshot.size_of(night.served.file))
         snapshot.copy(night.served.file, old)
         snapshot.copy(old, new)
         night.carry_out(Desk(config.program(), new, ""), moments.now())

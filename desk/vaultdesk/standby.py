@@ -3,6 +3,7 @@
 from __future__ import annotations
 
 import argparse
+import errno
 import json
 import os
 import re
@@ -13,9 +14,10 @@ import sys
 import threading
 import time
 from collections.abc import Sequence
-from contextlib import suppress
+from contextlib import ExitStack, suppress
 from dataclasses import dataclass
 from pathlib import Path
+from types import TracebackType
 from typing import IO, Any, BinaryIO
 
 from vaultdesk import conf, config
@@ -72,7 +74,13 @@ def _lead_to(made: Path, *kept: Path | None) -> None:
     link.replace(made.parent / "now")
     for it in made.parent.iterdir():
         if not it.is_symlink() and it not in (made, *kept):
-            shutil.rmtree(it)
+            shutil.rmtree(it, onerror=_look_why)
+
+
+def _look_why(_: object, path: str, error: tuple[type[BaseException], BaseException, TracebackType]) -> None:
+    """Goes on where something is gone already, or was put there meanwhile: it goes as the next one begins."""
+    if not isinstance(error[1], OSError) or error[1].errno not in (errno.ENOENT, errno.ENOTEMPTY):
+        raise DeskError(f"{path}: {error[1]}") from error[1]
 
 
 def _files(folder: Path, name: str) -> list[Path]:
@@ -111,6 +119,10 @@ def begin(words: argparse.Namespace) -> int:
     return 0
 
 
+class Begun(Exception):
+    """Another journal began before the copy with which this one began was sent, and that copy may be gone by now."""
+
+
 class Following:
     """One connection to the other machine: what was sent there of a journal, and what came back."""
 
@@ -131,13 +143,18 @@ class Following:
 
     def send_copy(self, name: str, lines: int) -> None:
         """Sends the copy with which the journal began; so many lines are there by now."""
-        files = _files(self.made, name)
-        sizes = {it.name: it.stat().st_size for it in files}
-        self.to.write(json.dumps({"journal": self.made.name, "lines": lines, "files": sizes}).encode() + b"\n")
-        for it in files:
-            with it.open("rb") as source:
-                shutil.copyfileobj(source, self.to, PIECE)
-        self.to.flush()
+        with ExitStack() as opened:
+            try:
+                files = {it.name: opened.enter_context(it.open("rb")) for it in _files(self.made, name)}
+            except FileNotFoundError as error:
+                raise Begun from error
+            if _newest(self.made.parent) != self.made:  # else all of its files are open
+                raise Begun
+            sizes = {it: os.fstat(file.fileno()).st_size for it, file in files.items()}
+            self.to.write(json.dumps({"journal": self.made.name, "lines": lines, "files": sizes}).encode() + b"\n")
+            for file in files.values():
+                shutil.copyfileobj(file, self.to, PIECE)
+            self.to.flush()
 
     def send_lines(self, journal: BinaryIO) -> None:
         """Sends what is appended until the connection ends, or another journal began and all of this was sent."""
@@ -150,6 +167,11 @@ class Following:
                 return
             else:
                 time.sleep(PAUSE)
+            self._note()
+
+    def _note(self) -> None:
+        """Notes how many lines were carried out there, unless the journal went as two others began after it."""
+        with suppress(FileNotFoundError):
             _note(self.made, self.answered)
 
     def end(self) -> None:
@@ -157,7 +179,7 @@ class Following:
         with suppress(BrokenPipeError):
             self.to.close()
         self.reading.join()
-        _note(self.made, self.answered)
+        self._note()
         if self.wrong:
             self.there.kill()
             line = f"line {self.answered + 1} of {self.made / 'journal'}"
@@ -223,7 +245,8 @@ def follow(words: argparse.Namespace) -> int:
         if made is None:
             raise DeskError(f"{_journals(served)} has no journal: vaultdesk standby begin, before the server starts")
         say(f"vaultdesk standby follow: {made.name} goes to {other}")
-        _follow(made, served.name, [*ssh, other, f"vaultdesk standby take {served.name}"])
+        with suppress(Begun):
+            _follow(made, served.name, [*ssh, other, f"vaultdesk standby take {served.name}"])
 
 
 def lag(words: argparse.Namespace) -> int:
