@@ -8,11 +8,13 @@ import hashlib
 import json
 import os
 import unittest
+import zipfile
 from pathlib import Path
 from unittest import mock
+from xml.etree import ElementTree
 
 from tests.office import OfficeTest
-from vaultdesk import documents
+from vaultdesk import documents, spreadsheet
 from vaultdesk.documents import checked_content
 from vaultdesk.errors import DeskError
 
@@ -243,11 +245,11 @@ class Export(OfficeTest):
         self.assertIn("4 documents", self.done("export", "docs", str(self.out)))
         self.assertEqual(self.listed(), {**self.KEYS, "a/b.pdf": b"newer"})
         names = sorted(it.name for it in self.out.iterdir())
-        self.assertEqual(names, ["2", "3", "4.tif", "5.pdf", "documents.csv"])
+        self.assertEqual(names, ["2", "3", "4.tif", "5.pdf", "documents.csv", "documents.xlsx"])
 
     def test_older_versions_and_a_prefix(self) -> None:
         self.done("export", "docs", str(self.out), "--prefix", "a/", "--all-versions")
-        self.assertEqual({it.name for it in self.out.iterdir()}, {"1.pdf", "5.pdf", "documents.csv"})
+        self.assertEqual({it.name for it in self.out.iterdir()}, {"1.pdf", "5.pdf", "documents.csv", "documents.xlsx"})
         self.assertEqual((self.out / "1.pdf").read_bytes(), b"one")
 
     def test_files_have_the_names_of_their_keys_where_they_can(self) -> None:
@@ -269,12 +271,65 @@ class Export(OfficeTest):
     def test_nothing_is_written_over_unasked(self) -> None:
         self.out.mkdir()
         (self.out / "3").write_bytes(b"mine")
-        done = self.desk("export", "docs", str(self.out))
-        self.assertEqual(done.status, 1)
-        self.assertIn("--force", done.err)
-        self.assertEqual((self.out / "3").read_bytes(), b"mine")
+        for words in ((), ("--into-existing",)):
+            done = self.desk("export", "docs", str(self.out), *words)
+            self.assertEqual(done.status, 1)
+            self.assertIn("--force", done.err)
+            self.assertEqual((self.out / "3").read_bytes(), b"mine")
         self.done("export", "docs", str(self.out), "--force")
         self.assertEqual((self.out / "3").read_bytes(), b"three")
+
+    def test_other_files_are_refused_or_named(self) -> None:
+        self.out.mkdir()
+        (self.out / "other").write_bytes(b"mine")
+        done = self.desk("export", "docs", str(self.out))
+        self.assertEqual(done.status, 1)
+        cause = f"{self.out} has files already, other among them: name a new folder, give --into-existing"
+        self.assertIn(cause, done.err)
+        self.assertEqual([it.name for it in self.out.iterdir()], ["other"])
+        for word in ("--into-existing", "--force"):
+            done = self.desk("export", "docs", str(self.out), word)
+            self.assertEqual((done.status, (self.out / "other").read_bytes()), (0, b"mine"))
+            self.assertIn(f"also in {self.out}, and not in the list: other\n", done.err)
+
+    def test_no_link_is_followed(self) -> None:
+        self.lines({"do": "put", "bucket": "docs", "key": "annex/deep/a", "text": "x"})
+        elsewhere = self.folder / "elsewhere"
+        (elsewhere / "deep").mkdir(parents=True)
+        victim = elsewhere / "victim"
+        victim.write_text("mine")
+        self.out.mkdir()
+        annex, name = self.out / "annex", self.out / "b"
+        for link in (annex, annex / "deep"):
+            if link != annex:
+                annex.unlink()
+                annex.mkdir()
+            link.symlink_to(elsewhere)
+            for words in ("--into-existing", "--force"):
+                done = self.desk("export", "docs", str(self.out), "--names", "--prefix", "annex/", words)
+                self.assertEqual(done.status, 1)
+                self.assertIn("annex/deep/a: a link or a file is in the place of a folder", done.err)
+        self.lines({"do": "put", "bucket": "docs", "key": "b", "text": "x"})
+        name.symlink_to(victim)
+        done = self.desk("export", "docs", str(self.out), "--names", "--prefix", "b", "--into-existing")
+        self.assertEqual((done.status, name.is_symlink()), (1, True))
+        self.desk("export", "docs", str(self.out), "--names", "--prefix", "b", "--force")
+        self.assertEqual((name.is_symlink(), name.read_text(), victim.read_text()), (False, "x", "mine"))
+        self.assertEqual(sorted(str(it.relative_to(elsewhere)) for it in elsewhere.rglob("*")), ["deep", "victim"])
+
+    def test_a_spreadsheet_has_texts_alone(self) -> None:
+        keys = ["=cmd|' /C calc'!A0", "+1", "-1", "@a", "0012", "2025-01-02", "a_x000A_"]
+        self.lines(*({"do": "put", "bucket": "docs", "key": it, "text": "x"} for it in keys))
+        self.done("export", "docs", str(self.out))
+        with zipfile.ZipFile(self.out / "documents.xlsx") as book:
+            cells = ElementTree.fromstring(book.read("xl/worksheets/sheet1.xml")).iter(f"{{{spreadsheet.MAIN}}}c")
+        found = [(it.get("t"), "".join(it.itertext())) for it in cells]
+        self.assertEqual({kind for kind, _ in found}, {"inlineStr"})
+        texts = [text for _, text in found]
+        for key in keys[:-1]:
+            self.assertIn(key, texts)
+        self.assertIn("a_x005F_x000A_", texts)
+        self.assertEqual(set(keys) - set(self.listed()), set())
 
     def test_the_list_is_an_inventory(self) -> None:
         self.done("export", "docs", str(self.out))

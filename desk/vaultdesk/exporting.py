@@ -3,21 +3,25 @@
 from __future__ import annotations
 
 import argparse
+import contextlib
 import csv
+import errno
 import io
 import os
 import re
 from collections.abc import Iterator, Mapping, Sequence
 from pathlib import Path
-from typing import Any
+from typing import Any, BinaryIO
 
-from vaultdesk.documents import checked_content, write_content
+from vaultdesk import spreadsheet
+from vaultdesk.documents import checked_content
 from vaultdesk.engine import Engine
 from vaultdesk.errors import DeskError
-from vaultdesk.output import counted_off, print_json
+from vaultdesk.output import counted_off, print_json, say
 
 LISTED = ("file", "key", "version", "size", "sha256", "admitted")
-LIST = "documents.csv"
+LIST, SHEET = "documents.csv", "documents.xlsx"
+MOST_NAMED = 10  # how many of the other things in a folder are named
 ENDING = re.compile(r"\.[A-Za-z0-9]{1,8}$")
 LONGEST = 255  # bytes of a file's name
 Entry = Mapping[str, Any]
@@ -38,7 +42,7 @@ def can_be_path(key: str) -> bool:
 def _named(entries: Sequence[Entry], by_key: bool) -> Iterator[tuple[Entry, str]]:
     """Each entry with its file: by its key where that is asked, can be a path, and is no earlier file or folder; else
     by its number, at the top of the folder."""
-    taken, folders = {LIST}, set[str]()
+    taken, folders = {LIST, SHEET}, set[str]()
     for it in entries:
         key = it["key"]
         above = {key[:place] for place, letter in enumerate(key) if letter == "/"}
@@ -53,39 +57,95 @@ def _named(entries: Sequence[Entry], by_key: bool) -> Iterator[tuple[Entry, str]
         yield it, name
 
 
-def _exported(engine: Engine, words: argparse.Namespace, entry: Entry, name: str) -> dict[str, Any]:
+class Target:
+    """The folder that documents are written to. Below it no link is followed: a file goes where its name says."""
+
+    def __init__(self, path: Path, is_forced: bool) -> None:
+        self.path, self.is_forced = path, is_forced
+        path.mkdir(parents=True, exist_ok=True)
+        self.others = {it.name for it in path.iterdir()}
+
+    def open(self, name: str) -> BinaryIO:
+        """A file below the folder, to be written. `DeskError` where a link is in the way, or a file that isn't to be
+        written over."""
+        *above, last = name.split("/")
+        self.others.discard(above[0] if above else last)
+        here = os.open(self.path, os.O_RDONLY | os.O_DIRECTORY)
+        try:
+            for it in above:
+                with contextlib.suppress(FileExistsError):
+                    os.mkdir(it, dir_fd=here)
+                below = os.open(it, os.O_RDONLY | os.O_DIRECTORY | os.O_NOFOLLOW, dir_fd=here)
+                os.close(here)
+                here = below
+            if self.is_forced:
+                with contextlib.suppress(FileNotFoundError):
+                    os.unlink(last, dir_fd=here)
+            return open(os.open(last, os.O_WRONLY | os.O_CREAT | os.O_EXCL | os.O_NOFOLLOW, 0o600, dir_fd=here), "wb")
+        except FileExistsError as error:
+            raise DeskError(f"{self.path / name} is there already: give --force to write over it") from error
+        except OSError as error:
+            is_link = error.errno in (errno.ELOOP, errno.ENOTDIR)
+            why = "a link or a file is in the place of a folder, and is left as it is" if is_link else error.strerror
+            raise DeskError(f"{self.path / name}: {why}") from error
+        finally:
+            os.close(here)
+
+
+def _look_empty(folder: Path) -> None:
+    """`DeskError` where a folder has files."""
+    first = next(folder.iterdir(), None) if folder.is_dir() else None
+    if first:
+        ways = "give --into-existing to write beside what is there, or --force to write over files of the same names"
+        raise DeskError(f"{folder} has files already, {first.name} among them: name a new folder, {ways}")
+
+
+def _exported(engine: Engine, words: argparse.Namespace, target: Target, entry: Entry, name: str) -> dict[str, Any]:
     """Writes a version to its file, and gives its row of the list."""
     found = engine.ask("get", bucket=words.bucket, key=entry["key"], id=entry["version_id"])
     content = checked_content(found)
-    path = Path(words.folder) / name
-    path.parent.mkdir(parents=True, exist_ok=True)
-    write_content(path, content, words.force)
+    with target.open(name) as file:
+        file.write(content)
     row = {"file": name, "key": entry["key"], "version": entry["version_id"], "size": len(content)}
     return {**row, "sha256": found["sha256"], "admitted": found["admitted"]}
 
 
-def export(engine: Engine, words: argparse.Namespace) -> None:
-    """Writes the documents of a bucket to a folder, with a list that says which is which."""
-    listed = Path(words.folder) / LIST
-    if listed.exists() and not words.force:
-        raise DeskError(f"{listed} is there already: name another folder, or give --force to write over it")
-    held = [it for it in engine.entries(words.bucket, words.prefix) if not it["delete_marker"]]
-    entries = [it for it in held if it["current"] or words.all_versions]
-    try:
-        Path(words.folder).mkdir(parents=True, exist_ok=True)
-        named = counted_off(list(_named(entries, words.names)), "documents are written")
-        rows = [_exported(engine, words, it, name) for it, name in named]
-    except OSError as error:
-        raise DeskError(f"{error.filename}: {error.strerror}") from error
+def _list(target: Target, rows: Sequence[Mapping[str, Any]]) -> None:
+    """Writes the lists: CSV, which has each key as it is, and a spreadsheet in which each cell is a text."""
     text = io.StringIO()
     writer = csv.DictWriter(text, LISTED, lineterminator="\n")
     writer.writeheader()
     writer.writerows(rows)
-    write_content(listed, text.getvalue().encode(), words.force)
+    with target.open(LIST) as file:
+        file.write(text.getvalue().encode())
+    if len(rows) >= spreadsheet.MOST_ROWS:
+        say(f"{SHEET} isn't written, as a spreadsheet has at most {spreadsheet.MOST_ROWS - 1:,} rows")
+        return
+    with target.open(SHEET) as file:
+        spreadsheet.write_to(file, "documents", [{it: str(row[it]) for it in LISTED} for row in rows], LISTED)
+
+
+def export(engine: Engine, words: argparse.Namespace) -> None:
+    """Writes the documents of a bucket to a folder, with a list that says which is which."""
+    if not words.force and not words.into_existing:
+        _look_empty(Path(words.folder))
+    held = [it for it in engine.entries(words.bucket, words.prefix) if not it["delete_marker"]]
+    entries = [it for it in held if it["current"] or words.all_versions]
+    try:
+        target = Target(Path(words.folder), words.force)
+        named = counted_off(list(_named(entries, words.names)), "documents are written")
+        rows = [_exported(engine, words, target, it, name) for it, name in named]
+        _list(target, rows)
+    except OSError as error:
+        raise DeskError(f"{error.filename or words.folder}: {error.strerror}") from error
     if words.json:
         print_json(rows)
     else:
-        print(f"{len(rows)} documents in {words.folder}; {LIST} says which is which")
+        print(f"{len(rows)} documents in {words.folder}; {LIST} and {SHEET} say which is which")
+    if target.others:
+        others = sorted(target.others)
+        more = f" and {len(others) - MOST_NAMED:,} more" if len(others) > MOST_NAMED else ""
+        say(f"also in {words.folder}, and not in the list: {', '.join(others[:MOST_NAMED])}{more}")
 
 
 def add(commands: argparse._SubParsersAction[argparse.ArgumentParser], common: argparse.ArgumentParser) -> None:
@@ -94,10 +154,11 @@ def add(commands: argparse._SubParsersAction[argparse.ArgumentParser], common: a
     example = "Example: vaultdesk export letters out --prefix 2025/ --names"
     it = commands.add_parser("export", parents=[common], help=what, epilog=example)
     it.add_argument("bucket")
-    it.add_argument("folder", help=f"gets a file for each, named by its number, and {LIST}, their inventory")
+    it.add_argument("folder", help=f"gets a file for each, named by its number, and {LIST} and {SHEET}, their list")
     it.add_argument("--prefix", metavar="P", help="only keys that begin so")
     text = "name each file by its key, in folders, where a file can be named so"
     it.add_argument("--names", action="store_true", help=text)
     it.add_argument("--all-versions", action="store_true", help="older versions too")
-    it.add_argument("--force", action="store_true", help="write over files that are there")
+    it.add_argument("--into-existing", action="store_true", help="into a folder that has other files")
+    it.add_argument("--force", action="store_true", help="the same, and write over files that are there")
     it.set_defaults(run=export)

@@ -6,6 +6,7 @@ import re
 import zipfile
 from collections.abc import Iterable, Iterator, Mapping, Sequence
 from pathlib import Path
+from typing import BinaryIO
 from xml.sax.saxutils import escape
 
 from vaultdesk.errors import DeskError
@@ -77,19 +78,25 @@ def _sheet(rows: Iterable[Sequence[str]]) -> Iterator[str]:
     yield "</sheetData></worksheet>"
 
 
+def write_to(file: BinaryIO, name: str, rows: Sequence[Mapping[str, str]], columns: Sequence[str]) -> None:
+    """Writes rows, fewer than `MOST_ROWS`, below their columns' names to a file."""
+    lines = ([row[it] for it in columns] for row in rows)
+    with zipfile.ZipFile(file, "w", zipfile.ZIP_DEFLATED) as book:
+        for part, text in {**PARTS, "xl/workbook.xml": BOOK.format(escape(name))}.items():
+            book.writestr(zipfile.ZipInfo(part, FIRST_MOMENT), XML + text)
+        with book.open(zipfile.ZipInfo("xl/worksheets/sheet1.xml", FIRST_MOMENT), "w") as sheet:
+            sheet.write(XML.encode())
+            for text in _sheet([list(columns), *lines]):
+                sheet.write(text.encode())
+
+
 def write(path: Path, name: str, rows: Sequence[Mapping[str, str]], columns: Sequence[str], force: bool) -> None:
-    """Writes rows below their columns' names. `DeskError` where the file is there and may not be written over."""
+    """The same to a path. `DeskError` where there are more rows, or a file is there and may not be written over."""
     if len(rows) >= MOST_ROWS:
         raise DeskError(f"a spreadsheet has at most {MOST_ROWS - 1:,} rows, and these are {len(rows):,}: take CSV")
-    lines = ([row[it] for it in columns] for row in rows)
     try:
-        with path.open("wb" if force else "xb") as file, zipfile.ZipFile(file, "w", zipfile.ZIP_DEFLATED) as book:
-            for part, text in {**PARTS, "xl/workbook.xml": BOOK.format(escape(name))}.items():
-                book.writestr(zipfile.ZipInfo(part, FIRST_MOMENT), XML + text)
-            with book.open(zipfile.ZipInfo("xl/worksheets/sheet1.xml", FIRST_MOMENT), "w") as sheet:
-                sheet.write(XML.encode())
-                for text in _sheet([list(columns), *lines]):
-                    sheet.write(text.encode())
+        with path.open("wb" if force else "xb") as file:
+            write_to(file, name, rows, columns)
     except FileExistsError as error:
         raise DeskError(f"{path} is there already: give --force to write over it") from error
     except OSError as error:
