@@ -124,7 +124,7 @@ class Lost(MachineTest):
         wanted: dict[str, Any] = {"entries": 3, "events": 7, "first": 3, "last": 5, "since": LATER, "vault": LATER}
         self.assertEqual((told["replaced"], told["lost"]), (None, {**wanted, "copy": "2024-01-15T09:00:00Z"}))
         out = self.done("restore", "records", self.copy, at=None)
-        self.assertEqual(out.splitlines()[1:], [f"{what} are {rest.format('are')}"])
+        self.assertEqual(out.splitlines()[1:], [f"{what} are {rest.format('is')}"])
 
     def test_it_is_said_of_a_vault_that_is_served(self) -> None:
         self.change()

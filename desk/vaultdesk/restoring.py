@@ -77,23 +77,31 @@ def _counted(number: int, one: str, more: str) -> str:
     return f"{number:,} {one if number == 1 else more}"
 
 
-def lost_text(found: dict[str, Any], verb: str) -> str:
-    """The same as a sentence."""
+def _lost_text(found: dict[str, Any], is_dry: bool) -> str:
+    """The same as a sentence, before it is done or afterwards."""
+    one, more = ("would be", "would be") if is_dry else ("is", "are")
     if "fault" in found:
-        return f"What {verb} lost isn't known: {found['fault']}"
+        return f"What {one} lost isn't known: {found['fault']}"
     if not found["events"] and found["copy"] >= found["vault"]:
-        return f"Nothing {verb} lost: the vault's last change is of {found['vault']}."
+        return f"Nothing {one} lost: the vault's last change is of {found['vault']}."
     what = f"{_counted(found['entries'], 'entry', 'entries')} and {_counted(found['events'], 'event', 'events')}"
     is_earlier = found["since"] is None or found["since"] >= found["copy"]
-    text = f"{what} {'after ' + found['copy'] if is_earlier else 'from ' + found['since'] + ' on'} {verb} gone"
+    text = f"{what} {'after ' + found['copy'] if is_earlier else 'from ' + found['since'] + ' on'} {more} gone"
     if found["entries"] == 1:
         text += f": version {found['first']}"
     elif found["entries"]:
         text += f": versions {found['first']} to {found['last']}"
-    return f"{text}. So {verb} what was set up since, until {found['vault']}: departments, callers, buckets, rules."
+    return f"{text}. So {one} what was set up since, until {found['vault']}: departments, callers, buckets, rules."
 
 
 # ---- the files, as the vaults' owner
+
+
+def _opened(path: Path) -> BinaryIO:
+    try:
+        return open(os.open(path, os.O_RDONLY | os.O_NOFOLLOW | os.O_NONBLOCK), "rb")
+    except OSError as error:
+        raise DeskError(f"{path}: {error.strerror}") from error
 
 
 @contextmanager
@@ -107,8 +115,7 @@ def _given(copy: Path) -> Iterator[dict[str, BinaryIO]]:
             path = Path(f"{copy.resolve()}{end}")
             if not path.is_file():
                 continue
-            file = open(os.open(path, os.O_RDONLY | os.O_NOFOLLOW | os.O_NONBLOCK), "rb")
-            opened.enter_context(file)
+            file = opened.enter_context(_opened(path))
             is_one = stat.S_ISREG(os.fstat(file.fileno()).st_mode) and file.read(len(kinds[0])) in kinds
             if not end and not is_one:
                 raise DeskError(f"{copy} isn't sound (it is no file of SQLite): nothing was changed")
@@ -245,7 +252,7 @@ def _print(words: argparse.Namespace, text: str, away: Path | None, found: dict[
         return
     print(text)
     if found:
-        print(lost_text(found, "would be" if words.dry_run else "is" if found.get("events") == 0 else "are"))
+        print(_lost_text(found, words.dry_run))
 
 
 def add(commands: argparse._SubParsersAction[argparse.ArgumentParser], common: argparse.ArgumentParser) -> None:
