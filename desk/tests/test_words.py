@@ -85,6 +85,7 @@ ROWS = {
     "offline": Row("records true", "recrods true"),
     "restore": Row("records {copy}", "records {folder}/none"),
     "check": Row("records", "recrods"),
+    "health": Row(SERVED, "recrods"),
     "metrics": Row("{file}", "{folder}/none.vault"),
     "offices list": Row("", ""),
     "offices map": Row("", ""),

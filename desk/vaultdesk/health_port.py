@@ -109,8 +109,8 @@ def health(words: argparse.Namespace) -> int:
 
 
 def add(commands: argparse._SubParsersAction[argparse.ArgumentParser], common: argparse.ArgumentParser) -> None:
-    it = commands.add_parser("health", parents=[common], help="answer load balancers whether a vault takes changes",
-                             description=ABOUT)  # fmt: skip
+    what, example = "answer load balancers whether a vault takes changes", "Example: vaultdesk health records"
+    it = commands.add_parser("health", parents=[common], help=what, description=ABOUT, epilog=example)
     it.add_argument("name", metavar="NAME", help="the vault's name")
     it.add_argument("--listen", metavar="WHERE", help="PORT or ADDRESS:PORT (default: HEALTH of the configuration)")
     it.set_defaults(do=health)
