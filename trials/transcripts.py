@@ -143,7 +143,13 @@ def what_differs(folder, step):
     return None
 
 
-@a_test_each(it.stem for it in sorted(EXAMPLES.glob("*.txt")))
+def names() -> list[str]:
+    """The transcripts among the examples, but for those of the desk (`desk_mistakes.py`)."""
+    texts = {it.stem: it.read_text() for it in sorted(EXAMPLES.glob("*.txt"))}
+    return [name for name, text in texts.items() if "\n$ " in text and not name.startswith("desk-")]
+
+
+@a_test_each(names())
 class Transcripts(Case):
     def look_at(self, name):
         """Carries out the steps of a transcript."""

@@ -14,6 +14,7 @@ from vaultdesk import conf, config, disk, reading, recheck, snapshot
 from vaultdesk.errors import DeskError, UsageError
 from vaultdesk.output import print_json
 from vaultdesk.owner import Owner, is_roots, owner_of
+from vaultdesk.spelling import whole
 
 ABOUT = """Makes a copy of a vault, audits the copy, and prints its path, FOLDER/NAME-MOMENT.vault. The copy belongs to
 the vault's owner, who alone can read it. It is made by SQLite's online backup, or while a server has the vault, of
@@ -150,6 +151,6 @@ def add(commands: argparse._SubParsersAction[argparse.ArgumentParser], common: a
     it.add_argument("vault", metavar="VAULT", help="the vault's file, or its name in the settings")
     text = "default: BACKUP in /etc/vaultctl/VAULT.conf, with its KEEP"
     it.add_argument("folder", nargs="?", metavar="FOLDER", help=text)
-    it.add_argument("--keep", type=int, metavar="N", help="remove all copies of the vault there but the newest N")
+    it.add_argument("--keep", type=whole(0), metavar="N", help="remove all copies of the vault there but the newest N")
     it.add_argument("--dry-run", action="store_true", help="say what would be done, and change nothing")
     it.set_defaults(do=backup)

@@ -8,7 +8,7 @@ from collections.abc import Sequence
 
 from vaultdesk import (
     __version__, answer, cases, deliveries, documents, evidence, exporting, find, history, locks, moments, office,
-    policies, trail, years_end,
+    policies, reading, trail, years_end,
 )
 from vaultdesk import (
     backup, closing, copies, glue, health_port, metrics, night, offices, page, restoring, server, standby, status,
@@ -17,8 +17,9 @@ from vaultdesk import (
 from vaultdesk.s3 import words as s3
 from vaultdesk.config import desk
 from vaultdesk.engine import Engine
-from vaultdesk.errors import DeskError, UsageError
+from vaultdesk.errors import DeskError, Refused, UsageError
 from vaultdesk.output import say, shown
+from vaultdesk.spelling import Parser, parsed
 
 # Those that ask about a vault, and those that look after files, servers and users.
 FAMILIES = (
@@ -26,8 +27,9 @@ FAMILIES = (
     status, closing,
 )  # fmt: skip
 MACHINE = (page, backup, copies, restoring, night, server, health_port, metrics, offices, users, s3, standby, glue)
+SHOWN = 8  # names of buckets in one sentence
 ABOUT = """The office's desk: documents, deliveries, locks, rules, evidence, the year's end and the office itself, in
-words and without JSON. vaultdesk COMMAND --help has the words of each. Status: 0 done; 1 refused or a fault; 2 the
+words and without JSON. vaultdesk help COMMAND has the words of each. Status: 0 done; 1 refused or a fault; 2 the
 words aren't understood."""
 
 
@@ -45,7 +47,7 @@ def common_words() -> argparse.ArgumentParser:
 
 def words() -> argparse.ArgumentParser:
     """All words of the desk."""
-    it = argparse.ArgumentParser(prog="vaultdesk", description=ABOUT)
+    it = Parser(prog="vaultdesk", description=ABOUT)
     it.add_argument("--version", action="version", version=f"vaultdesk {__version__}")
     commands = it.add_subparsers(dest="command", required=True, metavar="COMMAND")
     common = common_words()
@@ -58,19 +60,36 @@ def words() -> argparse.ArgumentParser:
     return it
 
 
+def buckets_there(engine: Engine, error: Refused) -> str:
+    """What is said of the buckets that are there, where one isn't; empty where they can't be read at once."""
+    if error.code != "NoSuchBucket" or engine.is_served:
+        return ""
+    try:
+        there = [str(it) for (it,) in reading.rows(engine.tables, "SELECT name FROM buckets ORDER BY name")]
+    except DeskError:
+        return ""
+    more = f" and {len(there) - SHOWN} more" if len(there) > SHOWN else ""
+    return f"; there are {', '.join(there[:SHOWN])}{more}" if there else "; there is none yet"
+
+
 def carried_out(asked: argparse.Namespace) -> int:
     """The status of what the words ask for: `do` needs no engine, `run` does."""
     if "do" in asked:
         return int(asked.do(asked))
     at = moments.read(asked.at) if asked.at else None
     with Engine(desk(asked.vault, asked.caller, asked.door), at) as engine:
-        asked.run(engine, asked)
+        try:
+            asked.run(engine, asked)
+        except Refused as error:
+            raise DeskError(f"{error}{buckets_there(engine, error)}") from error
+        except KeyboardInterrupt as error:
+            raise DeskError(f"interrupted: {engine.changed}") from error
     return 0
 
 
 def main(given: Sequence[str] | None = None) -> int:
     """Carries out what the words ask for, and returns the exit status."""
-    asked = words().parse_args(given)
+    asked = parsed(words(), given)
     try:
         return carried_out(asked)
     except DeskError as error:
@@ -81,6 +100,9 @@ def main(given: Sequence[str] | None = None) -> int:
         text = shown(error.object[max(0, error.start - 40):error.end])
         say(f"vaultdesk {asked.command}: {text}: that isn't UTF-8, which keys and names are")
         return UsageError.status
+    except KeyboardInterrupt:
+        say(f"vaultdesk {asked.command}: interrupted: look how far it came before you give it again")
+        return DeskError.status
     except BrokenPipeError:
         # Whoever reads the output has enough of it.
         sys.stderr.close()

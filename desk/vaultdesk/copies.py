@@ -14,6 +14,7 @@ from vaultdesk import conf, config, moments, reading
 from vaultdesk.errors import DeskError, UsageError
 from vaultdesk.history import number
 from vaultdesk.output import counted_off, print_json, print_rows
+from vaultdesk.spelling import whole
 
 Row = dict[str, Any]
 COLUMNS = ("made", "days old", "bytes", "last change", "entries", "state", "copy")
@@ -120,5 +121,5 @@ def add(commands: argparse._SubParsersAction[argparse.ArgumentParser], common: a
     it.add_argument("folders", nargs="*", metavar="FOLDER", help="default: BACKUP in /etc/vaultctl/VAULT.conf")
     it.add_argument("--version", type=number, metavar="N", help="whether each holds that version")
     it.add_argument("--audit", action="store_true", help="have the engine audit each")
-    it.add_argument("--least", type=int, metavar="N", help="status 1 where fewer than that are there")
+    it.add_argument("--least", type=whole(0), metavar="N", help="status 1 where fewer than that are there")
     it.set_defaults(do=copies)

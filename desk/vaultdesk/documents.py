@@ -16,6 +16,7 @@ from vaultdesk import defaults, limits, moments
 from vaultdesk.asking import confirm
 from vaultdesk.engine import Engine
 from vaultdesk.errors import DeskError, Refused, UsageError
+from vaultdesk.history import number
 from vaultdesk.output import print_json, print_table, say
 
 MOST = 1_048_576  # bytes that a version may have
@@ -253,7 +254,7 @@ def add(commands: argparse._SubParsersAction[argparse.ArgumentParser], common: a
     it = _subcommand(commands, common, get, "write a version's content to a file", example)
     it.add_argument("key")
     it.add_argument("path", nargs="?", help="the file to write (default: standard output)")
-    it.add_argument("--version", type=int, metavar="N", help="that version, and not the current one")
+    it.add_argument("--version", type=number, metavar="N", help="that version, and not the current one")
     it.add_argument("--force", action="store_true", help="write over a file that is there")
 
     it = _subcommand(commands, common, ls, "list what a bucket holds", "ls letters 2025/")
@@ -261,4 +262,4 @@ def add(commands: argparse._SubParsersAction[argparse.ArgumentParser], common: a
 
     it = _subcommand(commands, common, info, "what a document is, and what guards it now", "info letters 2025/002")
     it.add_argument("key")
-    it.add_argument("--version", type=int, metavar="N", help="that version, and not the current one")
+    it.add_argument("--version", type=number, metavar="N", help="that version, and not the current one")

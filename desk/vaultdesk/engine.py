@@ -41,6 +41,8 @@ class Engine:
         self._answer: Answer | None = None
         self._tables: Path | None = None
         self._copies = contextlib.ExitStack()
+        self._made = 0  # changes that were answered
+        self._under_way = ""  # the change that isn't answered yet
 
     def __enter__(self) -> Engine:
         return self
@@ -60,15 +62,19 @@ class Engine:
         if do not in READS:
             self.look_at_date()
             self._forget_tables()
+            self._under_way = do
         given = {name: value for name, value in members.items() if value is not None}
         line = {"as": asker or self.desk.caller, "do": do, **given}
         way, at = self._way_of(do)
         self._answer = way.answer(line, at)
         reply = self._answer.reply
+        self._made += bool("ok" in reply and self._under_way)
+        self._under_way = ""
         if "ok" in reply:
             return dict(reply["ok"])
         if "error" in reply:
-            raise refused(reply["error"])
+            dated = {"at": self._answer.at, **line}
+            raise refused(reply["error"], dated, self._answer.said, is_dated=self.at is not None)
         stopped = reply["stopped"]
         raise EngineError(f"the run stopped after {stopped['changes']} changes, which stand: {stopped['fault']}")
 
@@ -93,6 +99,13 @@ class Engine:
     def is_certain(self) -> bool:
         """Whether the last line had just that reading."""
         return bool(self._answer and self._answer.is_certain)
+
+    @property
+    def changed(self) -> str:
+        """What was changed up to now, for who breaks a subcommand off."""
+        made = f"{self._made:,} changes were made, and stay" if self._made else "nothing was changed"
+        unsure = f", but for one that was under way ({self._under_way}): look whether it was made"
+        return made + (unsure if self._under_way else "")
 
     def look_at_date(self) -> None:
         """`UsageError` where a change would be dated more than a day ahead of the machine's clock."""

@@ -211,11 +211,13 @@ def add(commands: argparse._SubParsersAction[argparse.ArgumentParser], common: a
     """Adds the subcommands to the desk's words."""
     what = "audit the vault: each table, and each byte of content; also while a server has it"
     it = commands.add_parser("verify", parents=[common], help=what, epilog="Example: vaultdesk verify --vault records")
+    it.add_argument("vault", nargs="?", metavar="VAULT", default=argparse.SUPPRESS, help="the same as --vault VAULT")
     it.set_defaults(run=verify)
 
     what = "whether commands can have made this history: each setting and each removal keeps the rules"
     example = "Example: vaultdesk lawful --vault records"
     it = commands.add_parser("lawful", parents=[common], help=what, epilog=example)
+    it.add_argument("vault", nargs="?", metavar="VAULT", default=argparse.SUPPRESS, help="the same as --vault VAULT")
     it.add_argument("--parts", action="store_true", help=PARTS)
     it.set_defaults(run=lawful)
 

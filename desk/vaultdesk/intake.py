@@ -7,6 +7,7 @@ names of columns don't count there: to people a row has the number that Excel sh
 from __future__ import annotations
 
 import argparse
+import contextlib
 import csv
 import os
 import re
@@ -18,7 +19,7 @@ from pathlib import Path
 from typing import Any
 
 from vaultdesk.engine import Engine
-from vaultdesk.errors import EngineError, Refused
+from vaultdesk.errors import DeskError, EngineError, Refused
 from vaultdesk.items import Item
 from vaultdesk.output import counted_off, say, say_while_long
 from vaultdesk.refusals import meaning
@@ -57,6 +58,17 @@ def results(intake: Intake, items: Sequence[Item]) -> Iterator[Row]:
             yield {**row, "result": found[2], "value": found[3], "cause": cause}
 
 
+@contextlib.contextmanager
+def _broken_off(lines: Sequence[str]) -> Iterator[None]:
+    """`DeskError` where a person breaks the intake off, after these lines."""
+    try:
+        yield
+    except KeyboardInterrupt as error:
+        done = f"{len(lines):,} rows were answered, and what came in stays"
+        again = "give the same command again: nothing is taken in twice"
+        raise DeskError(f"interrupted: {done}: {again}") from error
+
+
 # ---- by the program
 
 
@@ -82,7 +94,9 @@ def _ran(command: Sequence[str], count: int) -> tuple[int, list[str], list[str]]
         try:
             with subprocess.Popen(command, stdout=subprocess.PIPE, stderr=said, **how) as child:
                 assert child.stdout
-                lines = [it.removesuffix("\n") for it in counted_off(child.stdout, "rows were taken in", count)]
+                lines = list[str]()
+                with _broken_off(lines):
+                    lines += (it.removesuffix("\n") for it in counted_off(child.stdout, "rows were taken in", count))
         except OSError as error:
             raise EngineError(f"{command[0]}: {error.strerror}") from error
         said.seek(0)
@@ -128,7 +142,16 @@ def _line_of(words: argparse.Namespace, it: Item) -> dict[str, Any]:
 
 def _by_lines(engine: Engine, words: argparse.Namespace, items: Sequence[Item]) -> Intake:
     """The lines are those that the program would print."""
-    lines, causes = [], {}
+    lines, causes = list[str](), dict[int, str]()
+    with _broken_off(lines):
+        _ask_each(engine, words, items, lines, causes)
+    return Intake(lines, causes)
+
+
+def _ask_each(
+    engine: Engine, words: argparse.Namespace, items: Sequence[Item], lines: list[str], causes: dict[int, str]
+) -> None:
+    """Asks for each item, and notes its line, and its cause where it is refused."""
     for it in counted_off(items, "rows were taken in"):
         if it.is_out:
             continue
@@ -145,4 +168,3 @@ def _by_lines(engine: Engine, words: argparse.Namespace, items: Sequence[Item]) 
         except OSError as error:
             lines.append(f"{it.line} refused InvalidArgument")
             causes[it.line] = f"it can't be read: {error.strerror}"
-    return Intake(lines, causes)

@@ -25,6 +25,8 @@ files, and in copies of these, older and later ones. Its key and its digest stay
 it and when.
 """
 WIDTH = 96  # columns of a line that says what a refusal means
+UNDER_WAY = "Interrupted: it was under way, and may have been changed: look by vaultdesk info"
+NOT_COME_TO = "Left: it wasn't come to, and is as it was: give the command again for these"
 COLUMNS = ("bucket", "version", "was", "is", "refused", "key")
 Row = dict[str, Any]
 Change = Callable[[Target], Row]
@@ -45,15 +47,18 @@ def lock_text(head: Mapping[str, Any]) -> str:
 
 
 def _each(found: Sequence[Target], change: Change) -> list[Row]:
-    """The row of each target; what is refused has its refusal in its row, and those after it are tried all the same."""
-    rows: list[Row] = []
+    """The row of each target; what is refused has its refusal in its row, and those after it are tried all the same,
+    unless a person breaks it off."""
+    rows, is_broken_off = list[Row](), False
     for it in counted_off(found, "versions were come to"):
         row: Row = {"bucket": it.bucket, "key": it.key, "version": it.version or "current", "was": "", "is": ""}
-        row["refused"] = ""
+        row["refused"] = NOT_COME_TO if is_broken_off else ""
         try:
-            row |= change(it)
+            row |= {} if is_broken_off else change(it)
         except (Refused, NotDone) as error:
             row["refused"] = str(error)
+        except KeyboardInterrupt:
+            row["refused"], is_broken_off = UNDER_WAY, True
         rows.append(row)
     return rows
 

@@ -17,6 +17,7 @@ from vaultdesk.config import Desk
 from vaultdesk.engine import Engine
 from vaultdesk.errors import DeskError, EngineError
 from vaultdesk.output import print_json, print_table, say
+from vaultdesk.spelling import whole
 from vaultdesk.units import Served
 
 Row = dict[str, Any]
@@ -253,6 +254,6 @@ def add(commands: argparse._SubParsersAction[argparse.ArgumentParser], common: a
     text = "a bucket that is newer than its vault's copy; may be given again"
     it.add_argument("--bucket", action="append", default=[], metavar="VAULT:BUCKET", help=text)
     text = "a port of 127.0.0.1 at which nginx answers for buckets that no vault has (8089)"
-    it.add_argument("--nowhere", type=int, default=8089, metavar="PORT", help=text)
+    it.add_argument("--nowhere", type=whole(1, 65_535), default=8089, metavar="PORT", help=text)
     it.set_defaults(do=offices_map)
     _add_gathering(kinds, common)

@@ -72,13 +72,13 @@ def print_done(as_json: bool, **what: Any) -> None:
 def refusals(refused: Sequence[str], count: int, is_dry: bool = False) -> str:
     """How many of a subcommand's rows were refused, and what became of the others; empty where none was.
 
-    Each refusal is in words that begin with its name. After `Device` a change may have been made all the same."""
+    Each refusal is in words that begin with its name. After `Device` and `Interrupted` a change may have been made."""
     share = f"{len(refused)} of {count}"
     if is_dry:
         return f"{share} would be refused" if refused else ""
     if len(refused) < count:
         return f"{share} were refused, and the others were done" if refused else ""
-    unsure = any(it.startswith("Device") for it in refused)
+    unsure = any(it.startswith(("Device", "Interrupted")) for it in refused)
     return f"{share} were refused" + ("" if unsure else ": nothing was changed")
 
 

@@ -14,6 +14,7 @@ from vaultdesk.errors import DeskError, UsageError
 from vaultdesk.forecast import COLUMNS as FORESEEN
 from vaultdesk.forecast import Rule, foreseen, rules_of, set_rules
 from vaultdesk.output import print_done, print_json, print_table, say
+from vaultdesk.spelling import nearest, whole
 
 COLUMNS = ("id", "enabled", "prefix", "above", "below", "expires", "noncurrent", "keeps", "lone markers")
 
@@ -106,7 +107,7 @@ def add_rule(engine: Engine, words: argparse.Namespace) -> None:
     """Adds a rule after those that are there; the others stay as they are."""
     rules = rules_of(engine, words.bucket)
     if any(it["ID"] == words.id for it in rules):
-        raise DeskError(f"the bucket has a rule {words.id!r} already: remove it first")
+        raise DeskError(f"the bucket has a rule {words.id!r} already: take another name, or remove that one first")
     rule = rule_of(words)
     set_rules(engine, words.bucket, [*rules, rule])
     print_done(words.json, bucket=words.bucket, rule=rule, done="added")
@@ -114,10 +115,13 @@ def add_rule(engine: Engine, words: argparse.Namespace) -> None:
 
 def remove_rule(engine: Engine, words: argparse.Namespace) -> None:
     """Removes a rule; the others stay as they are."""
+    if "id" not in words:
+        raise UsageError("which rule? give its name: vaultdesk rules list BUCKET has the names")
     rules = rules_of(engine, words.bucket)
     left = [it for it in rules if it["ID"] != words.id]
     if len(left) == len(rules):
-        raise DeskError(f"the bucket has no rule {words.id!r}")
+        there = ", ".join(str(it["ID"]) for it in rules)
+        raise DeskError(f"the bucket has no rule {words.id!r}: {'its rules are ' + there if there else 'it has none'}")
     set_rules(engine, words.bucket, left)
     print_done(words.json, bucket=words.bucket, rule=words.id, done="removed")
 
@@ -137,12 +141,24 @@ def _carried_out(engine: Engine, buckets: Sequence[str]) -> Iterator[dict[str, A
         yield {"bucket": it, **done}
 
 
+def _why_no_rules(engine: Engine, department: str) -> str:
+    """Why a department's buckets have no rules, and what to do."""
+    owner = reading.rows(engine.tables, "SELECT dept FROM buckets WHERE name = ?", (department,))
+    if owner:
+        return f"{department!r} is a bucket, of the department {owner[0][0]}: give vaultdesk expire {owner[0][0]}"
+    there = [str(it) for (it,) in reading.rows(engine.tables, "SELECT name FROM departments")]
+    if department not in there:
+        guess = nearest(department, there) or ": vaultdesk departments lists them"
+        return f"the vault has no department {department!r}{guess}"
+    return f"no bucket of {department!r} has rules: vaultdesk rules add gives it some"
+
+
 def expire(engine: Engine, words: argparse.Namespace) -> None:
     """Says what the rules of a department's buckets will do, asks, and carries them out."""
     statement = "SELECT DISTINCT bucket FROM rules JOIN buckets ON bucket = name WHERE dept = ? ORDER BY bucket"
     buckets = [str(it) for (it,) in reading.rows(engine.tables, statement, (words.department,))]
     if not buckets:
-        raise DeskError(f"no bucket of {words.department!r} has rules")
+        raise DeskError(_why_no_rules(engine, words.department))
     until = moments.read(words.until) if words.until else engine.at or moments.now()
     (rows, kept), done = foreseen(engine, buckets, until), list[dict[str, Any]]()
     if not words.json:
@@ -161,12 +177,13 @@ def expire(engine: Engine, words: argparse.Namespace) -> None:
 def _add_rule_words(it: argparse.ArgumentParser, id_needed: bool) -> None:
     it.add_argument("--id", required=id_needed, help="the rule's name")
     it.add_argument("--prefix", default="", help="for keys that begin so")
-    it.add_argument("--days", type=int, metavar="N", help="mark the current version N days after its admission")
-    it.add_argument("--noncurrent-days", type=int, metavar="N", help="remove older versions N days after the next one")
-    it.add_argument("--keep", type=int, metavar="N", help="with --noncurrent-days: keep the newest N of those")
+    it.add_argument("--days", type=whole(0), metavar="N", help="mark the current version N days after its admission")
+    older = "remove older versions N days after the next one"
+    it.add_argument("--noncurrent-days", type=whole(0), metavar="N", help=older)
+    it.add_argument("--keep", type=whole(0), metavar="N", help="with --noncurrent-days: keep the newest N of those")
     it.add_argument("--lone-markers", action="store_true", help="remove delete markers below which nothing is held")
-    it.add_argument("--above", type=int, metavar="BYTES", help="for entries of more bytes")
-    it.add_argument("--below", type=int, metavar="BYTES", help="for entries of fewer bytes")
+    it.add_argument("--above", type=whole(0), metavar="BYTES", help="for entries of more bytes")
+    it.add_argument("--below", type=whole(0), metavar="BYTES", help="for entries of fewer bytes")
     it.add_argument("--disabled", action="store_true", help="no run carries it out")
 
 
@@ -186,7 +203,8 @@ def _add_rules(commands: argparse._SubParsersAction[argparse.ArgumentParser], co
     example = "Example: vaultdesk rules remove drafts old"
     it = kinds.add_parser("remove", parents=[common], help="remove one", epilog=example)
     it.add_argument("bucket")
-    it.add_argument("id")
+    it.add_argument("id", nargs="?", default=argparse.SUPPRESS, help="the rule's name")
+    it.add_argument("--id", default=argparse.SUPPRESS, help="the same, as rules add has it")
     it.set_defaults(run=remove_rule)
 
     example = "Example: vaultdesk rules try drafts --until 2026-02-01 --id old --days 365 --noncurrent-days 30"
@@ -205,8 +223,8 @@ def add(commands: argparse._SubParsersAction[argparse.ArgumentParser], common: a
     it = commands.add_parser("default", parents=[common], help=what, epilog=example)
     it.add_argument("bucket")
     period = it.add_mutually_exclusive_group()
-    period.add_argument("--years", type=int, metavar="N")
-    period.add_argument("--days", type=int, metavar="N")
+    period.add_argument("--years", type=whole(0), metavar="N")
+    period.add_argument("--days", type=whole(0), metavar="N")
     period.add_argument("--none", action="store_true", help="no default from now on")
     it.add_argument("--mode", choices=("GOVERNANCE", "COMPLIANCE"), default="GOVERNANCE", help="its mode (GOVERNANCE)")
     it.add_argument("--yes", action="store_true", help="don't ask before COMPLIANCE")

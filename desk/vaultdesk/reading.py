@@ -32,6 +32,7 @@ NO_LOCKS = "CREATE TEMP VIEW settings AS SELECT id, n, 0 AS mode, 0 AS until, 0 
 
 # A query that is given what is no date, or no version, ends with an error of SQLite that quotes what the query says.
 SAID_BY_QUERY = re.compile(r"(?:JSON path error near|bad JSON path:) '(.*)'", re.DOTALL)
+PARAMETER = re.compile(r" :\w+, which is (.+)")  # in the words of a query, where it says what it was given
 
 # What is said beside an error of SQLite that has such a text.
 WHY = {
@@ -44,7 +45,7 @@ WHY = {
 def _error(file: Path, error: sqlite3.Error) -> DeskError:
     said = SAID_BY_QUERY.fullmatch(str(error))
     if said:
-        return DeskError(said[1].replace("''", "'"))
+        return DeskError(PARAMETER.sub(r" \1", said[1].replace("''", "'")))
     why = next((words for text, words in WHY.items() if text in str(error)), "")
     return EngineError(f"{file}: {error}{why}")
 

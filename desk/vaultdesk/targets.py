@@ -11,6 +11,7 @@ from typing import Any
 
 from vaultdesk.engine import Engine
 from vaultdesk.errors import DeskError, UsageError
+from vaultdesk.history import number as version_number
 
 
 @dataclass(frozen=True)
@@ -31,7 +32,7 @@ def add_targets(it: argparse.ArgumentParser) -> None:
     """The words that say which versions are meant."""
     it.add_argument("bucket", nargs="?", help="may be left out where a list has the column bucket")
     it.add_argument("key", nargs="?")
-    it.add_argument("--version", type=int, metavar="N", help="that version of KEY, and not the current one")
+    it.add_argument("--version", type=version_number, metavar="N", help="that version of KEY, and not the current one")
     it.add_argument("--prefix", metavar="P", help="in place of KEY: the current version of each key that begins so")
     it.add_argument("--all-versions", action="store_true", help="with --prefix: older versions too")
     more = "in place of KEY: a CSV file with the column key, and if wanted version and bucket, as find --csv prints it"

@@ -5,6 +5,7 @@ from __future__ import annotations
 import contextlib
 import json
 import os
+import re
 import subprocess
 import tempfile
 from collections.abc import Mapping
@@ -18,16 +19,19 @@ from vaultdesk.output import say_while_long
 
 LARGE = 50_000_000  # bytes of a file whose audit takes a person's time
 MOST_SAID = 1_048_576  # bytes of what the engine says of refused lines that are kept
+OF_LINE = re.compile(r"^line \d+: ")  # how what is said of a line begins
 Line = Mapping[str, Any]
 
 
 @dataclass(frozen=True)
 class Answer:
-    """The reply to a line, and the line's reading: `is_certain` where it is just that second."""
+    """The reply to a line, and the line's reading: `is_certain` where it is just that second. `said` is what the engine
+    says of the line on standard error, where that can be read."""
 
     reply: Mapping[str, Any]
     at: str
     is_certain: bool = True
+    said: str = ""
 
 
 class Way(Protocol):
@@ -68,7 +72,9 @@ class Replay:
     def answer(self, line: Line, at: str | None) -> Answer:
         """What the engine answers to the line at its reading. `EngineError` where it ended."""
         reading = at or self._clock()
-        return Answer(self._exchange(text_of({"at": reading, **line})), reading)
+        begun = self._place()
+        reply = self._exchange(text_of({"at": reading, **line}))
+        return Answer(reply, reading, said=self._said_since(begun) if "error" in reply else "")
 
     def close(self) -> None:
         """Closes the vault. `EngineError` where the engine ended with a fault."""
@@ -81,9 +87,8 @@ class Replay:
         return self._latest
 
     def _exchange(self, line: str) -> Mapping[str, Any]:
-        child = self._child or self._start()
-        assert child.stdin and child.stdout
-        self._forget_said()
+        child = self._child
+        assert child and child.stdin and child.stdout
         try:
             child.stdin.write(line + "\n")
             child.stdin.flush()
@@ -96,7 +101,7 @@ class Replay:
         reply: Mapping[str, Any] = json.loads(answer)
         return reply
 
-    def _start(self) -> subprocess.Popen[str]:
+    def _start(self) -> None:
         self._say_if_large()
         self._said = tempfile.TemporaryFile("w+", encoding="utf-8", errors="replace")
         words = [self.program, "replay", str(self.file)]
@@ -107,7 +112,6 @@ class Replay:
             )
         except OSError as error:
             raise missing(self.program, error) from error
-        return self._child
 
     def _say_if_large(self) -> None:
         with contextlib.suppress(OSError):
@@ -115,13 +119,26 @@ class Replay:
             if size >= LARGE:
                 say_while_long(f"{self.file} has {size / 1e6:,.0f} MB, all of which is audited as it is opened")
 
-    def _forget_said(self) -> None:
-        """Lets go of what was said of lines long ago: an engine that is open for months would fill the disk."""
+    def _place(self) -> int:
+        """Where in its file the engine, which is started where it isn't yet, will say what it says next.
+
+        What was said of lines long ago is let go of: an engine that is open for months would fill the disk."""
+        if self._child is None:
+            self._start()
         assert self._said
-        place = self._said.fileno()
-        if os.lseek(place, 0, os.SEEK_CUR) > MOST_SAID:  # the engine's end of the file is this one's, too
-            os.ftruncate(place, 0)
-            os.lseek(place, 0, os.SEEK_SET)
+        said = self._said.fileno()
+        end = os.lseek(said, 0, os.SEEK_CUR)  # the engine's end of the file is this one's, too
+        if end > MOST_SAID:
+            os.ftruncate(said, 0)
+            end = os.lseek(said, 0, os.SEEK_SET)
+        return end
+
+    def _said_since(self, begun: int) -> str:
+        """What the engine said of the last line, which it says before it replies."""
+        assert self._said
+        said = self._said.fileno()
+        found = os.pread(said, os.lseek(said, 0, os.SEEK_CUR) - begun, begun).decode("utf-8", "replace")
+        return OF_LINE.sub("", found.strip())
 
     def _end(self) -> int:
         """Ends the engine, which closes the vault, and returns its status."""

@@ -38,9 +38,18 @@ RENAMED = {
     "NameTaken": "InvalidRequest",
     "RetentionOutOfRange": "InvalidArgument",
 }
-# What the desk's words of a refusal don't say to whom an S3 client speaks.
+# What is said to an S3 client, where the desk's words of a refusal name the desk's own.
 SAID = {
     "IntakeConflict": "that amz-sdk-invocation-id, or signature, was used for a put of another key, content or lock",
+    "InvalidArgument": "the vault has no such value, or doesn't allow it there",
+    "InvalidBucketName": "a bucket's name has 3 to 63 of a-z, 0-9 and '-', with no '-' at an end",
+    "MethodNotAllowed": "a delete marker has no content and no lock",
+    "NoSuchBucket": "the vault has no bucket of that name",
+    "NoSuchKey": "nothing is held under that key",
+    "NoSuchLifecycleConfiguration": "the bucket has no rules",
+    "NoSuchVersion": "the bucket holds no version of that number under that key",
+    "department": "the bucket is another department's, and callers work only on those of their own",
+    "marker": "a delete marker is on top of that key",
     "legal-hold": "a legal hold is on: lift it first, by a caller with the right hold",
     "retention-governance": "a retention in GOVERNANCE is in force: a caller with the right bypass may bypass it",
     "unknown-caller": "the vault has no open caller of the name that this access key has",
@@ -83,7 +92,10 @@ def of_refusal(refusal: Refused) -> Fault:
         headers = {"x-amz-delete-marker": "true"}
     elif code == "MethodNotAllowed":
         headers = {"x-amz-delete-marker": "true", "Allow": "DELETE"}
-    words = SAID.get(reason or code) or str(refusal).partition(": ")[2]
+    name = "marker" if refusal.is_below_marker else reason or code
+    words = SAID.get(name) or str(refusal).partition(": ")[2]
+    if reason.startswith("right:"):
+        words = f"the caller lacks the {reason.replace(':', ' ')}"
     return Fault(RENAMED.get(code, code), f"{reason}: {words}" if reason else words, headers)
 
 
