@@ -38,6 +38,7 @@ class Terminal(io.StringIO):
 
     def readline(self, *most: Any) -> str:
         line = super().readline(*most)
+        sys.stdout.write(line.rstrip("\n") if line == "^C\n" else line)
         if line == "^C\n":
             raise KeyboardInterrupt
         return line

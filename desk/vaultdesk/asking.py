@@ -13,6 +13,7 @@ def asked(question: str) -> str:
     try:
         return input(question).strip()
     except (EOFError, KeyboardInterrupt) as error:
+        print()  # the question's line has no end yet
         raise DeskError("nothing was changed") from error
 
 
