@@ -45,7 +45,7 @@ def common_words() -> argparse.ArgumentParser:
     return it
 
 
-def words() -> argparse.ArgumentParser:
+def words() -> Parser:
     """All words of the desk."""
     it = Parser(prog="vaultdesk", description=ABOUT)
     it.add_argument("--version", action="version", version=f"vaultdesk {__version__}")

@@ -97,7 +97,7 @@ class Desk:
 def _text(found: Mapping[str, Any], name: str) -> str | None:
     value = found.get(name)
     if value is not None and not isinstance(value, str):
-        raise UsageError(f"settings: {name} is no text")
+        raise UsageError(f"settings: {name} is no text: give it in quotes")
     return value
 
 
@@ -116,8 +116,10 @@ def read_settings(path: Path) -> Settings:
     """The settings of a file. `UsageError` where it is no TOML, or a value is of another kind."""
     try:
         found = tomllib.loads(path.read_text(encoding="utf-8"))
-    except (OSError, UnicodeDecodeError, tomllib.TOMLDecodeError) as error:
-        raise UsageError(f"settings {path}: {error}") from error
+    except OSError as error:
+        raise UsageError(f"settings {path}: {error.strerror}: mend the path, or unset $VAULTDESK_SETTINGS") from error
+    except (UnicodeDecodeError, tomllib.TOMLDecodeError) as error:
+        raise UsageError(f"settings {path}: {error}: they are TOML in UTF-8, where texts stand in quotes") from error
     vaults, doors = found.get("vaults", {}), found.get("doors", {})
     if not _are_texts(vaults):
         raise UsageError(f"settings {path}: [vaults] has names, each with the path of a file")

@@ -15,7 +15,7 @@ from typing import Any
 from vaultdesk import defaults, limits, moments
 from vaultdesk.asking import confirm
 from vaultdesk.engine import Engine
-from vaultdesk.errors import DeskError, Refused, UsageError
+from vaultdesk.errors import DeskError, Refused, UsageError, of_file
 from vaultdesk.history import number
 from vaultdesk.output import print_json, print_table, say
 
@@ -31,7 +31,7 @@ def read_content(path: str) -> bytes:
             with open(path, "rb") as file:
                 content = file.read(MOST + 1)
     except OSError as error:
-        raise DeskError(f"{path}: {error.strerror}") from error
+        raise of_file(path, error) from error
     if len(content) > MOST:
         raise DeskError(f"{path}: more than {MOST:,} bytes, which a version may have: cut it into parts")
     return content
@@ -46,7 +46,7 @@ def write_content(path: Path, content: bytes, force: bool) -> None:
     except FileExistsError as error:
         raise DeskError(f"{path} is there already: give --force to write over it") from error
     except OSError as error:
-        raise DeskError(f"{path}: {error.strerror}") from error
+        raise of_file(path, error) from error
 
 
 def _look_new(engine: Engine, words: argparse.Namespace) -> None:

@@ -120,7 +120,8 @@ class LinesDoor:
             until = time.monotonic() + patience
             while (error := _failed(connection, place)) is not None:
                 if isinstance(error, (FileNotFoundError, ConnectionRefusedError, NotADirectoryError)):
-                    raise _Nobody(f"{self.where}: no server takes lines there") from error
+                    why = "no server takes lines there: start it, or give another place by --door"
+                    raise _Nobody(f"{self.where}: {why}") from error
                 if isinstance(error, PermissionError):
                     cause = "only the vault's owner, and who is of the folder's group, may ask there"
                     raise EngineError(f"{self.where}: {error.strerror}: {cause}") from error

@@ -111,7 +111,8 @@ class Engine:
         """`UsageError` where a change would be dated more than a day ahead of the machine's clock."""
         if self.at and self.at > moments.tomorrow() and not self.is_copy:
             why = "nothing that is dated before a change is carried out after it, so the vault would be shut until then"
-            raise UsageError(f"--at {self.at} is more than a day ahead of this machine's clock: {why}")
+            what = f"--at {self.at} is more than a day ahead of this machine's clock"
+            raise UsageError(f"{what}: {why}: give an earlier moment, or leave --at out")
 
     # ---- tables
 

@@ -70,7 +70,7 @@ def of_version(engine: Engine, version: int) -> list[Event]:
     rows = csv.DictReader(io.StringIO(engine.printed("events"), newline=""))
     found = _in_time(it for it in rows if it["version"] == str(version))
     if not found:
-        raise DeskError(f"no version of this vault has the number {version}")
+        raise DeskError(f"no version of this vault has the number {version}: vaultdesk find lists those there are")
     return found
 
 

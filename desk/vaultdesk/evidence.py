@@ -17,7 +17,7 @@ from typing import Any
 
 from vaultdesk import beside, disk, moments, parts, recheck
 from vaultdesk.engine import Engine
-from vaultdesk.errors import DeskError, EngineError, UsageError
+from vaultdesk.errors import DeskError, EngineError, UsageError, of_file
 from vaultdesk.output import print_json, say, say_while_long
 
 Seal = recheck.events.Seal
@@ -34,7 +34,9 @@ def read_seals(path: Path) -> Sealed:
     """What a file of seals has. `DeskError` where it can't be read, or has something else."""
     try:
         return recheck.events.read_seals(path.read_text(encoding="utf-8"))
-    except (OSError, ValueError) as error:
+    except OSError as error:
+        raise of_file(path, error) from error
+    except ValueError as error:
         raise DeskError(f"{path}: {error}") from error
 
 

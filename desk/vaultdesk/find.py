@@ -14,7 +14,7 @@ from pathlib import Path
 from vaultdesk import moments, reading
 from vaultdesk.documents import MOST
 from vaultdesk.engine import Engine
-from vaultdesk.errors import DeskError, UsageError
+from vaultdesk.errors import DeskError, UsageError, of_file
 from vaultdesk.output import print_json, print_rows, print_table, say
 
 COLUMNS = ("version", "bucket", "size", "admitted", "by", "state", "key")
@@ -35,7 +35,7 @@ def digest_of(path: Path) -> str:
                 raise DeskError(f"{path}: {why}: give one of the parts, or find them by their key")
             return hashlib.file_digest(file, "sha256").hexdigest()
     except OSError as error:
-        raise DeskError(f"{path}: {error.strerror}") from error
+        raise of_file(path, error) from error
 
 
 def folded(text: str) -> str:

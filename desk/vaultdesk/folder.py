@@ -10,7 +10,7 @@ from collections.abc import Iterable, Mapping, Sequence
 from dataclasses import dataclass
 from pathlib import Path
 
-from vaultdesk.errors import DeskError
+from vaultdesk.errors import of_file
 
 # Files that systems and programs lay into folders by themselves, in small letters.
 OF_SYSTEMS = re.compile(r"\.ds_store|thumbs\.db|desktop\.ini|~\$.*|\._.*|\.~lock\..*#", re.DOTALL)
@@ -74,7 +74,7 @@ def read(path: Path) -> Folder:
     """A folder with all files below it; no link to a folder is followed. `DeskError` where one can't be read."""
 
     def fail(error: OSError) -> None:
-        raise DeskError(f"{error.filename}: {error.strerror}") from error
+        raise of_file(error.filename, error) from error
 
     found = []
     for place, _, names in os.walk(path, onerror=fail):

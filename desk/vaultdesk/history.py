@@ -83,7 +83,7 @@ def history(engine: Engine, words: argparse.Namespace) -> None:
     if engine.at:
         found = up_to(found, engine.at)
         if not found:
-            raise DeskError(f"version {words.number} wasn't admitted yet at {engine.at}")
+            raise DeskError(f"version {words.number} wasn't admitted yet at {engine.at}: give a later --at, or none")
     life = life_of(found)
     if words.json:
         rows = [{**asdict(it), "who": row["who"], "what": row["what"]} for it, row in zip(found, life, strict=True)]

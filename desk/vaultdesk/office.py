@@ -105,7 +105,8 @@ def _close(engine: Engine, words: argparse.Namespace) -> None:
     statement = "SELECT name FROM callers WHERE NOT closed AND rights & 1 AND name <> ?"
     found = reading.rows(engine.tables, "SELECT 1 FROM callers WHERE name = ? AND rights & 1", (words.close,))
     if found and not reading.rows(engine.tables, statement, (words.close,)):
-        raise DeskError(f"{words.close} is the last caller with the right admin: nobody could add another")
+        why = "nobody could add another: add one first"
+        raise DeskError(f"{words.close} is the last caller with the right admin: {why}")
     if words.dry_run:
         if not words.json:
             print(f"{words.close} would be closed")

@@ -34,7 +34,7 @@ def _look_none(engine: Engine, words: argparse.Namespace) -> None:
     """`UsageError` where the settings have a shortest retention for the bucket."""
     why = limits.why_not_kept(engine.desk.limits, words.bucket, None, engine.at or moments.now())
     if why:
-        raise UsageError(f"without one, {why}: nothing was changed")
+        raise UsageError(f"without a default, {why}: give --years or --days; nothing was changed")
 
 
 def default(engine: Engine, words: argparse.Namespace) -> None:
@@ -121,7 +121,8 @@ def remove_rule(engine: Engine, words: argparse.Namespace) -> None:
     left = [it for it in rules if it["ID"] != words.id]
     if len(left) == len(rules):
         there = ", ".join(str(it["ID"]) for it in rules)
-        raise DeskError(f"the bucket has no rule {words.id!r}: {'its rules are ' + there if there else 'it has none'}")
+        why = f"its rules are {there}" if there else "it has none, so nothing is to be removed"
+        raise DeskError(f"the bucket has no rule {words.id!r}: {why}")
     set_rules(engine, words.bucket, left)
     print_done(words.json, bucket=words.bucket, rule=words.id, done="removed")
 

@@ -37,15 +37,15 @@ PARAMETER = re.compile(r" :\w+, which is (.+)")  # in the words of a query, wher
 # What is said beside an error of SQLite that has such a text.
 WHY = {
     "locked": ": a server or another program has the vault: see vaultdesk offline",
-    "no such table": ": is it a vault?",
-    "not a database": ": is it a vault?",
+    "no such table": ": is it a vault? --vault or $VAULT names it",
+    "not a database": ": is it a vault? --vault or $VAULT names it",
 }
 
 
 def _error(file: Path, error: sqlite3.Error) -> DeskError:
     said = SAID_BY_QUERY.fullmatch(str(error))
     if said:
-        return DeskError(PARAMETER.sub(r" \1", said[1].replace("''", "'")))
+        return DeskError(PARAMETER.sub(r" \1: vaultdesk find lists those there are", said[1].replace("''", "'")))
     why = next((words for text, words in WHY.items() if text in str(error)), "")
     return EngineError(f"{file}: {error}{why}")
 

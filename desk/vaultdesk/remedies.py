@@ -16,7 +16,7 @@ NAME = re.compile(r"[a-z0-9_.-]{1,64}")
 DENIALS = {
     "unknown-caller": "no open caller has the name {as!r}, which --as or $VAULT_CALLER gives: vaultdesk callers lists"
     " them",
-    "department": "the bucket is another department's, and callers work only on those of their own: let a caller of"
+    "department": "the bucket or the report is another department's, and callers have only their own: let a caller of"
     " that department ask",
     "legal-hold": "a legal hold is on: lift it first (vaultdesk release), by a caller with the right hold",
     "retention-compliance": "a retention in COMPLIANCE is in force: nobody removes it or shortens it before its end",

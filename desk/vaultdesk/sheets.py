@@ -19,7 +19,7 @@ from pathlib import Path
 from typing import Any
 from xml.parsers import expat
 
-from vaultdesk.errors import DeskError
+from vaultdesk.errors import DeskError, of_file
 
 MOST_CSV = 16_777_216  # bytes
 MOST_PACKED, MOST_UNPACKED = 8_388_608, 33_554_432  # bytes of an xlsx, and of its texts
@@ -54,7 +54,7 @@ def read(path: Path) -> Iterator[Sheet]:
         else:
             yield from _of_csv(content)
     except OSError as error:
-        raise DeskError(f"{path}: {error.strerror}") from error
+        raise of_file(path, error) from error
     except (DeskError, csv.Error) as error:
         raise DeskError(f"{path}: {error}") from error
 

@@ -57,21 +57,29 @@ class Parser(argparse.ArgumentParser):
         given, those = found["given"].strip("'"), found["those"].replace("'", "").split(", ")
         guess = nearest(given, those)
         if found["name"] in ("COMMAND", "KIND"):
-            return f"there is no {self.prog} {given}{guess or ': ' + self._help() + ' lists what there is'}"
-        return f"argument {found['name']}: {given} is none of {', '.join(those)}{guess}"
+            what = "there is no command" if found["name"] == "COMMAND" else f"{self.prog} has no"
+            return f"{what} {given!r}{guess or ': ' + self._help() + ' lists what there is'}"
+        commas = ": each is a word of its own, without commas" if "," in given else ""
+        return f"argument {found['name']}: {given} is none of {', '.join(those)}{commas}"
 
     def _help(self) -> str:
         first, *kind = self.prog.split()
         return " ".join([first, "help", *kind])
 
+    def options(self) -> list[str]:
+        """The names of its options."""
+        return [name for it in self._actions for name in it.option_strings]
+
     def refuse_words(self, words: Sequence[str]) -> NoReturn:
         """Ends the program with status 2, as it doesn't know these words."""
-        options = [name for it in self._actions for name in it.option_strings]
         unknown = next((it for it in words if it.startswith("-")), None)
         if unknown is None:
             why = 'a name with blanks stands in quotes, as "2025/002 Miller"'
             self.error(f"too many words, from {words[0]!r} on: {why}")
         name = unknown.partition("=")[0]
+        if name == "--vault":
+            self.error("the vault is a word of its own here, and no option")
+        options = [*self.options(), *(LEADING if kinds_of(self) else ())]
         self.error(f"there is no option {name}{nearest(name, options) or ': --help lists those there are'}")
 
 
@@ -84,21 +92,23 @@ def _leaf(parser: argparse.ArgumentParser, words: Sequence[str]) -> tuple[argpar
     return parser, count
 
 
-def arranged(parser: argparse.ArgumentParser, given: Sequence[str]) -> list[str]:
+def arranged(parser: Parser, given: Sequence[str]) -> list[str]:
     """The words as the parser takes them: options that stand before the command come after it, and `help WORD` is
-    `WORD --help`."""
-    first, rest = list[str](), list(given)
+    `WORD --help`. The program ends with status 2 where another option stands there."""
+    name, first, rest = "", list[str](), list(given)
     while rest and (name := rest[0].partition("=")[0]) in LEADING:
         is_pair = LEADING[name] and "=" not in rest[0]
         first += rest[:2] if is_pair else rest[:1]
         rest = rest[2:] if is_pair else rest[1:]
     if rest[:1] == ["help"]:
         return [*rest[1:], "--help"]
+    if rest and rest[0].startswith("-") and not any(it.startswith(name) for it in parser.options()):
+        parser.refuse_words(rest[:1])
     _, count = _leaf(parser, rest)
     return [*rest[:count], *first, *rest[count:]]
 
 
-def parsed(parser: argparse.ArgumentParser, given: Sequence[str] | None) -> argparse.Namespace:
+def parsed(parser: Parser, given: Sequence[str] | None) -> argparse.Namespace:
     """What the words ask for. The program ends with status 2 where they aren't understood."""
     words = arranged(parser, sys.argv[1:] if given is None else given)
     asked, left = parser.parse_known_args(words)

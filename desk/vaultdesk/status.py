@@ -29,7 +29,7 @@ def asked(engine: Engine, do: str, **members: Any) -> Mapping[str, Any]:
         raise UsageError(f"--at {engine.at}: a server says how things are now: leave --at out")
     door = engine.door
     if door is None:
-        raise DeskError("no server of the vault takes lines: there is none that could be asked")
+        raise DeskError("no server of the vault takes lines: systemctl start vault-serve@NAME starts one")
     return door.ask(engine.desk.caller, do, **members)
 
 

@@ -10,7 +10,7 @@ from pathlib import Path
 from typing import Any
 
 from vaultdesk.engine import Engine
-from vaultdesk.errors import DeskError, UsageError
+from vaultdesk.errors import DeskError, UsageError, of_file
 from vaultdesk.history import number as version_number
 
 
@@ -51,12 +51,14 @@ def _of_row(place: str, row: Mapping[str, str], bucket: str | None) -> Target:
     if not there:
         raise DeskError(f"{place}: no bucket is named: give BUCKET, or a list with the column bucket")
     if bucket and there != bucket:
-        raise DeskError(f"{place}: its bucket is {there!r}, and not {bucket!r}: nothing was changed")
+        why = f"its bucket is {there!r}, and not {bucket!r}"
+        raise DeskError(f"{place}: {why}: mend the list, or leave BUCKET out; nothing was changed")
     if not row["key"]:
-        raise DeskError(f"{place}: it has no key: nothing was changed")
+        raise DeskError(f"{place}: it has no key: give it one, or remove the record; nothing was changed")
     version = row.get("version", "")
     if version and not (version.isascii() and version.isdecimal()):
-        raise DeskError(f"{place}: {version!r} is no version's number: nothing was changed")
+        why = f"{version!r} is no version's number, which is a whole number from 1 on"
+        raise DeskError(f"{place}: {why}: mend it, or leave the cell empty; nothing was changed")
     return Target(there, row["key"], int(version) if version else None)
 
 
@@ -64,13 +66,16 @@ def _by_list(path: Path, bucket: str | None) -> Iterator[Target]:
     try:
         with path.open(encoding="utf-8-sig", newline="") as file:
             rows = [it for it in csv.reader(file, strict=True) if it]
-    except (OSError, UnicodeDecodeError, csv.Error) as error:
+    except OSError as error:
+        raise of_file(path, error) from error
+    except (UnicodeDecodeError, csv.Error) as error:
         raise DeskError(f"{path}: {error}: save it as CSV in UTF-8 with commas") from error
     if not rows or "key" not in rows[0]:
         raise DeskError(f"{path}: the first record has no column 'key': save it as CSV in UTF-8 with commas")
     for number, row in enumerate(rows[1:], start=2):
         if len(row) != len(rows[0]):
-            raise DeskError(f"{path}: record {number} has {len(row)} cells, and the first one {len(rows[0])}")
+            why = f"record {number} has {len(row)} cells, and the first one {len(rows[0])}"
+            raise DeskError(f"{path}: {why}: mend the list; nothing was changed")
         yield _of_row(f"{path}: record {number}", dict(zip(rows[0], row)), bucket)
 
 

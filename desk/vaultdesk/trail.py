@@ -15,7 +15,7 @@ from typing import Any
 from vaultdesk import moments
 from vaultdesk.documents import MOST
 from vaultdesk.engine import Engine
-from vaultdesk.errors import DeskError, UsageError
+from vaultdesk.errors import DeskError, UsageError, of_file
 from vaultdesk.output import counted_off, print_json
 
 NAME = re.compile(r"[A-Za-z0-9:@\\._-]{1,255}")  # as systemd allows it for a unit
@@ -68,7 +68,7 @@ def _content(words: argparse.Namespace, day: dt.date) -> bytes:
     try:
         return sys.stdin.buffer.read() if words.path == "-" else Path(words.path).read_bytes()
     except OSError as error:
-        raise DeskError(f"{words.path}: {error.strerror}") from error
+        raise of_file(words.path, error) from error
 
 
 def _day(words: argparse.Namespace, now: str) -> dt.date:

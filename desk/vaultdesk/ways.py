@@ -102,6 +102,9 @@ class Replay:
         return reply
 
     def _start(self) -> None:
+        with contextlib.suppress(OSError):
+            if not self.file.exists():  # the engine would call it damaged
+                raise EngineError(f"{self.file}: there is no such file: --vault or $VAULT names the vault")
         self._say_if_large()
         self._said = tempfile.TemporaryFile("w+", encoding="utf-8", errors="replace")
         words = [self.program, "replay", str(self.file)]

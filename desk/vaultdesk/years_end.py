@@ -13,7 +13,7 @@ from typing import Any
 
 from vaultdesk import evidence, moments, parts, reading, spreadsheet
 from vaultdesk.engine import Engine
-from vaultdesk.errors import DeskError, Refused, UsageError
+from vaultdesk.errors import DeskError, Refused, UsageError, of_file
 from vaultdesk.history import number
 from vaultdesk.output import counted_off, print_json, print_table, say
 
@@ -98,7 +98,7 @@ def certificates(engine: Engine, words: argparse.Namespace) -> None:
             texts.append(CERTIFICATE.format(html.escape(text)))
         page.write_text(PAGE.format("\n".join(texts)), encoding="utf-8")
     except OSError as error:
-        raise DeskError(f"{error.filename}: {error.strerror}") from error
+        raise of_file(error.filename, error) from error
     if words.json:
         print_json([it["version"] for it in rows])
     else:

@@ -40,6 +40,7 @@ RENAMED = {
 }
 # What is said to an S3 client, where the desk's words of a refusal name the desk's own.
 SAID = {
+    "Device": "the vault's file failed: whether the change was made isn't known",
     "IntakeConflict": "that amz-sdk-invocation-id, or signature, was used for a put of another key, content or lock",
     "InvalidArgument": "the vault has no such value, or doesn't allow it there",
     "InvalidBucketName": "a bucket's name has 3 to 63 of a-z, 0-9 and '-', with no '-' at an end",

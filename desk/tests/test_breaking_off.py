@@ -1,0 +1,164 @@
+"""A person who breaks a subcommand off: at a question, and in the middle of its work."""
+
+from __future__ import annotations
+
+import os
+import pty
+import signal
+import sys
+import time
+from pathlib import Path
+from typing import Any
+from unittest import mock
+
+from tests.office import OfficeTest
+from tests.served import ServedTest
+from vaultdesk import intake
+from vaultdesk.engine import Engine
+
+TOP = Path(__file__).resolve().parents[2]
+
+
+class AtATerminal(OfficeTest):
+    def typed(self, letters: bytes, *words: str) -> tuple[int, str]:
+        """The status of the desk at a terminal at which these letters are typed as it asks, and what it shows there."""
+        child, terminal = pty.fork()
+        if child == 0:
+            signal.signal(signal.SIGINT, signal.SIG_DFL)  # else what runs these tests may have it ignored
+            os.execv(sys.executable, [sys.executable, "-B", str(TOP / "desk" / "bin" / "vaultdesk"), *words])
+        shown = b""
+        while not shown.endswith(b"[yes/no] "):
+            shown += os.read(terminal, 1024)
+        os.write(terminal, letters)
+        shown += self.rest(terminal)
+        _, status = os.waitpid(child, 0)
+        os.close(terminal)
+        return os.waitstatus_to_exitcode(status), shown.decode()
+
+    def rest(self, terminal: int) -> bytes:
+        """What else is shown, up to the end of the program."""
+        shown = b""
+        try:
+            while piece := os.read(terminal, 1024):
+                shown += piece
+        except OSError:  # nothing has the terminal open any more
+            pass
+        return shown
+
+    def test_the_end_of_input_and_an_interrupt_are_a_no(self) -> None:
+        self.lines({"do": "put", "bucket": "docs", "key": "a", "text": "a"})
+        for letters in (b"\x04", b"\x03"):
+            status, shown = self.typed(letters, "delete", "docs", "a", "--version", "1")
+            self.assertEqual(status, 1, shown)
+            self.assertTrue(shown.endswith("\nvaultdesk delete: nothing was changed\r\n"), shown)
+            self.assertNotIn("Traceback", shown)
+        self.assertIn("a", self.done("ls", "docs"))
+
+
+class InTheMiddle(OfficeTest):
+    def setUp(self) -> None:
+        super().setUp()
+        self.lines(*({"do": "put", "bucket": "docs", "key": key, "text": key} for key in "abcd"))
+
+    def broken_off_at(self, number: int) -> Any:
+        """The engine's `ask`, which a person breaks off at the change of that number, as it is made."""
+        ask, count = Engine.ask, [0]
+
+        def asked(engine: Engine, do: str, *names: str | None, **members: Any) -> dict[str, Any]:
+            found = ask(engine, do, *names, **members)
+            count[0] += do != "head"
+            if count[0] == number and do != "head":
+                raise KeyboardInterrupt
+            return found
+
+        return mock.patch.object(Engine, "ask", asked)
+
+    def test_each_row_says_whether_it_was_done(self) -> None:
+        with self.broken_off_at(2):
+            done = self.desk("hold", "docs", "--prefix", "")
+        self.assertEqual(done.status, 1)
+        rows = [it.split() for it in done.out.splitlines()]
+        self.assertEqual([it[-1] for it in rows[1:5]], list("abcd"))
+        self.assertIn("Interrupted: it was under way, and may have been changed", done.out)
+        self.assertIn("Left: it wasn't come to, and is as it was", done.out)
+        self.assertIn("3 of 4 were refused, and the others were done", done.err)
+        self.assertEqual([self.hold_of(it) for it in "abcd"], ["ON", "ON", "OFF", "OFF"])
+
+    def hold_of(self, key: str) -> str:
+        return next(it.split()[1] for it in self.done("info", "docs", key).splitlines() if it.startswith("hold"))
+
+    def test_what_was_made_until_then_is_counted(self) -> None:
+        self.done("buckets", "--add", "more", "--department", "records", "--as", "registrar")
+        for bucket in ("docs", "more"):
+            self.done("rules", "add", bucket, "--id", "old", "--days", "1")
+        with mock.patch("vaultdesk.policies.foreseen", return_value=([{"night": ""}], [])), self.broken_off_at(2):
+            done = self.desk("expire", "records", "--yes")
+        self.assertEqual(done.status, 1)
+        self.assertIn("vaultdesk expire: interrupted: 2 changes were made, and stay", done.err)
+
+    def test_nothing_was_changed_where_nothing_was_asked_for(self) -> None:
+        with mock.patch("vaultdesk.documents.read_content", side_effect=KeyboardInterrupt):
+            done = self.desk("put", "docs", "e", "none")
+        self.assertEqual((done.status, done.err), (1, "vaultdesk put: interrupted: nothing was changed\n"))
+
+    def test_a_change_under_way_is_named(self) -> None:
+        with mock.patch("vaultdesk.ways.Replay.answer", side_effect=KeyboardInterrupt):
+            done = self.desk("put", "docs", "e", self.written("a.txt", b"a"))
+        self.assertEqual(done.status, 1)
+        self.assertIn("but for one that was under way (put): look whether it was made", done.err)
+
+    def test_what_asks_no_vault_ends_without_a_traceback(self) -> None:
+        with mock.patch("vaultdesk.backup.backup", side_effect=KeyboardInterrupt):
+            done = self.desk("backup", str(self.file), str(self.folder / "copies"), at=None)
+        self.assertEqual((done.status, "interrupted: look how far it came" in done.err), (1, True))
+
+
+class Interrupted(OfficeTest):
+    """The desk as a process of its own, which gets the signal of Ctrl-C while the engine is at work."""
+
+    def test_the_vault_is_closed_and_what_was_done_is_said(self) -> None:
+        listed = self.written("list.csv", b"key\n" + b"".join(b"%d\n" % it for it in range(2_000)))
+        self.lines(*({"do": "put", "bucket": "docs", "key": str(it), "text": "a"} for it in range(2_000)))
+        out, err = os.pipe()
+        words = [sys.executable, "-B", str(TOP / "desk" / "bin" / "vaultdesk"), "hold", "docs", "--from", listed]
+        child = os.posix_spawn(sys.executable, words, os.environ, file_actions=[
+            (os.POSIX_SPAWN_DUP2, err, 1), (os.POSIX_SPAWN_DUP2, err, 2),
+        ], setsigdef=[signal.SIGINT])  # fmt: skip
+        os.close(err)
+        time.sleep(1.5)
+        os.kill(child, signal.SIGINT)
+        said = b""
+        while piece := os.read(out, 65_536):
+            said += piece
+        os.close(out)
+        _, status = os.waitpid(child, 0)
+        self.assertEqual(os.waitstatus_to_exitcode(status), 1, said[-500:])
+        self.assertIn(b"Interrupted: it was under way", said)
+        self.assertNotIn(b"Traceback", said)
+        self.assertEqual(self.done("verify", at=None), "sound\n")
+
+
+class OfADelivery(ServedTest):
+    def setUp(self) -> None:
+        super().setUp()
+        (self.folder / "scans").mkdir()
+        for name in ("1.txt", "2.txt", "3.txt"):
+            self.written(f"scans/{name}", name.encode())
+
+    def test_what_came_in_stays_and_is_counted(self) -> None:
+        self.serve()
+        content, count = intake._content, [0]
+
+        def read(path: Path) -> bytes:
+            count[0] += 1
+            if count[0] == 3:
+                raise KeyboardInterrupt
+            return content(path)
+
+        words = ("deliver", str(self.folder / "scans"), "--bucket", "docs", "--batch", "b1", "--yes")
+        with mock.patch.object(intake, "_content", read):
+            done = self.desk(*words, at=None)
+        self.assertEqual(done.status, 1)
+        self.assertIn("interrupted: 2 rows were answered, and what came in stays: give the same command", done.err)
+        self.assertIn("3 of 3 rows are in the vault", self.desk(*words, at=None).out)
+        self.assertEqual(len(self.done("ls", "docs", at=None).splitlines()), 4)
