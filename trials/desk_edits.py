@@ -19,6 +19,7 @@ MOMENTS, ROWS, PARTS = "test_moments.Moments.", "test_moments.Rows.", "test_nigh
 LINES, KNOWN = "test_engine.Lines.", "test_engine.Known."
 LOCK, COLUMN, SHEETS = "test_inventory.Locks.", "test_inventory.Columns.", "test_sheets.Spreadsheets."
 DATES, PATHS = "test_inventory.Dates.", "test_inventory.Paths."
+REFUSALS, SPELLING, BROKEN_OFF = "test_refusals.", "test_spelling.", "test_breaking_off."
 EDITS = [
     # keys that are altered
     ("contrib/queries/find.sql", "substr(key, 1, length(:prefix)) = :prefix", "key LIKE :prefix || '%'",
@@ -396,7 +397,39 @@ EDITS = [
     # lines to the engine, and its answers
     ("engine", "if value is not None}", "if value}", LINES + "test_what_is_empty_is_asked_and_what_isnt_given_is_left_out"),
     ("engine", "asker or self.desk.caller", "self.desk.caller", LINES + "test_who_asks_is_the_caller_or_who_is_named"),
-    ("engine", "            raise refused(reply[\"error\"])\n", "            return {}\n", LINES + "test_no_refusal_is_an_answer"),
+    ("engine", "            raise refused(reply[\"error\"], dated, self._answer.said, is_dated=self.at is not None)\n",
+     "            return {}\n", LINES + "test_no_refusal_is_an_answer"),
+    # refusals in words
+    ("refusals", "    value = _of_value(line, said) if code in OF_VALUES else None\n", "    value = None\n",
+     REFUSALS + "ByTheDoor.test_each_mistake_has_the_same_words"),
+    ("refusals", "    if named and named[1] in FORMS:\n", "    if False:\n",
+     REFUSALS + "Said.test_the_member_that_the_engine_names_is_the_one"),
+    ("refusals", "        return _of_engine(said)\n", "        pass\n", REFUSALS + "Said.test_what_the_engine_alone_says_comes_through"),
+    ("refusals", "    words = AT.get(code) if is_dated else None\n", "    words = None\n",
+     SPELLING + "There.test_a_moment_that_was_given_is_the_slip"),
+    ("refusals", "yield from _members(value[-1] if value else {})", "yield from _members({})",
+     REFUSALS + "ByTheFile.test_each_mistake_has_its_words"),
+    ("s3/faults", "    words = SAID.get(name) or str(refusal)", "    words = str(refusal)",
+     REFUSALS + "Said.test_an_s3_client_reads_nothing_of_the_desk"),
+    ("cli", "raise DeskError(f\"{error}{buckets_there(engine, error)}\") from error", "raise",
+     SPELLING + "There.test_buckets_that_are_there_are_named"),
+    ("cli", "        except KeyboardInterrupt as error:\n            raise DeskError(f\"interrupted: {engine.changed}\") from error\n", "",
+     BROKEN_OFF + "InTheMiddle.test_what_was_made_until_then_is_counted"),
+    ("engine", "self._made += bool(\"ok\" in reply and self._under_way)", "self._made += 0",
+     BROKEN_OFF + "InTheMiddle.test_what_was_made_until_then_is_counted"),
+    ("engine", "            self._under_way = do\n", "", BROKEN_OFF + "InTheMiddle.test_a_change_under_way_is_named"),
+    ("locks", "        except KeyboardInterrupt:\n            row[\"refused\"], is_broken_off = UNDER_WAY, True\n", "",
+     BROKEN_OFF + "InTheMiddle.test_each_row_says_whether_it_was_done"),
+    ("asking", "except (EOFError, KeyboardInterrupt) as error:", "except ArithmeticError as error:",
+     BROKEN_OFF + "AtATerminal.test_the_end_of_input_and_an_interrupt_are_a_no"),
+    ("intake", "    except KeyboardInterrupt as error:\n        done =", "    except ArithmeticError as error:\n        done =",
+     BROKEN_OFF + "OfADelivery.test_what_came_in_stays_and_is_counted"),
+    ("spelling", "    if rest[:1] == [\"help\"]:\n", "    if False:\n", SPELLING + "Typed.test_help_is_a_word_too"),
+    ("spelling", "    return [*rest[:count], *first, *rest[count:]]", "    return [*first, *rest]",
+     SPELLING + "Typed.test_options_of_all_may_stand_before_the_command"),
+    ("policies", "    if owner:\n", "    if False:\n", SPELLING + "There.test_a_bucket_in_the_place_of_a_department"),
+    ("exporting", "    if not words.force and not _is_free(Path(words.folder)):\n", "    if False:\n",
+     SPELLING + "There.test_a_folder_with_other_files_is_no_export"),
     ("engine", "        raise EngineError(f\"the run stopped after {stopped['changes']} changes, which stand: {stopped['fault']}\")\n",
      "        return dict(stopped)\n",
      LINES + "test_no_refusal_is_an_answer"),

@@ -18,7 +18,7 @@ EDITS = [
     ("engine", "        if self._past is not None:\n            self._past.close()\n        if self._tables", "        if self._tables",
      SAME),
     # copies
-    ("engine", "            self._forget_tables()\n        given", "        given", BATCH),
+    ("engine", "            self._forget_tables()\n            self._under_way", "            self._under_way", BATCH),
     ("snapshot", "    if not is_taken(file):\n", "    if True:\n", SAME),
     ("snapshot", "return before == _head(log) and changes[:HEAD] in (b\"\", before)", "return True",
      LOG + "test_a_log_that_is_begun_anew_meanwhile_has_it_tried_again"),

@@ -61,7 +61,7 @@ class InTheMiddle(OfficeTest):
         self.lines(*({"do": "put", "bucket": "docs", "key": key, "text": key} for key in "abcd"))
 
     def broken_off_at(self, number: int) -> Any:
-        """The engine's `ask`, which a person breaks off at the change of that number, as it is made."""
+        """The engine's `ask`, which a person breaks off at the line of that number, as it is made."""
         ask, count = Engine.ask, [0]
 
         def asked(engine: Engine, do: str, *names: str | None, **members: Any) -> dict[str, Any]:
@@ -74,7 +74,7 @@ class InTheMiddle(OfficeTest):
         return mock.patch.object(Engine, "ask", asked)
 
     def test_each_row_says_whether_it_was_done(self) -> None:
-        with self.broken_off_at(2):
+        with self.broken_off_at(3):  # after the list, of the second key
             done = self.desk("hold", "docs", "--prefix", "")
         self.assertEqual(done.status, 1)
         rows = [it.split() for it in done.out.splitlines()]
