@@ -72,7 +72,9 @@ def ran_desk(folder: Path, words: list[str], typed: str, environment: dict[str, 
                 status, _ = 1, err.write(f"Traceback: {type(error).__name__}\n")
     out.flush()
     assert isinstance(out.buffer, io.BytesIO)
-    return Ran(status, out.buffer.getvalue().decode("utf-8", "surrogateescape"), err.getvalue())
+    # Pages are named by their paths.
+    texts = (out.buffer.getvalue().decode("utf-8", "surrogateescape"), err.getvalue())
+    return Ran(status, *(it.replace(f"{TOP}/", "") for it in texts))
 
 
 def ran_step(folder: Path, run: dict[str, Any]) -> Ran:

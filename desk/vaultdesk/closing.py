@@ -20,7 +20,7 @@ def end(door: LinesDoor, caller: str) -> None:
     """
     reply = door.end(caller).reply
     if "error" in reply:
-        raise refused(reply["error"])
+        raise refused(reply["error"], {"as": caller, "do": "close"})
 
 
 def close(engine: Engine, words: argparse.Namespace) -> None:

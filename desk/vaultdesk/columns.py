@@ -11,7 +11,7 @@ import sys
 import unicodedata
 from collections.abc import Iterable, Mapping, Sequence
 
-from vaultdesk import config
+from vaultdesk import beside, config
 from vaultdesk.asking import asked
 from vaultdesk.errors import DeskError, UsageError
 from vaultdesk.output import say
@@ -51,7 +51,7 @@ NAMES = {
     "admitted": IGNORED,
 }
 ALL = ""  # of --ignore-columns: all that aren't known
-PAGE = "docs/INVENTORY.md has the names that are known"
+PAGE = f"{beside.page('INVENTORY')} has the names that are known"
 Meanings = Mapping[str, str]
 
 

@@ -53,12 +53,13 @@ class LinesDoor:
     def ask(self, caller: str, do: str, **members: Any) -> Mapping[str, Any]:
         """What the server answers to a line that isn't a command. `Refused` where it refuses that, `EngineError` where
         no reply comes, `DeskError` where the server is of an earlier version."""
-        reply = self.answer({"as": caller, "do": do, **members}, None).reply
+        line = {"as": caller, "do": do, **members}
+        reply = self.answer(line, None).reply
         if "ok" in reply:
             return dict(reply["ok"])
         if reply["error"]["code"] == "MalformedBody":
             raise DeskError(f"the server is of an earlier version, which doesn't answer `{do}`")
-        raise refused(reply["error"])
+        raise refused(reply["error"], line)
 
     def close(self) -> None:
         """Nothing is open between two lines."""

@@ -74,7 +74,7 @@ class Parser(argparse.ArgumentParser):
         """Ends the program with status 2, as it doesn't know these words."""
         unknown = next((it for it in words if it.startswith("-")), None)
         if unknown is None:
-            why = 'a name with blanks stands in quotes, as "2025/002 Miller"'
+            why = 'a name with blanks stands in quotes, as "2025/002 permit"'
             self.error(f"too many words, from {words[0]!r} on: {why}")
         name = unknown.partition("=")[0]
         if name == "--vault":
