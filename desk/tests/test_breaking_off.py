@@ -4,6 +4,7 @@ from __future__ import annotations
 
 import os
 import pty
+import select
 import signal
 import sys
 import time
@@ -26,24 +27,27 @@ class AtATerminal(OfficeTest):
         if child == 0:
             signal.signal(signal.SIGINT, signal.SIG_DFL)  # else what runs these tests may have it ignored
             os.execv(sys.executable, [sys.executable, "-B", str(TOP / "desk" / "bin" / "vaultdesk"), *words])
-        shown = b""
-        while not shown.endswith(b"[yes/no] "):
-            shown += os.read(terminal, 1024)
+        self.addCleanup(os.close, terminal)
+        shown = self.shown(terminal, b"[yes/no] ")
+        # A signal that comes before the desk waits for letters is seen with the next letter alone.
+        while Path(f"/proc/{child}/stat").read_text().rpartition(") ")[2][0] != "S":
+            time.sleep(0.01)
         os.write(terminal, letters)
-        shown += self.rest(terminal)
+        shown += self.shown(terminal)
         _, status = os.waitpid(child, 0)
-        os.close(terminal)
         return os.waitstatus_to_exitcode(status), shown.decode()
 
-    def rest(self, terminal: int) -> bytes:
-        """What else is shown, up to the end of the program."""
-        shown = b""
-        try:
-            while piece := os.read(terminal, 1024):
-                shown += piece
-        except OSError:  # nothing has the terminal open any more
-            pass
-        return shown
+    def shown(self, terminal: int, last: bytes = b"\0") -> bytes:
+        """What is shown up to these letters, or the end of the program."""
+        found, until = b"", time.monotonic() + 60
+        while not found.endswith(last):
+            is_ready, _, _ = select.select([terminal], [], [], max(0, until - time.monotonic()))
+            self.assertTrue(is_ready, found)
+            try:
+                found += os.read(terminal, 1024)
+            except OSError:  # nothing has the terminal open any more
+                return found
+        return found
 
     def test_the_end_of_input_and_an_interrupt_are_a_no(self) -> None:
         self.lines({"do": "put", "bucket": "docs", "key": "a", "text": "a"})
