@@ -101,7 +101,7 @@ class Awkward(OfficeTest):
             (1, "InvalidArgument", "hold", "docs", "tab\t"),
             (1, "NoSuchBucket", "hold", "dogs", "plain"),
             (1, "NoSuchVersion", "get", "docs", "plain", "--version", "999999"),
-            (1, "no file is there", "ls", "docs", "--vault", str(Path(self.folder) / "none.vault")),
+            (1, "there is no such file", "ls", "docs", "--vault", str(Path(self.folder) / "none.vault")),
             (1, "absent", "put", "docs", "plain", "absent"),
             (2, "usage: vaultdesk put", "put", "docs", "k"),
             (2, "usage: vaultdesk get", "get", "docs"),

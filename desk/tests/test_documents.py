@@ -345,7 +345,7 @@ class Engines(OfficeTest):
     def test_a_missing_vault_is_said_in_words(self) -> None:
         done = self.desk("ls", "docs", "--vault", str(self.folder / "none.vault"))
         self.assertEqual((done.status, done.out), (1, ""))
-        self.assertIn("Damaged meta", done.err)
+        self.assertIn("there is no such file: --vault or $VAULT names the vault", done.err)
 
     def test_a_missing_program_is_said_in_words(self) -> None:
         with mock.patch.dict("os.environ", {"VAULTCTL": "/nowhere/vaultctl"}):
