@@ -428,8 +428,6 @@ EDITS = [
     ("spelling", "    return [*rest[:count], *first, *rest[count:]]", "    return [*first, *rest]",
      SPELLING + "Typed.test_options_of_all_may_stand_before_the_command"),
     ("policies", "    if owner:\n", "    if False:\n", SPELLING + "There.test_a_bucket_in_the_place_of_a_department"),
-    ("exporting", "    if not words.force and not _is_free(Path(words.folder)):\n", "    if False:\n",
-     SPELLING + "There.test_a_folder_with_other_files_is_no_export"),
     ("engine", "        raise EngineError(f\"the run stopped after {stopped['changes']} changes, which stand: {stopped['fault']}\")\n",
      "        return dict(stopped)\n",
      LINES + "test_no_refusal_is_an_answer"),

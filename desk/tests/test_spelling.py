@@ -126,17 +126,6 @@ class There(OfficeTest):
         self.assertIn("none.vault: there is no such file: --vault or $VAULT names the vault", done.err)
         self.assertNotIn("amaged", done.err)
 
-    def test_a_folder_with_other_files_is_no_export(self) -> None:
-        self.lines({"do": "put", "bucket": "docs", "key": "a", "text": "a"})
-        out = self.folder / "out"
-        out.mkdir()
-        (out / "other.txt").write_text("other")
-        done = self.desk("export", "docs", str(out))
-        self.assertEqual((done.status, len(list(out.iterdir()))), (1, 1))
-        self.assertIn("out has other files", done.err)
-        self.done("export", "docs", str(out), "--force")
-        self.assertEqual(len(list(out.iterdir())), 3)
-
     def test_a_moment_that_was_given_is_the_slip(self) -> None:
         done = self.desk("ls", "docs", at="2024-01-01T00:00:00Z")
         self.assertIn("ClockBack: --at 2024-01-01T00:00:00Z is before the vault's last change", done.err)

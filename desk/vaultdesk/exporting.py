@@ -16,7 +16,7 @@ from typing import Any, BinaryIO
 from vaultdesk import spreadsheet
 from vaultdesk.documents import checked_content
 from vaultdesk.engine import Engine
-from vaultdesk.errors import DeskError
+from vaultdesk.errors import DeskError, of_file
 from vaultdesk.output import counted_off, print_json, say
 
 LISTED = ("file", "key", "version", "size", "sha256", "admitted")
@@ -137,7 +137,7 @@ def export(engine: Engine, words: argparse.Namespace) -> None:
         rows = [_exported(engine, words, target, it, name) for it, name in named]
         _list(target, rows)
     except OSError as error:
-        raise DeskError(f"{error.filename or words.folder}: {error.strerror}") from error
+        raise of_file(error.filename or words.folder, error) from error
     if words.json:
         print_json(rows)
     else:
