@@ -94,7 +94,7 @@ class Target:
 
 def _look_empty(folder: Path) -> None:
     """`DeskError` where a folder has files."""
-    first = next(folder.iterdir(), None) if folder.is_dir() else None
+    first = min(folder.iterdir(), default=None) if folder.is_dir() else None
     if first:
         ways = "give --into-existing to write beside what is there, or --force to write over files of the same names"
         raise DeskError(f"{folder} has files already, {first.name} among them: name a new folder, {ways}")
