@@ -1,5 +1,4 @@
-//! The texts of rows, and of runs and moves that a device stops, which tests carry out over both kinds of keeper.
+//! The texts of runs and moves that a device stops, which tests carry out over both kinds of keeper.
 #![tactic(auto)]
 
 pub mod stops;
-pub mod texts;
