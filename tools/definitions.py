@@ -27,9 +27,9 @@ COMMENTS = ("-- ", "///", "//!", "#[")
 # values of a text are at fault, its definition alone says which refusal comes, and of several which one first.
 READERS = {
     ("vault_base_time/specs/Moment.antt", "moment_of"): "Moment::read",
-    ("vault_http_lines/specs/ReadLine.antt", "line_of"):
+    ("vault_lines_read/specs/ReadLine.antt", "line_of"):
         "commands_are_spelled other_shapes_are_malformed empty_lines_are_skipped",
-    ("vault_http_lines/specs/Stamped.antt", "stamped_line_of"):
+    ("vault_lines_read/specs/Stamped.antt", "stamped_line_of"):
         "stamped_commands_are_spelled other_timeless_shapes_are_malformed empty_timeless_lines_are_skipped",
     ("vault_http_request/specs/Command.antt", "command_of"): "bodies_are_spelled other_bodies_are_malformed",
 }

@@ -1,4 +1,4 @@
-"""Allocations: each of a script's or a job's is refused in turn, and want of memory loses nothing.
+"""Allocations: each of a script's or a job's is refused in turn, and out of memory loses nothing.
 
 The script is examples/every-command.jsonl, given to `replay`. In each run one allocation of the program is refused,
 from its first one on, by a library that is loaded into it. The run is right where one of these holds:
@@ -84,7 +84,7 @@ class Reference:
 
 
 class Wrong(AssertionError):
-    """Why want of memory can't have an outcome."""
+    """Why out of memory can't have an outcome."""
 
 
 def judge(reference, outcome):

@@ -281,7 +281,7 @@ def try_night(root):
 
 
 def try_kept(root):
-    """KEEP copies stay, the newest; what isn't a copy of this vault stays too. Want of memory is said beforehand."""
+    """KEEP copies stay, the newest; what isn't a copy of this vault stays too. Out of memory is said beforehand."""
     root.configure("records", KEEP=2)
     folder = "/var/backups/vaultctl"
     others = ["records-2-20200101T000000Z.vault", "records-20200101T000000Z.vault.damaged", "records-old.vault"]

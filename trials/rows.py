@@ -4,7 +4,7 @@ A row is a script over a new vault and its replies: NAME.jsonl and NAME.out in `
 by `long_rows.py`. Each is given over a vault in memory; over a file, at once; over a file, line by line, so that it
 is closed and opened between any two; and over a file in odd pieces through a pipe, each of which is one read. Where
 each line has a reply, it is also given as a conversation: the next line is written once that reply has come.
-No reply may be of want of memory or of a device that failed, and the file is sound after each. Where there is
+No reply may be of out of memory or of a device that failed, and the file is sound after each. Where there is
 NAME.csv, that is the file's register after each. On standard error there is a line of words for each line that is
 refused, and nothing else; where there is NAME.err, that is all of it, given at once. TRIALS_ROWS is a folder with
 more scripts and their replies, which are given to the program in memory alone.
@@ -129,7 +129,7 @@ def look_at_words(script, replies, explained):
 
 
 def tells_of_fault(reply):
-    """Whether a reply is of want of memory or of a device that failed."""
+    """Whether a reply is of out of memory or of a device that failed."""
     told = json.loads(reply)
     return told.get("error", {}).get("code") in FAULTS or told.get("stopped", {}).get("fault") in FAULTS
 

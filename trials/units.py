@@ -96,7 +96,7 @@ served=$(pid)
 is "$(stat -c %U /proc/$served)" vaultctl "the server's user"
 is "$(awk '/^CapEff/ { print $2 }' /proc/$served/status)" 0000000000000000 "what the server may do beyond its user"
 is "$(awk '/^NoNewPrivs/ { print $2 }' /proc/$served/status)" 1 "whether it may become more"
-is "$(systemctl show -P OOMScoreAdjust "$server")" -500 "when the kernel takes it for want of memory"
+is "$(systemctl show -P OOMScoreAdjust "$server")" -500 "when the kernel takes it where memory runs out"
 is "$(systemctl show -P Wants "$server" | grep -o 'time-sync.target')" time-sync.target "what comes first"
 case $(systemctl show -P After "$server") in *time-sync.target*) ;; *) fail "the time doesn't come first" ;; esac
 tell "security: $(systemd-analyze security --no-pager $server | tail -n 1)"

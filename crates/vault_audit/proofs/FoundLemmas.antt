@@ -13,7 +13,7 @@ use Rattle.vault_core_model.specs.declared.records.History.{History}
 use Rattle.vault_core_model.specs.declared.records.Note.{Note}
 use Rattle.vault_core_model.specs.Totals.{items_in}
 use Rattle.vault_core_model.specs.Vault.{config_in}
-use Rattle.vault_audit_model.specs.declared.schema.Edition.{Edition}
+use Rattle.vault_audit_model.specs.declared.schema.SchemaVersion.{SchemaVersion}
 use Rattle.vault_audit_model.specs.declared.rows.DepartmentRow.{DepartmentRow}
 use Rattle.vault_audit_model.specs.declared.rows.MetaRow.{MetaRow}
 use Rattle.vault_audit_model.specs.Relations.{IsWithin, department_with}
@@ -29,7 +29,7 @@ use Rattle.vault_audit.specs.Found.{AreFound, names_of, found_vault, HaveSums}
 use Rattle.vault_audit.proofs.NameLemmas.{name_column, names_are, same_names, by_name}
 use Rattle.vault_audit.proofs.WithinLemmas.{each_within}
 
-module _ (ed : Edition) (db : Database) (m : MetaRow) (departments : List DepartmentRow) (callers : List Caller) (buckets : List Bucket) (notes : List Note) (entries : List Entry) (contents settings tenures : List History) (summed : List (List ℕ)) (are : AreFound ed db m departments callers buckets notes entries contents settings tenures summed) where
+module _ (ed : SchemaVersion) (db : Database) (m : MetaRow) (departments : List DepartmentRow) (callers : List Caller) (buckets : List Bucket) (notes : List Note) (entries : List Entry) (contents settings tenures : List History) (summed : List (List ℕ)) (are : AreFound ed db m departments callers buckets notes entries contents settings tenures summed) where
   abbrev names : List (List ℕ)
   names = names_of departments
 

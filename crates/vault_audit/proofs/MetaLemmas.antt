@@ -9,8 +9,8 @@ use Rattle.sqlite.specs.State.{State, Shown, IsUnchanged}
 use Rattle.vault_base.specs.declared.refusal.Table.TheVariants as table
 use Rattle.vault_audit_model.specs.declared.rows.MetaRow.{MetaRow}
 use Rattle.vault_audit_records.specs.declared.meta.row.MetaPass.{MetaPass}
-use Rattle.vault_audit_model.specs.declared.schema.Edition.{Edition}
-use Rattle.vault_audit_model.specs.declared.schema.Edition.TheVariants.{First, Second, Third}
+use Rattle.vault_audit_model.specs.declared.schema.SchemaVersion.{SchemaVersion}
+use Rattle.vault_audit_model.specs.declared.schema.SchemaVersion.TheVariants.{First, Second, Third}
 use Rattle.vault_audit_model.specs.Rows.{meta_row, meta_columns_as}
 use Rattle.vault_audit_model.specs.Tables.{meta_tree}
 use Rattle.vault_audit_model.proofs.CommandLemmas.{meant}
@@ -24,23 +24,23 @@ use Rattle.vault_audit_walk.proofs.ScanLemmas.{walked, first_cmp}
 use Rattle.vault_audit_walk.proofs.PassLemmas.{walk_yes, walk_no}
 use Rattle.vault_audit.proofs.TextLemmas.{meta_query, meta_walks}
 
-abbrev source : Edition → Database → List Row
+abbrev source : SchemaVersion → Database → List Row
 source n db = map (meta_columns_as n) (db.trees meta_tree)
 
-answers : (n : Edition) (s : Schema) → BeginTo n s.tables table.Meta → (a b : State) → a.now.schema ≡ s → (rows : List Row) → Shown (meta_query n) [] a b rows → IsPermutation (source n a.now) rows × IsSorted first_cmp rows
+answers : (n : SchemaVersion) (s : Schema) → BeginTo n s.tables table.Meta → (a b : State) → a.now.schema ≡ s → (rows : List Row) → Shown (meta_query n) [] a b rows → IsPermutation (source n a.now) rows × IsSorted first_cmp rows
 answers First s begin a b has rows shown = let it = meta_walks First s begin in walked (meta_query First) a b s has it.plain it.unlisted meta_tree 0 (drop 1 (meta_terms First)) _ (meant s (meta_query First) it) refl rows shown
 answers Second s begin a b has rows shown = let it = meta_walks Second s begin in walked (meta_query Second) a b s has it.plain it.unlisted meta_tree 0 (drop 1 (meta_terms Second)) _ (meant s (meta_query Second) it) refl rows shown
 answers Third s begin a b has rows shown = let it = meta_walks Third s begin in walked (meta_query Third) a b s has it.plain it.unlisted meta_tree 0 (drop 1 (meta_terms Third)) _ (meant s (meta_query Third) it) refl rows shown
 
-abbrev start : Edition → MetaPass
-start n = record { edition = n; found = None }
+abbrev start : SchemaVersion → MetaPass
+start n = record { schema_version = n; found = None }
 
-rise : (n : Edition) (xs : List MetaRow) → AllFit meta_row IsFirstMeta with_meta (start n) xs → IsAscending (λ a b. first_cmp a b ≡ Less) (map meta_row xs)
+rise : (n : SchemaVersion) (xs : List MetaRow) → AllFit meta_row IsFirstMeta with_meta (start n) xs → IsAscending (λ a b. first_cmp a b ≡ Less) (map meta_row xs)
 rise n [] fit = tt
 rise n (x ∷ []) fit = (tt, tt)
 rise n (x ∷ y ∷ xs) fit = absurd (let never = fit.1.0.0 in cc)
 
-module _ (n : Edition) (old new : State) (begin : BeginTo n old.now.schema.tables table.Meta) (same : IsUnchanged old new) (r : MetaPass) where
+module _ (n : SchemaVersion) (old new : State) (begin : BeginTo n old.now.schema.tables table.Meta) (same : IsUnchanged old new) (r : MetaPass) where
   pub meta_yes : Walked (Takes meta_row IsFirstMeta with_meta) (Refuses meta_row IsFirstMeta with_meta) (meta_query n) old new (start n) r true → (x : MetaRow) → r.found ≡ Some x → IsMetaOf n new.now (Some x)
   meta_yes h = one (walk_yes meta_row IsFirstMeta with_meta same_meta old.now.schema (meta_query n) _ _ (meant old.now.schema (meta_query n) (meta_walks n old.now.schema begin)) (source n) (answers n old.now.schema begin) old new refl same (start n) r h)
     where

@@ -9,7 +9,7 @@ use Rattle.sqlite_value.specs.Order.{Row, column}
 use Rattle.sqlite.specs.Effect.{Database}
 use Rattle.vault_core_model.specs.Order.{IsAscending, name_cmp}
 use Rattle.vault_audit_model.specs.declared.rows.DepartmentRow.{DepartmentRow}
-use Rattle.vault_audit_model.specs.declared.schema.Edition.{Edition}
+use Rattle.vault_audit_model.specs.declared.schema.SchemaVersion.{SchemaVersion}
 use Rattle.vault_audit_model.specs.Limits.{IsPlainName, IsDepartmentRow}
 use Rattle.vault_audit_model.specs.Rows.{department_row, department_columns_as}
 use Rattle.vault_audit_model.specs.Tables.{departments_tree}
@@ -21,10 +21,10 @@ use Rattle.vault_audit.specs.Found.{names_of}
 abbrev pub name_column : Database → List Value
 name_column db = map (λ r. column r 1) (db.trees departments_tree)
 
-first_of : (n : Edition) (db : Database) → map (λ (r : Row). column r 0) (map (department_columns_as n) (db.trees departments_tree)) ≡ name_column db
+first_of : (n : SchemaVersion) (db : Database) → map (λ (r : Row). column r 0) (map (department_columns_as n) (db.trees departments_tree)) ≡ name_column db
 first_of n db = map-map (λ (r : Row). column r 0) (department_columns_as n) (db.trees departments_tree)
 
-pub names_are : (n : Edition) (db : Database) (ds : List DepartmentRow) → IsPermutation (map department_row ds) (map (department_columns_as n) (db.trees departments_tree)) → IsPermutation (map (λ n. Text n) (names_of ds)) (name_column db)
+pub names_are : (n : SchemaVersion) (db : Database) (ds : List DepartmentRow) → IsPermutation (map department_row ds) (map (department_columns_as n) (db.trees departments_tree)) → IsPermutation (map (λ n. Text n) (names_of ds)) (name_column db)
 names_are n db ds same =
     let firsts = IsPermutation-map (λ (r : Row). column r 0) _ _ same in
     let left : map (λ (r : Row). column r 0) (map department_row ds) ≡ map (λ n. Text n) (names_of ds) = map-map (λ (r : Row). column r 0) department_row ds ∙ sym (map-map (λ n. Text n) (λ (d : DepartmentRow). d.name) ds) in
@@ -59,5 +59,5 @@ names_plain : (ds : List DepartmentRow) → AllByRecursion IsDepartmentRow ds �
 names_plain [] all = tt
 names_plain (d ∷ ds) all = (all.0, names_plain ds all.1)
 
-pub by_name : (n : Edition) (db : Database) (ds : List DepartmentRow) → AreDepartmentsByName n db ds → AreDepartments db (names_of ds)
+pub by_name : (n : SchemaVersion) (db : Database) (ds : List DepartmentRow) → AreDepartmentsByName n db ds → AreDepartments db (names_of ds)
 by_name n db ds are = (names_are n db ds are.0, names_ascend ds are.1, names_plain ds are.2)

@@ -11,7 +11,7 @@ use Rattle.sqlite.proofs.StateLemmas.{survives_then}
 use Rattle.vault_base.specs.declared.refusal.Table.{Table}
 use Rattle.vault_base.specs.declared.refusal.Table.TheVariants.{Meta, Departments, Callers, Buckets, Rules, Entries, Contents, Settings, Intake, Heads, Tenures}
 use Rattle.vault_core_model.specs.Vault.{Vault}
-use Rattle.vault_audit_model.specs.declared.schema.Edition.{Edition}
+use Rattle.vault_audit_model.specs.declared.schema.SchemaVersion.{SchemaVersion}
 use Rattle.vault_audit_model.specs.declared.rows.MetaRow.{MetaRow}
 use Rattle.vault_audit_model.specs.Order.{place_of}
 use Rattle.vault_audit_model.specs.Rows.{meta_row, entry_row, entry_columns}
@@ -78,7 +78,7 @@ from_next (Some d) t place here from other = elim (cases_order (place_of d) plac
   | inr (inr more) ↦ omega (arith, more)
 ]
 
-module _ (n : Edition) (s : Schema) where
+module _ (n : SchemaVersion) (s : Schema) where
   pub begin_at : (difference : Option Table) (t : Table) (place : ℕ) → place_of t ≡ place → Differs n s difference → IsFrom (place + 1) difference → BeginTo n s.tables t
   begin_at None t place here is from = ap (λ (x : Schema). take (place_of t + 1) x.tables) is
   begin_at (Some d) t place here it from = it.begin t (omega (arith, here, from))
@@ -101,7 +101,7 @@ module _ (n : Edition) (s : Schema) where
 
 -- ---- tables that are right
 
-module _ (n : Edition) (db : Database) where
+module _ (n : SchemaVersion) (db : Database) where
   -- those before this place are
   abbrev pub AreRightTo : ℕ → Type 0
   AreRightTo place = (t : Table) → place_of t < place → IsRight n db t
@@ -166,7 +166,7 @@ module _ (n : Edition) (db : Database) where
 
 -- ---- the entries beside the row of meta
 
-module _ (n : Edition) (old new : State) (m : MetaRow) (meta : IsMetaOf n old.now (Some m)) where
+module _ (n : SchemaVersion) (old new : State) (m : MetaRow) (meta : IsMetaOf n old.now (Some m)) where
   meta_later : IsUnchanged old new → IsMetaOf n new.now (Some m)
   meta_later same = subst (λ (db : Database). IsMetaOf n db (Some m)) (sym same.0.now_is) meta
 

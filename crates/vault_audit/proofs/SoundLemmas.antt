@@ -9,7 +9,7 @@ use Rattle.sqlite.specs.Effect.{Database}
 use Rattle.vault_core_model.specs.declared.records.Entry.{Entry}
 use Rattle.vault_core_model.specs.declared.records.History.{History}
 use Rattle.vault_core_model.specs.Vault.{Vault, config_in}
-use Rattle.vault_audit_model.specs.declared.schema.Edition.{Edition}
+use Rattle.vault_audit_model.specs.declared.schema.SchemaVersion.{SchemaVersion}
 use Rattle.vault_audit_model.specs.declared.rows.MetaRow.{MetaRow}
 use Rattle.vault_audit_model.specs.Relations.{AreEntries, IsPast}
 use Rattle.vault_audit_model.specs.Rows.{entry_row, entry_columns}
@@ -40,7 +40,7 @@ past_too db last es past are =
     let rows = all-permutation (ReportsPast last) _ _ (IsPermutation-trans _ _ _ past.1 (IsPermutation-sym _ _ are.0)) stated in
     all_as (λ (e : Entry) (its : ReportsPast last (entry_row e)). subst (IsPast last) (sym (same_entry e its.0 its.1)) its.2) es (all_from_map (ReportsPast last) entry_row es rows)
 
-module _ (n : Edition) (db : Database) (m : MetaRow) (schema : db.schema ≡ schema_of n) (tied : AreTied n db) (meta : IsMetaOf n db (Some m)) (past : ArePast db m.last) (found : AllFound n db m) where
+module _ (n : SchemaVersion) (db : Database) (m : MetaRow) (schema : db.schema ≡ schema_of n) (tied : AreTied n db) (meta : IsMetaOf n db (Some m)) (past : ArePast db m.last) (found : AllFound n db m) where
   -- they are sound for the vault that was found
   pub sound_vault : (v : Vault) × AreSoundAs n db v
   sound_vault =

@@ -7,7 +7,7 @@ use Rattle.sqlite.specs.Listing.{understood}
 use Rattle.sqlite.specs.Schema.{Schema}
 use Rattle.vault_base.specs.declared.refusal.Table.TheVariants as table
 use Rattle.vault_core_model.specs.Vault.{Vault}
-use Rattle.vault_audit_model.specs.declared.schema.Edition.{Edition}
+use Rattle.vault_audit_model.specs.declared.schema.SchemaVersion.{SchemaVersion}
 use Rattle.vault_audit_model.specs.Limits.{IsBucketRow}
 use Rattle.vault_audit_model.specs.Rows.{bucket_row, bucket_columns}
 use Rattle.vault_audit_model.specs.Spells.{AreSoundAs}
@@ -22,7 +22,7 @@ use Rattle.vault_audit.specs.ShowsAll.{ShowsAll}
 abbrev Shows : Schema → Type 0
 Shows s = ShowsAll s (select_text buckets []) buckets_tree bucket_columns
 
-pub bucket_shows_all : (n : Edition) (s : Schema) → ⊤ → BeginTo n s.tables table.Buckets → Shows s
+pub bucket_shows_all : (n : SchemaVersion) (s : Schema) → ⊤ → BeginTo n s.tables table.Buckets → Shows s
 unfolding understood everything
 bucket_shows_all n s has begin = as_begun Shows n s table.Buckets begin (record {
   terms = terms_of buckets;
@@ -31,5 +31,5 @@ bucket_shows_all n s has begin = as_begun Shows n s table.Buckets begin (record 
   alike = λ rows. refl;
 })
 
-pub bucket_unsound : (n : Edition) (db : Database) (v : Vault) → ⊤ → AreRecords bucket_row IsBucketRow (map bucket_columns (db.trees buckets_tree)) false → ¬ AreSoundAs n db v
+pub bucket_unsound : (n : SchemaVersion) (db : Database) (v : Vault) → ⊤ → AreRecords bucket_row IsBucketRow (map bucket_columns (db.trees buckets_tree)) false → ¬ AreSoundAs n db v
 bucket_unsound n db v has none = no_buckets n db v none

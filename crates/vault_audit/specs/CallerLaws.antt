@@ -7,7 +7,7 @@ use Rattle.sqlite.specs.Listing.{understood}
 use Rattle.sqlite.specs.Schema.{Schema}
 use Rattle.vault_base.specs.declared.refusal.Table.TheVariants as table
 use Rattle.vault_core_model.specs.Vault.{Vault}
-use Rattle.vault_audit_model.specs.declared.schema.Edition.{Edition}
+use Rattle.vault_audit_model.specs.declared.schema.SchemaVersion.{SchemaVersion}
 use Rattle.vault_audit_model.specs.Limits.{IsCaller}
 use Rattle.vault_audit_model.specs.Rows.{caller_row, caller_columns}
 use Rattle.vault_audit_model.specs.Spells.{AreSoundAs}
@@ -22,7 +22,7 @@ use Rattle.vault_audit.specs.ShowsAll.{ShowsAll}
 abbrev Shows : Schema → Type 0
 Shows s = ShowsAll s (select_text callers []) callers_tree caller_columns
 
-pub caller_shows_all : (n : Edition) (s : Schema) → ⊤ → BeginTo n s.tables table.Callers → Shows s
+pub caller_shows_all : (n : SchemaVersion) (s : Schema) → ⊤ → BeginTo n s.tables table.Callers → Shows s
 unfolding understood everything
 caller_shows_all n s has begin = as_begun Shows n s table.Callers begin (record {
   terms = terms_of callers;
@@ -31,5 +31,5 @@ caller_shows_all n s has begin = as_begun Shows n s table.Callers begin (record 
   alike = λ rows. refl;
 })
 
-pub caller_unsound : (n : Edition) (db : Database) (v : Vault) → ⊤ → AreRecords caller_row IsCaller (map caller_columns (db.trees callers_tree)) false → ¬ AreSoundAs n db v
+pub caller_unsound : (n : SchemaVersion) (db : Database) (v : Vault) → ⊤ → AreRecords caller_row IsCaller (map caller_columns (db.trees callers_tree)) false → ¬ AreSoundAs n db v
 caller_unsound n db v has none = no_callers n db v none

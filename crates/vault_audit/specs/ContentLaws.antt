@@ -7,7 +7,7 @@ use Rattle.sqlite.specs.Listing.{understood}
 use Rattle.sqlite.specs.Schema.{Schema}
 use Rattle.vault_base.specs.declared.refusal.Table.TheVariants as table
 use Rattle.vault_core_model.specs.Vault.{Vault}
-use Rattle.vault_audit_model.specs.declared.schema.Edition.{Edition}
+use Rattle.vault_audit_model.specs.declared.schema.SchemaVersion.{SchemaVersion}
 use Rattle.vault_audit_model.specs.Limits.{IsContentRow}
 use Rattle.vault_audit_model.specs.Rows.{content_row, content_columns}
 use Rattle.vault_audit_model.specs.Spells.{AreSoundAs}
@@ -22,7 +22,7 @@ use Rattle.vault_audit.specs.ShowsAll.{ShowsAll}
 abbrev Shows : Schema → Type 0
 Shows s = ShowsAll s (select_text contents []) contents_tree content_columns
 
-pub content_shows_all : (n : Edition) (s : Schema) → ⊤ → BeginTo n s.tables table.Contents → Shows s
+pub content_shows_all : (n : SchemaVersion) (s : Schema) → ⊤ → BeginTo n s.tables table.Contents → Shows s
 unfolding understood everything
 content_shows_all n s has begin = as_begun Shows n s table.Contents begin (record {
   terms = terms_of contents;
@@ -31,5 +31,5 @@ content_shows_all n s has begin = as_begun Shows n s table.Contents begin (recor
   alike = λ rows. refl;
 })
 
-pub content_unsound : (n : Edition) (db : Database) (v : Vault) → ⊤ → AreRecords content_row IsContentRow (map content_columns (db.trees contents_tree)) false → ¬ AreSoundAs n db v
+pub content_unsound : (n : SchemaVersion) (db : Database) (v : Vault) → ⊤ → AreRecords content_row IsContentRow (map content_columns (db.trees contents_tree)) false → ¬ AreSoundAs n db v
 content_unsound n db v has none = no_contents n db v none

@@ -7,8 +7,8 @@ use Rattle.sqlite.specs.Listing.{understood}
 use Rattle.sqlite.specs.Schema.{Schema}
 use Rattle.vault_base.specs.declared.refusal.Table.TheVariants as table
 use Rattle.vault_core_model.specs.Vault.{Vault}
-use Rattle.vault_audit_model.specs.declared.schema.Edition.{Edition}
-use Rattle.vault_audit_model.specs.declared.schema.Edition.TheVariants.{First, Second, Third}
+use Rattle.vault_audit_model.specs.declared.schema.SchemaVersion.{SchemaVersion}
+use Rattle.vault_audit_model.specs.declared.schema.SchemaVersion.TheVariants.{First, Second, Third}
 use Rattle.vault_audit_model.specs.Limits.{IsDepartmentRow}
 use Rattle.vault_audit_model.specs.Rows.{department_row, department_columns_as}
 use Rattle.vault_audit_model.specs.Spells.{AreSoundAs}
@@ -21,10 +21,10 @@ use Rattle.vault_audit_records.proofs.DamageLemmas.{no_departments}
 use Rattle.vault_audit.specs.Begun.{as_begun}
 use Rattle.vault_audit.specs.ShowsAll.{ShowsAll}
 
-abbrev Shows : Edition → Schema → Type 0
+abbrev Shows : SchemaVersion → Schema → Type 0
 Shows n s = ShowsAll s (departments_select n []) departments_tree (department_columns_as n)
 
-pub department_shows_all : (n : Edition) (s : Schema) → ⊤ → BeginTo n s.tables table.Departments → Shows n s
+pub department_shows_all : (n : SchemaVersion) (s : Schema) → ⊤ → BeginTo n s.tables table.Departments → Shows n s
 unfolding understood everything
 department_shows_all First s has begin = as_begun (Shows First) First s table.Departments begin (record {
   terms = department_terms First;
@@ -45,5 +45,5 @@ department_shows_all Third s has begin = as_begun (Shows Third) Third s table.De
   alike = λ rows. refl;
 })
 
-pub department_unsound : (n : Edition) (db : Database) (v : Vault) → ⊤ → AreRecords department_row IsDepartmentRow (map (department_columns_as n) (db.trees departments_tree)) false → ¬ AreSoundAs n db v
+pub department_unsound : (n : SchemaVersion) (db : Database) (v : Vault) → ⊤ → AreRecords department_row IsDepartmentRow (map (department_columns_as n) (db.trees departments_tree)) false → ¬ AreSoundAs n db v
 department_unsound n db v has none = no_departments n db v none

@@ -8,8 +8,8 @@ use Rattle.vault_core_model.specs.declared.records.Entry.{Entry}
 use Rattle.vault_core_model.specs.declared.records.History.{History}
 use Rattle.vault_core_model.specs.declared.records.Note.{Note}
 use Rattle.vault_core_model.specs.Vault.{Vault}
-use Rattle.vault_audit_model.specs.declared.schema.Edition.{Edition}
-use Rattle.vault_audit_model.specs.Editions.{number_of}
+use Rattle.vault_audit_model.specs.declared.schema.SchemaVersion.{SchemaVersion}
+use Rattle.vault_audit_model.specs.SchemaVersions.{number_of}
 use Rattle.vault_audit_model.specs.declared.rows.DepartmentRow.{DepartmentRow}
 use Rattle.vault_audit_model.specs.declared.rows.MetaRow.{MetaRow}
 use Rattle.vault_audit_model.specs.Limits.{IsMetaRow}
@@ -31,12 +31,12 @@ found_vault m departments callers buckets notes contents settings tenures =
     vault_of m (names_of departments) callers buckets notes contents settings tenures
 
 -- the rows of departments have the sums over the tenures of the vault
-abbrev pub HaveSums : Edition → Database → Vault → Type 0
+abbrev pub HaveSums : SchemaVersion → Database → Vault → Type 0
 HaveSums ed db v =
     IsPermutation (map (λ d. department_row (department_in v d)) v.departments) (map (department_columns_as ed) (db.trees departments_tree))
 
 -- what each look finds
-pub record AreFound (ed : Edition) (db : Database) (m : MetaRow) (departments : List DepartmentRow) (callers : List Caller) (buckets : List Bucket) (notes : List Note) (entries : List Entry) (contents settings tenures : List History) (summed : List (List ℕ)) : Type 0 where
+pub record AreFound (ed : SchemaVersion) (db : Database) (m : MetaRow) (departments : List DepartmentRow) (callers : List Caller) (buckets : List Bucket) (notes : List Note) (entries : List Entry) (contents settings tenures : List History) (summed : List (List ℕ)) : Type 0 where
   pub schema : db.schema ≡ schema_of ed
   pub tied : AreTied ed db
   pub meta : IsPermutation (meta_row m ∷ []) (map (meta_columns_as ed) (db.trees meta_tree)) × IsMetaRow m × (m.schema ≡ number_of ed)

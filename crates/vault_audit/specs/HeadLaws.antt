@@ -7,7 +7,7 @@ use Rattle.sqlite.specs.Listing.{understood}
 use Rattle.sqlite.specs.Schema.{Schema}
 use Rattle.vault_base.specs.declared.refusal.Table.TheVariants as table
 use Rattle.vault_core_model.specs.Vault.{Vault}
-use Rattle.vault_audit_model.specs.declared.schema.Edition.{Edition}
+use Rattle.vault_audit_model.specs.declared.schema.SchemaVersion.{SchemaVersion}
 use Rattle.vault_audit_model.specs.Limits.{IsHeadRow}
 use Rattle.vault_audit_model.specs.Rows.{head_row, head_columns}
 use Rattle.vault_audit_model.specs.Spells.{AreSoundAs}
@@ -22,7 +22,7 @@ use Rattle.vault_audit.specs.ShowsAll.{ShowsAll}
 abbrev Shows : Schema → Type 0
 Shows s = ShowsAll s (select_text heads []) heads_tree head_columns
 
-pub head_shows_all : (n : Edition) (s : Schema) → ⊤ → BeginTo n s.tables table.Heads → Shows s
+pub head_shows_all : (n : SchemaVersion) (s : Schema) → ⊤ → BeginTo n s.tables table.Heads → Shows s
 unfolding understood everything
 head_shows_all n s has begin = as_begun Shows n s table.Heads begin (record {
   terms = terms_of heads;
@@ -31,5 +31,5 @@ head_shows_all n s has begin = as_begun Shows n s table.Heads begin (record {
   alike = λ rows. refl;
 })
 
-pub head_unsound : (n : Edition) (db : Database) (v : Vault) → ⊤ → AreRecords head_row IsHeadRow (map head_columns (db.trees heads_tree)) false → ¬ AreSoundAs n db v
+pub head_unsound : (n : SchemaVersion) (db : Database) (v : Vault) → ⊤ → AreRecords head_row IsHeadRow (map head_columns (db.trees heads_tree)) false → ¬ AreSoundAs n db v
 head_unsound n db v has none = no_heads n db v none

@@ -4,7 +4,7 @@ use Rattle.sqlite.specs.Effect.{Database}
 use Rattle.vault_base.specs.declared.refusal.Table.{Table}
 use Rattle.vault_base.specs.declared.refusal.Table.TheVariants.{Meta, Departments, Callers, Buckets, Rules, Entries, Contents, Settings, Intake, Heads, Tenures}
 use Rattle.vault_core_model.specs.Vault.{Vault}
-use Rattle.vault_audit_model.specs.declared.schema.Edition.{Edition}
+use Rattle.vault_audit_model.specs.declared.schema.SchemaVersion.{SchemaVersion}
 use Rattle.vault_audit_model.specs.declared.rows.MetaRow.{MetaRow}
 use Rattle.vault_audit_model.specs.Limits.{IsDepartmentRow, IsCaller, IsBucketRow, IsRuleRow, IsContentRow, IsSettingRow, IsNote, IsHeadRow, IsTenureRow}
 use Rattle.vault_audit_model.specs.Order.{place_of}
@@ -16,8 +16,8 @@ use Rattle.vault_audit_records.specs.Entries.{IsEntryBy}
 use Rattle.vault_audit_records.specs.Meta.{IsMetaOf}
 use Rattle.vault_audit_walk.specs.Records.{AreRecords}
 
--- whether the rows of the table state records in their limits, each by itself: of meta one with the number of the edition, and of entries none that is after the last moment
-abbrev pub AreRowsRight : Edition → Database → Table → Bool → Type 0
+-- whether the rows of the table state records in their limits, each by itself: of meta one with the number of the schema version, and of entries none that is after the last moment
+abbrev pub AreRowsRight : SchemaVersion → Database → Table → Bool → Type 0
 AreRowsRight n db Meta true = (m : MetaRow) × IsMetaOf n db (Some m)
 AreRowsRight n db Meta false = IsMetaOf n db None
 AreRowsRight n db Departments right = AreRecords department_row IsDepartmentRow (map (department_columns_as n) (db.trees departments_tree)) right
@@ -32,20 +32,20 @@ AreRowsRight n db Heads right = AreRecords head_row IsHeadRow (map head_columns 
 AreRowsRight n db Tenures right = AreRecords tenure_row IsTenureRow (tenure_rows_in n db) right
 
 -- the table is right by itself, in its form and in its rows
-abbrev pub IsRight : Edition → Database → Table → Type 0
+abbrev pub IsRight : SchemaVersion → Database → Table → Type 0
 IsRight n db t = IsInPlace n db.schema.tables t × AreRowsRight n db t true
 
 -- each is
-abbrev pub AreRight : Edition → Database → Type 0
+abbrev pub AreRight : SchemaVersion → Database → Type 0
 AreRight n db = (t : Table) → IsRight n db t
 
 -- All tables before the one that is reported are right by themselves, and it is the first that isn't. Or all are in their places,
 -- and an index, a view or a further table stands beside them; or all are right, and it doesn't fit the others.
-pub record IsReportedInOrder (n : Edition) (db : Database) (stated : Table) : Type 0 where
+pub record IsReportedInOrder (n : SchemaVersion) (db : Database) (stated : Table) : Type 0 where
   pub before : (t : Table) → place_of t < place_of stated → IsRight n db t
   pub here : ¬ IsInPlace n db.schema.tables stated ⊎ AreRowsRight n db stated false ⊎ (AreInPlace n db.schema.tables × (db.schema ≡ schema_of n → AreRight n db))
 
 -- each table is right by itself; or one is reported, and the tables are sound for no vault
-abbrev pub ReportedInOrder : Edition → Database → Option Table → Type 0
+abbrev pub ReportedInOrder : SchemaVersion → Database → Option Table → Type 0
 ReportedInOrder n db None = (db.schema ≡ schema_of n) × AreRight n db
 ReportedInOrder n db (Some table) = IsReportedInOrder n db table × ((v : Vault) → ¬ AreSoundAs n db v)

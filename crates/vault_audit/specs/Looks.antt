@@ -11,7 +11,7 @@ use Rattle.vault_core_model.specs.declared.records.History.{History}
 use Rattle.vault_core_model.specs.declared.records.Note.{Note}
 use Rattle.vault_core_model.specs.Sound.{IsPlaced}
 use Rattle.vault_core_model.specs.Vault.{Vault}
-use Rattle.vault_audit_model.specs.declared.schema.Edition.{Edition}
+use Rattle.vault_audit_model.specs.declared.schema.SchemaVersion.{SchemaVersion}
 use Rattle.vault_audit_model.specs.declared.rows.DepartmentRow.{DepartmentRow}
 use Rattle.vault_audit_model.specs.declared.rows.MetaRow.{MetaRow}
 use Rattle.vault_audit_model.specs.Relations.{AreCallers, AreBuckets, AreContents, AreEntries, AreNotes, AreSettings, AreSums, AreTenuresOf, AreTenuresWith, IsPast}
@@ -24,17 +24,17 @@ use Rattle.vault_audit_records.specs.Entries.{IsEntryBy}
 use Rattle.vault_audit_records.specs.Meta.{IsMetaOf}
 use Rattle.vault_audit_records.specs.ByName.{AreDepartmentsByName}
 
--- where the schema differs from the edition's, if it does
-abbrev pub Differs : Edition → Schema → Option Table → Type 0
+-- where the schema differs from the schema version's, if it does
+abbrev pub Differs : SchemaVersion → Schema → Option Table → Type 0
 Differs n s difference = MatchOption difference (s ≡ schema_of n) (IsReportedIn n s)
 
 -- no table is damaged, and this is found; or one is, and the tables are sound for no vault
-abbrev pub Reported : Edition → Database → Type 0 → Option Table → Type 0
+abbrev pub Reported : SchemaVersion → Database → Type 0 → Option Table → Type 0
 Reported n db Found None = Found
 Reported n db Found (Some table) = (v : Vault) → ¬ AreSoundAs n db v
 
 -- the same, where this is the row of meta
-abbrev pub ReportedOf : Edition → Database → MetaRow → Type 0 → Option Table → Type 0
+abbrev pub ReportedOf : SchemaVersion → Database → MetaRow → Type 0 → Option Table → Type 0
 ReportedOf n db m Found None = Found
 ReportedOf n db m Found (Some table) = IsMetaOf n db (Some m) → (v : Vault) → ¬ AreSoundAs n db v
 
@@ -43,14 +43,14 @@ abbrev pub ArePast : Database → ℕ → Type 0
 ArePast db last = AreRecords entry_row (IsEntryBy last) (map entry_columns (db.trees entries_tree)) true
 
 -- the next id, and the departments with their sums
-pub record DepartmentsFound (n : Edition) (db : Database) (m : MetaRow) : Type 0 where
+pub record DepartmentsFound (n : SchemaVersion) (db : Database) (m : MetaRow) : Type 0 where
   pub next : m.next ≡ length (db.trees entries_tree) + 1
   pub departments : (ds : List DepartmentRow) × AreDepartmentsByName n db ds
   pub sums : (v : Vault) → AreBuckets n db v.buckets → AreEntries db (entries_in v.histories) → AllByRecursion (IsPast v.last) (entries_in v.histories) → AreTenuresOf n db v
       → (summed : List (List ℕ)) × AreSums n db v.histories summed
 
 -- callers, and buckets with their rules
-pub record NamesFound (n : Edition) (db : Database) : Type 0 where
+pub record NamesFound (n : SchemaVersion) (db : Database) : Type 0 where
   pub callers : (cs : List Caller) × AreCallers db cs
   pub buckets : (bs : List Bucket) × AreBuckets n db bs
 
@@ -61,7 +61,7 @@ pub record VersionsFound (db : Database) (es : List Entry) : Type 0 where
   pub notes : (ns : List Note) × AreNotes db es ns
 
 -- the tenures of the versions in these buckets, where this is the row of meta
-abbrev pub TenuresFound : Edition → Database → MetaRow → Type 0
+abbrev pub TenuresFound : SchemaVersion → Database → MetaRow → Type 0
 TenuresFound n db m =
     IsMetaOf n db (Some m) → (v : Vault) → v.last ≡ m.last → v.moves ≡ m.moves → AreBuckets n db v.buckets → AreEntries db (entries_in v.histories)
     → AllByRecursion (IsPast v.last) (entries_in v.histories) → AllByRecursion (IsPlaced v) v.histories

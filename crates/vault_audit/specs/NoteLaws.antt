@@ -7,7 +7,7 @@ use Rattle.sqlite.specs.Listing.{understood}
 use Rattle.sqlite.specs.Schema.{Schema}
 use Rattle.vault_base.specs.declared.refusal.Table.TheVariants as table
 use Rattle.vault_core_model.specs.Vault.{Vault}
-use Rattle.vault_audit_model.specs.declared.schema.Edition.{Edition}
+use Rattle.vault_audit_model.specs.declared.schema.SchemaVersion.{SchemaVersion}
 use Rattle.vault_audit_model.specs.Limits.{IsNote}
 use Rattle.vault_audit_model.specs.Rows.{note_row, note_columns}
 use Rattle.vault_audit_model.specs.Spells.{AreSoundAs}
@@ -22,7 +22,7 @@ use Rattle.vault_audit.specs.ShowsAll.{ShowsAll}
 abbrev Shows : Schema → Type 0
 Shows s = ShowsAll s (select_text intake []) intake_tree note_columns
 
-pub note_shows_all : (n : Edition) (s : Schema) → ⊤ → BeginTo n s.tables table.Intake → Shows s
+pub note_shows_all : (n : SchemaVersion) (s : Schema) → ⊤ → BeginTo n s.tables table.Intake → Shows s
 unfolding understood everything
 note_shows_all n s has begin = as_begun Shows n s table.Intake begin (record {
   terms = terms_of intake;
@@ -31,5 +31,5 @@ note_shows_all n s has begin = as_begun Shows n s table.Intake begin (record {
   alike = λ rows. refl;
 })
 
-pub note_unsound : (n : Edition) (db : Database) (v : Vault) → ⊤ → AreRecords note_row IsNote (map note_columns (db.trees intake_tree)) false → ¬ AreSoundAs n db v
+pub note_unsound : (n : SchemaVersion) (db : Database) (v : Vault) → ⊤ → AreRecords note_row IsNote (map note_columns (db.trees intake_tree)) false → ¬ AreSoundAs n db v
 note_unsound n db v has none = no_intake n db v none

@@ -7,8 +7,8 @@ use Rattle.sqlite.specs.Listing.{understood}
 use Rattle.sqlite.specs.Schema.{Schema}
 use Rattle.vault_base.specs.declared.refusal.Table.TheVariants as table
 use Rattle.vault_core_model.specs.Vault.{Vault}
-use Rattle.vault_audit_model.specs.declared.schema.Edition.{Edition}
-use Rattle.vault_audit_model.specs.declared.schema.Edition.TheVariants.{First, Second, Third}
+use Rattle.vault_audit_model.specs.declared.schema.SchemaVersion.{SchemaVersion}
+use Rattle.vault_audit_model.specs.declared.schema.SchemaVersion.TheVariants.{First, Second, Third}
 use Rattle.vault_audit_model.specs.Limits.{IsRuleRow}
 use Rattle.vault_audit_model.specs.Rows.{rule_row, rule_columns_as}
 use Rattle.vault_audit_model.specs.Spells.{AreSoundAs}
@@ -21,10 +21,10 @@ use Rattle.vault_audit_records.proofs.DamageLemmas.{no_rules}
 use Rattle.vault_audit.specs.Begun.{as_begun}
 use Rattle.vault_audit.specs.ShowsAll.{ShowsAll}
 
-abbrev Shows : Edition → Schema → Type 0
+abbrev Shows : SchemaVersion → Schema → Type 0
 Shows n s = ShowsAll s (rules_select n []) rules_tree (rule_columns_as n)
 
-pub rule_shows_all : (n : Edition) (s : Schema) → ⊤ → BeginTo n s.tables table.Rules → Shows n s
+pub rule_shows_all : (n : SchemaVersion) (s : Schema) → ⊤ → BeginTo n s.tables table.Rules → Shows n s
 unfolding understood everything
 rule_shows_all First s has begin = as_begun (Shows First) First s table.Rules begin (record {
   terms = rule_terms First;
@@ -45,5 +45,5 @@ rule_shows_all Third s has begin = as_begun (Shows Third) Third s table.Rules be
   alike = λ rows. refl;
 })
 
-pub rule_unsound : (n : Edition) (db : Database) (v : Vault) → ⊤ → AreRecords rule_row IsRuleRow (map (rule_columns_as n) (db.trees rules_tree)) false → ¬ AreSoundAs n db v
+pub rule_unsound : (n : SchemaVersion) (db : Database) (v : Vault) → ⊤ → AreRecords rule_row IsRuleRow (map (rule_columns_as n) (db.trees rules_tree)) false → ¬ AreSoundAs n db v
 rule_unsound n db v has none = no_rules n db v none

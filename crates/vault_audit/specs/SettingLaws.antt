@@ -7,7 +7,7 @@ use Rattle.sqlite.specs.Listing.{understood}
 use Rattle.sqlite.specs.Schema.{Schema}
 use Rattle.vault_base.specs.declared.refusal.Table.TheVariants as table
 use Rattle.vault_core_model.specs.Vault.{Vault}
-use Rattle.vault_audit_model.specs.declared.schema.Edition.{Edition}
+use Rattle.vault_audit_model.specs.declared.schema.SchemaVersion.{SchemaVersion}
 use Rattle.vault_audit_model.specs.Limits.{IsSettingRow}
 use Rattle.vault_audit_model.specs.Rows.{setting_row, setting_columns}
 use Rattle.vault_audit_model.specs.Spells.{AreSoundAs}
@@ -22,7 +22,7 @@ use Rattle.vault_audit.specs.ShowsAll.{ShowsAll}
 abbrev Shows : Schema → Type 0
 Shows s = ShowsAll s (select_text settings []) settings_tree setting_columns
 
-pub setting_shows_all : (n : Edition) (s : Schema) → ⊤ → BeginTo n s.tables table.Settings → Shows s
+pub setting_shows_all : (n : SchemaVersion) (s : Schema) → ⊤ → BeginTo n s.tables table.Settings → Shows s
 unfolding understood everything
 setting_shows_all n s has begin = as_begun Shows n s table.Settings begin (record {
   terms = terms_of settings;
@@ -31,5 +31,5 @@ setting_shows_all n s has begin = as_begun Shows n s table.Settings begin (recor
   alike = λ rows. refl;
 })
 
-pub setting_unsound : (n : Edition) (db : Database) (v : Vault) → ⊤ → AreRecords setting_row IsSettingRow (map setting_columns (db.trees settings_tree)) false → ¬ AreSoundAs n db v
+pub setting_unsound : (n : SchemaVersion) (db : Database) (v : Vault) → ⊤ → AreRecords setting_row IsSettingRow (map setting_columns (db.trees settings_tree)) false → ¬ AreSoundAs n db v
 setting_unsound n db v has none = no_settings n db v none

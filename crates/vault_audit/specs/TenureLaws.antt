@@ -7,8 +7,8 @@ use Rattle.sqlite.specs.Listing.{understood}
 use Rattle.sqlite.specs.Schema.{Schema}
 use Rattle.vault_base.specs.declared.refusal.Table.TheVariants as table
 use Rattle.vault_core_model.specs.Vault.{Vault}
-use Rattle.vault_audit_model.specs.declared.schema.Edition.{Edition}
-use Rattle.vault_audit_model.specs.declared.schema.Edition.TheVariants.{First, Second, Third}
+use Rattle.vault_audit_model.specs.declared.schema.SchemaVersion.{SchemaVersion}
+use Rattle.vault_audit_model.specs.declared.schema.SchemaVersion.TheVariants.{First, Second, Third}
 use Rattle.vault_audit_model.specs.Limits.{IsTenureRow}
 use Rattle.vault_audit_model.specs.Rows.{tenure_row, tenure_columns}
 use Rattle.vault_audit_model.specs.Spells.{AreSoundAs}
@@ -20,8 +20,8 @@ use Rattle.vault_audit_records.proofs.DamageLemmas.{no_tenures}
 use Rattle.vault_audit.specs.Begun.{as_begun}
 use Rattle.vault_audit.specs.ShowsAll.{ShowsAll}
 
--- the edition has the table
-abbrev pub HasTenures : Edition → Type 0
+-- the schema version has the table
+abbrev pub HasTenures : SchemaVersion → Type 0
 HasTenures First = ⊥
 HasTenures Second = ⊥
 HasTenures Third = ⊤
@@ -29,7 +29,7 @@ HasTenures Third = ⊤
 abbrev Shows : Schema → Type 0
 Shows s = ShowsAll s (select_text tenures []) tenures_tree tenure_columns
 
-pub tenure_shows_all : (n : Edition) (s : Schema) → HasTenures n → BeginTo n s.tables table.Tenures → Shows s
+pub tenure_shows_all : (n : SchemaVersion) (s : Schema) → HasTenures n → BeginTo n s.tables table.Tenures → Shows s
 unfolding understood everything
 tenure_shows_all First s has begin = absurd has
 tenure_shows_all Second s has begin = absurd has
@@ -40,7 +40,7 @@ tenure_shows_all Third s has begin = as_begun Shows Third s table.Tenures begin 
   alike = λ rows. refl;
 })
 
-pub tenure_unsound : (n : Edition) (db : Database) (v : Vault) → HasTenures n → AreRecords tenure_row IsTenureRow (map tenure_columns (db.trees tenures_tree)) false → ¬ AreSoundAs n db v
+pub tenure_unsound : (n : SchemaVersion) (db : Database) (v : Vault) → HasTenures n → AreRecords tenure_row IsTenureRow (map tenure_columns (db.trees tenures_tree)) false → ¬ AreSoundAs n db v
 tenure_unsound First db v has none = absurd has
 tenure_unsound Second db v has none = absurd has
 tenure_unsound Third db v has none = no_tenures Third db v none

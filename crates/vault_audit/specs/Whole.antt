@@ -6,7 +6,7 @@ use Rattle.vault_base.specs.declared.refusal.Refusal.{Refusal}
 use Rattle.vault_base.specs.declared.refusal.Refusal.TheVariants.{Memory, Device, Damaged}
 use Rattle.vault_core_model.specs.declared.records.Entry.{Entry}
 use Rattle.vault_core_model.specs.Vault.{Vault}
-use Rattle.vault_audit_model.specs.declared.schema.Edition.{Edition}
+use Rattle.vault_audit_model.specs.declared.schema.SchemaVersion.{SchemaVersion}
 use Rattle.vault_audit_model.specs.declared.rows.MetaRow.{MetaRow}
 use Rattle.vault_audit_model.specs.Relations.{AreEntries, AreHeads}
 use Rattle.vault_audit_model.specs.Spells.{AreSoundAs}
@@ -20,14 +20,14 @@ pub record VersionsAndHeads (db : Database) : Type 0 where
   pub heads : (v : Vault) → AreEntries db (entries_of v) → AreHeads db v
 
 -- what the second pass finds
-pub record AllFound (n : Edition) (db : Database) (m : MetaRow) : Type 0 where
+pub record AllFound (n : SchemaVersion) (db : Database) (m : MetaRow) : Type 0 where
   pub departments : DepartmentsFound n db m
   pub names : NamesFound n db
   pub held : VersionsAndHeads db
   pub tenures : TenuresFound n db m
 
 -- the tables are sound for a vault; or one is damaged, and they are sound for none
-abbrev pub IsAudited : Edition → Database → Option Table → Type 0
+abbrev pub IsAudited : SchemaVersion → Database → Option Table → Type 0
 IsAudited n db None = (v : Vault) × AreSoundAs n db v
 IsAudited n db (Some table) = (v : Vault) → ¬ AreSoundAs n db v
 

@@ -10,7 +10,7 @@ ghost use Rattle.sqlite.specs.State.{HasCleanDisk};
 ghost use Rattle.sqlite.specs.Held.{state};
 ghost use Rattle.vault_audit.specs.Looks.{Reported, ReportedOf};
 ghost use Rattle.vault_audit.specs.Whole.{VersionsAndHeads, AllFound};
-ghost use Rattle.vault_audit_walk.specs.Health.{IsHealthy, IsMemory, IsOfEdition, OnlyLooks};
+ghost use Rattle.vault_audit_walk.specs.Health.{IsHealthy, IsMemory, IsOfSchemaVersion, OnlyLooks};
 
 use crate::second_pass::departments::look_at_departments;
 use crate::second_pass::names::look_at_names;
@@ -20,27 +20,27 @@ use sqlite::{Alter, Connection, Error};
 use std::alloc::Global;
 use vault_audit_entries::heads::second_look::check_heads;
 use vault_audit_model::rows::MetaRow;
-use vault_audit_model::schema::Edition;
+use vault_audit_model::schema::SchemaVersion;
 use vault_audit_records::entries::second_look::check_numbers;
 use vault_base::refusal::Table;
 
 /// The first of entries, contents, settings, intake and heads that is damaged.
 pub(crate) fn look_at_entries<S: Alter>(
     conn: &mut Connection<S>,
-    edition: Edition,
+    schema_version: SchemaVersion,
 ) -> Result<Option<Table>, Error>
-    requires { IsOfEdition S.Store conn.old edition }
-    ensures reported { HasCleanDisk (state S.Store conn.new) → IfOk result (Reported edition (state S.Store conn.new).now (VersionsAndHeads (state S.Store conn.new).now)) }
+    requires { IsOfSchemaVersion S.Store conn.old schema_version }
+    ensures reported { HasCleanDisk (state S.Store conn.new) → IfOk result (Reported schema_version (state S.Store conn.new).now (VersionsAndHeads (state S.Store conn.new).now)) }
     ensures look { OnlyLooks S.Store conn.old conn.new result }
     ensures err { IsHealthy (state S.Store conn.new) → IfErr result IsMemory }
 {
-    let Some(_next) = check_numbers(conn, edition)? else {
+    let Some(_next) = check_numbers(conn, schema_version)? else {
         return Ok(Some(Table::Entries));
     };
-    if let Some(table) = look_at_versions(conn, edition)? {
+    if let Some(table) = look_at_versions(conn, schema_version)? {
         return Ok(Some(table));
     }
-    let heads = check_heads(conn, edition)?;
+    let heads = check_heads(conn, schema_version)?;
     if !heads {
         return Ok(Some(Table::Heads));
     }
@@ -51,24 +51,24 @@ pub(crate) fn look_at_entries<S: Alter>(
 pub(crate) fn look_again<S: Alter>(
     alloc: Global,
     conn: &mut Connection<S>,
-    edition: Edition,
+    schema_version: SchemaVersion,
     meta: MetaRow,
 ) -> Result<Option<Table>, Error>
-    requires { IsOfEdition S.Store conn.old edition }
-    ensures reported { HasCleanDisk (state S.Store conn.new) → IfOk result (ReportedOf edition (state S.Store conn.new).now meta (AllFound edition (state S.Store conn.new).now meta)) }
+    requires { IsOfSchemaVersion S.Store conn.old schema_version }
+    ensures reported { HasCleanDisk (state S.Store conn.new) → IfOk result (ReportedOf schema_version (state S.Store conn.new).now meta (AllFound schema_version (state S.Store conn.new).now meta)) }
     ensures look { OnlyLooks S.Store conn.old conn.new result }
     ensures err { IsHealthy (state S.Store conn.new) → IfErr result IsMemory }
 {
-    if let Some(table) = look_at_departments(alloc, conn, edition, &meta)? {
+    if let Some(table) = look_at_departments(alloc, conn, schema_version, &meta)? {
         return Ok(Some(table));
     }
-    if let Some(table) = look_at_names(alloc, conn, edition)? {
+    if let Some(table) = look_at_names(alloc, conn, schema_version)? {
         return Ok(Some(table));
     }
-    if let Some(table) = look_at_entries(conn, edition)? {
+    if let Some(table) = look_at_entries(conn, schema_version)? {
         return Ok(Some(table));
     }
-    if let Some(table) = look_at_tenures(conn, edition, meta)? {
+    if let Some(table) = look_at_tenures(conn, schema_version, meta)? {
         return Ok(Some(table));
     }
     Ok(None)

@@ -42,7 +42,7 @@ use Rattle.vault_audit_entries.proofs.JoinLemmas.{beside_of, shown_beside, join_
 use Rattle.vault_audit_entries.proofs.ContentMergeLemmas.{IsGiven, taken}
 use Rattle.vault_audit_entries.proofs.ContentRowLemmas.{same_row}
 use Rattle.vault_audit_entries.proofs.ContentTextLemmas.{contents_walk, contents_shown, contents_walk_is, contents_walk_plain}
-use Rattle.vault_audit_model.specs.declared.schema.Edition.{Edition}
+use Rattle.vault_audit_model.specs.declared.schema.SchemaVersion.{SchemaVersion}
 
 abbrev Fit : ContentPass → List ContentRow → Type 0
 Fit = AllFit held_row ComesLater with_content
@@ -80,7 +80,7 @@ by_first a b = ap is_lt (then-Equal (value_cmp (eval (col 1 0) a) (eval (col 1 0
 abbrev source : Database → List Row
 source db = join_rows contents_tree 0 contents_shown db.trees
 
-answers : (n : Edition) → (a b : State) → a.now.schema ≡ schema_of n → (rows : List Row) → Shown contents_walk [] a b rows → IsPermutation (source a.now) rows × IsSorted first_cmp rows
+answers : (n : SchemaVersion) → (a b : State) → a.now.schema ≡ schema_of n → (rows : List Row) → Shown contents_walk [] a b rows → IsPermutation (source a.now) rows × IsSorted first_cmp rows
 answers n a b schema rows shown = joined contents_walk a b (schema_of n) schema (contents_walk_plain n) (contents_walk_is n).1 contents_tree 0 contents_shown _ first_cmp _ (contents_walk_is n).0 by_first refl rows shown
 
 -- the first two values of a row
@@ -189,7 +189,7 @@ given_of db es hs are it = subst (λ xs. IsGiven 1 xs (flat_map contents_in hs))
 abbrev pub start : ContentPass
 start = record { next = 1; count = 0 }
 
-module _ (n : Edition) (old new : State) (has : old.now.schema ≡ schema_of n) (same : IsUnchanged old new) (r : ContentPass) (es : List Entry) (are : AreEntries new.now es) where
+module _ (n : SchemaVersion) (old new : State) (has : old.now.schema ≡ schema_of n) (same : IsUnchanged old new) (r : ContentPass) (es : List Entry) (are : AreEntries new.now es) where
   pub contents_yes : Walked (Takes held_row ComesLater with_content) (Refuses held_row ComesLater with_content) contents_walk old new start r true → DecidesHeld new.now es (Some r.count)
   contents_yes h =
       let it = walk_yes held_row ComesLater with_content same_row (schema_of n) contents_walk _ _ (contents_walk_is n).0 source (answers n) old new has same start r h in

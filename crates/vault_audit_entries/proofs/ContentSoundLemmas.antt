@@ -18,7 +18,7 @@ use Rattle.vault_audit_model.specs.Tables.{entries_tree, contents_tree}
 use Rattle.vault_audit_entries.specs.Contents.{held_count, DecidesHeld}
 use Rattle.vault_audit_entries.proofs.ContentMergeLemmas.{given, itself, same_if}
 use Rattle.vault_audit_entries.proofs.ContentLemmas.{given_of}
-use Rattle.vault_audit_model.specs.declared.schema.Edition.{Edition}
+use Rattle.vault_audit_model.specs.declared.schema.SchemaVersion.{SchemaVersion}
 
 -- ---- a sound vault
 
@@ -27,7 +27,7 @@ numbers_of next low last [] ids order all = tt
 numbers_of next low last (h ∷ hs) ids order all = ((all.0.entry, (ids.0, order.0)), numbers_of (next + 1) h.entry.admitted last hs ids.1 order.1 all.1)
 
 -- its entries are those of the rows
-pub sound_entries : (n : Edition) → (db : Database) (v : Vault) → AreSoundAs n db v → AreEntries db (entries_in v.histories)
+pub sound_entries : (n : SchemaVersion) → (db : Database) (v : Vault) → AreSoundAs n db v → AreEntries db (entries_in v.histories)
 sound_entries n db v it =
     let kept = it.spells.kept in (
       subst (λ rows. IsPermutation rows (map entry_columns (db.trees entries_tree))) (sym (map-map entry_row (λ (h : History). h.entry) v.histories)) it.spells.entries,
@@ -42,10 +42,10 @@ contents_whole : (hs : List History) → AllByRecursion IsWhole hs → AllByRecu
 contents_whole [] all = tt
 contents_whole (h ∷ hs) all = (whole_content h.entry.marker h all.0, contents_whole hs all.1)
 
-pub sound_contents : (n : Edition) → (db : Database) (v : Vault) → AreSoundAs n db v → AreContents db (entries_in v.histories) v.histories
+pub sound_contents : (n : SchemaVersion) → (db : Database) (v : Vault) → AreSoundAs n db v → AreContents db (entries_in v.histories) v.histories
 sound_contents n db v it = (refl, it.spells.contents, contents_whole v.histories it.spells.kept.sound.whole)
 
-pub unsound : (n : Edition) → (db : Database) → ((es : List Entry) → AreEntries db es → DecidesContents db es false) → (v : Vault) → ¬ AreSoundAs n db v
+pub unsound : (n : SchemaVersion) → (db : Database) → ((es : List Entry) → AreEntries db es → DecidesContents db es false) → (v : Vault) → ¬ AreSoundAs n db v
 unsound n db stated v it = stated (entries_in v.histories) ((sound_entries n) db v it) v.histories ((sound_contents n) db v it)
 
 -- ---- as many bytes as held versions, or not

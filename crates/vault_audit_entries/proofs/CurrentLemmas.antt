@@ -28,7 +28,7 @@ use Rattle.vault_audit_entries.proofs.ContentMergeLemmas.{itself, same_if}
 use Rattle.vault_audit_entries.proofs.ContentSoundLemmas.{sound_entries}
 use Rattle.vault_audit_entries.specs.Heads.{head_cmp, IsHeldFor, NamesHeld, AreHeadsByKey, DecidesHeadRows}
 use Rattle.vault_audit_entries.proofs.SortLemmas.{in_order, same_in_order, all_in_order, AreApart, ascending_in_order}
-use Rattle.vault_audit_model.specs.declared.schema.Edition.{Edition}
+use Rattle.vault_audit_model.specs.declared.schema.SchemaVersion.{SchemaVersion}
 
 -- ---- lists
 
@@ -141,7 +141,7 @@ module _ (v : Vault) where
 
 -- ---- a sound vault
 
-sound_heads : (n : Edition) → (db : Database) (v : Vault) → AreSoundAs n db v → AreHeadsByKey db (entries_in v.histories) (in_order head_cmp (heads_in v))
+sound_heads : (n : SchemaVersion) → (db : Database) (v : Vault) → AreSoundAs n db v → AreHeadsByKey db (entries_in v.histories) (in_order head_cmp (heads_in v))
 sound_heads n db v it =
     let ids = it.spells.kept.sound.ids in
     let hs = heads_in v in (
@@ -151,5 +151,5 @@ sound_heads n db v it =
       all_in_order head_cmp (NamesHeld (entries_in v.histories)) hs (heads_name v ids),
     )
 
-pub unsound : (n : Edition) → (db : Database) → DecidesHeadRows db None → (v : Vault) → ¬ AreSoundAs n db v
+pub unsound : (n : SchemaVersion) → (db : Database) → DecidesHeadRows db None → (v : Vault) → ¬ AreSoundAs n db v
 unsound n db stated v it = stated (entries_in v.histories) (sound_entries n db v it) (in_order head_cmp (heads_in v)) ((sound_heads n) db v it)

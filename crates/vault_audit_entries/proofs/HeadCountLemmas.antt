@@ -41,7 +41,7 @@ use Rattle.vault_audit_walk.proofs.RecordLemmas.{between, front}
 use Rattle.vault_audit_model.proofs.ValueLemmas.{agrees, none_removed}
 use Rattle.vault_audit_walk.proofs.BesideLemmas.{agree_texts, of_records, of_stored, passes}
 use Rattle.vault_audit_entries.specs.HeadCounts.{is_under, IsCounted, DecidesCounts, ShowsCount}
-use Rattle.vault_audit_model.specs.declared.schema.Edition.{Edition}
+use Rattle.vault_audit_model.specs.declared.schema.SchemaVersion.{SchemaVersion}
 use Rattle.vault_audit_model.proofs.ListLemmas.{all_as}
 use Rattle.vault_audit_laws.proofs.PartLemmas.{few_entries}
 
@@ -71,16 +71,16 @@ counts_query = record {
   offset = lit (Int (pos 0));
 }
 
-counts_is : (n : Edition) → (command_of (understood (schema_of n) counts_text) ≡ Select (record { lets = []; body = counts_query }) (codes "count" ∷ codes "held" ∷ []))
+counts_is : (n : SchemaVersion) → (command_of (understood (schema_of n) counts_text) ≡ Select (record { lets = []; body = counts_query }) (codes "count" ∷ codes "held" ∷ []))
     × (reads_listing (schema_of n) counts_text ≡ false)
 unfolding understood everything
 counts_is n = (refl, refl)
 
-pub counts_plain : (n : Edition) → IsPlain (understood (schema_of n) counts_text)
+pub counts_plain : (n : SchemaVersion) → IsPlain (understood (schema_of n) counts_text)
 unfolding understood everything
 counts_plain n = (refl, refl)
 
-pub counts_asks : (n : Edition) → Asks (schema_of n) counts_text
+pub counts_asks : (n : SchemaVersion) → Asks (schema_of n) counts_text
 unfolding understood everything
 counts_asks n = record { is = (omega (arith), refl, (refl, refl, refl, refl)); unlisted = refl }
 
@@ -106,7 +106,7 @@ answered db rows a =
     ∙ map-map (λ (o : Output). o.1) (output q) (map (env_of db) (db heads_tree)) ∙ map-map (eval_all q.project) (env_of db) (db heads_tree) in
     subst (λ xs. IsPermutation xs rows) kept (subst (IsPermutation (map (λ (o : Output). o.1) a.kept)) (sym a.shown) (IsPermutation-map (λ (o : Output). o.1) a.kept a.ordered a.same))
 
-looked : (n : Edition) → (old new : State) → old.now.schema ≡ schema_of n → (rows : List Row) → Shown counts_text [] old new rows → IsPermutation (source old.now.trees) rows
+looked : (n : SchemaVersion) → (old new : State) → old.now.schema ≡ schema_of n → (rows : List Row) → Shown counts_text [] old new rows → IsPermutation (source old.now.trees) rows
 looked n old new has rows h =
     let read = reads_as counts_text [] old new (schema_of n) has _ (counts_is n).0 (counts_plain n) (counts_is n).1 rows h in
     answered (overlay old.now.trees []) rows (read.answer Null)
@@ -221,7 +221,7 @@ module _ (entries : List Row) (es : List Entry) (are : IsPermutation (map entry_
   if_counted : (h : HeadRow) → IsCounted es h → Counts entries (head_row h)
   if_counted h it = ap number (it ∙ sym (whole h))
 
-module _ (n : Edition) (old new : State) (has : old.now.schema ≡ schema_of n) (same : IsUnchanged old new) (es : List Entry) (hs : List HeadRow) (are : AreEntries new.now es) (decides : IsPermutation (map head_row hs) (map head_columns (new.now.trees heads_tree))) where
+module _ (n : SchemaVersion) (old new : State) (has : old.now.schema ≡ schema_of n) (same : IsUnchanged old new) (es : List Entry) (hs : List HeadRow) (are : AreEntries new.now es) (decides : IsPermutation (map head_row hs) (map head_columns (new.now.trees heads_tree))) where
   counts_yes : Checked ShowsCount counts_text old new true → DecidesCounts es hs true
   counts_yes (rows, shown, all) =
       let db : new.now ≡ old.now = same.0.now_is in

@@ -33,7 +33,7 @@ use Rattle.vault_audit_entries.specs.HeadPasses.{ComesAfter, with_head}
 use Rattle.vault_audit_entries.proofs.HeadRowLemmas.{same_head}
 use Rattle.vault_audit_entries.proofs.HeadRiseLemmas.{row_order, row_order_total, ascending_heads, limits, fitting, no_last, rows_rise}
 use Rattle.vault_audit_entries.proofs.HeadTextLemmas.{heads_walk, heads_shown, heads_order, heads_walk_is, heads_walk_plain}
-use Rattle.vault_audit_model.specs.declared.schema.Edition.{Edition}
+use Rattle.vault_audit_model.specs.declared.schema.SchemaVersion.{SchemaVersion}
 
 -- ---- what the query shows
 
@@ -43,7 +43,7 @@ by_key a b = refl
 abbrev source : Database → List Row
 source db = join_rows heads_tree 3 heads_shown db.trees
 
-answers : (n : Edition) → (a b : State) → a.now.schema ≡ schema_of n → (rows : List Row) → Shown heads_walk [] a b rows → IsPermutation (source a.now) rows × IsSorted row_order rows
+answers : (n : SchemaVersion) → (a b : State) → a.now.schema ≡ schema_of n → (rows : List Row) → Shown heads_walk [] a b rows → IsPermutation (source a.now) rows × IsSorted row_order rows
 answers n a b schema rows shown = joined heads_walk a b (schema_of n) schema (heads_walk_plain n) (heads_walk_is n).1 heads_tree 3 heads_shown heads_order row_order _ (heads_walk_is n).0 by_key refl rows shown
 
 -- a row of heads, with the bucket, the key and the removal of the entry that is its newest
@@ -158,7 +158,7 @@ total_after p [] low = no_less 18446744073709551615 p.total low
 total_after p (h ∷ hs) low =
     total_after (with_head p h) hs (below_most (p.total + h.head.count)) ∙ summed_up 18446744073709551615 p.total h.head.count (sum_of_counts hs)
 
-module _ (n : Edition) (old new : State) (has : old.now.schema ≡ schema_of n) (same : IsUnchanged old new) (r : HeadPass) (es : List Entry) (are : AreEntries new.now es) where
+module _ (n : SchemaVersion) (old new : State) (has : old.now.schema ≡ schema_of n) (same : IsUnchanged old new) (r : HeadPass) (es : List Entry) (are : AreEntries new.now es) where
   pub heads_yes : Walked (Takes headed_row ComesAfter with_head) (Refuses headed_row ComesAfter with_head) heads_walk old new start r true → DecidesHeadsByKey new.now es (Some r.total)
   heads_yes h =
       let it = pass_yes headed_row ComesAfter with_head same_head row_order row_order_total (schema_of n) heads_walk _ _ (heads_walk_is n).0 source (answers n) old new has same start r h in

@@ -31,7 +31,7 @@ use Rattle.vault_audit_entries.proofs.HeadSumLemmas.{alike_among, none_removed, 
 use Rattle.vault_core_laws.proofs.Tests.{none_is}
 use Rattle.vault_audit_entries.specs.Keys.{DecidesHeadsOf, entries_of}
 use Rattle.vault_audit_entries.proofs.MemberLemmas.{In, at_in, all_of, none_in, no_length, one_in, filter_in, in_filter, any_in, in_any, map_in, in_map, one_of, same_rising}
-use Rattle.vault_audit_model.specs.declared.schema.Edition.{Edition}
+use Rattle.vault_audit_model.specs.declared.schema.SchemaVersion.{SchemaVersion}
 use Rattle.vault_audit_laws.proofs.PartLemmas.{few_entries}
 
 -- ---- tests
@@ -320,5 +320,5 @@ module _ (db : Database) (v : Vault) (are : AreEntries db (entries_of v)) where
     decided = decided_as (held == total) refl
 
 -- heads that are none of any vault are those of no sound vault
-pub unsound : (n : Edition) → (db : Database) → DecidesHeadsOf db false → (v : Vault) → ¬ AreSoundAs n db v
+pub unsound : (n : SchemaVersion) → (db : Database) → DecidesHeadsOf db false → (v : Vault) → ¬ AreSoundAs n db v
 unsound n db stated v it = stated v (sound_entries n db v it) it.heads

@@ -20,7 +20,7 @@ use Rattle.vault_audit_entries.specs.Contents.{is_held_version, held_count}
 use Rattle.vault_audit_entries.specs.HeadCounts.{is_held, held_entry_count}
 use Rattle.vault_audit_entries.specs.HeldPasses.{is_zero, is_held_row, is_version_row, Counts}
 use Rattle.vault_audit_entries.proofs.ContentTextLemmas.{held_text, held_scan}
-use Rattle.vault_audit_model.specs.declared.schema.Edition.{Edition}
+use Rattle.vault_audit_model.specs.declared.schema.SchemaVersion.{SchemaVersion}
 
 -- what a count has come to
 module _ (count_of : HeldCount → ℕ) (test : Row → Bool) (step : (p : HeldCount) (row : Row) (q : HeldCount) → Counts p row q → count_of q ≡ count_of p + bit (test row) 1) where
@@ -60,7 +60,7 @@ module _ (test : Row → Bool) (is : Entry → Bool) (same : (e : Entry) → tes
       let three : length (map shown (filter is es)) ≡ length (filter is es) = simp length-map in
       ap length (one ∙ ap (map shown) two) ∙ three
 
-module _ (n : Edition) (old new : State) (has : old.now.schema ≡ schema_of n) (same : IsUnchanged old new) (r : HeldCount) (es : List Entry) (are : AreEntries new.now es) where
+module _ (n : SchemaVersion) (old new : State) (has : old.now.schema ≡ schema_of n) (same : IsUnchanged old new) (r : HeldCount) (es : List Entry) (are : AreEntries new.now es) where
   cells : (rows : List Row) → Shown held_text [] old new rows → IsPermutation (map two_cells (map entry_row es)) rows
   cells rows shown =
       let db : new.now ≡ old.now = same.0.now_is in

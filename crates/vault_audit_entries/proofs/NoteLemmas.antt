@@ -46,7 +46,7 @@ use Rattle.vault_audit_entries.specs.NotePasses.{ComesAfter, with_note}
 use Rattle.vault_audit_entries.proofs.NoteRowLemmas.{first_ten, same_row}
 use Rattle.vault_audit_entries.proofs.NoteTextLemmas.{notes_walk, notes_shown, notes_order, notes_walk_is, notes_walk_plain}
 use Rattle.vault_audit_entries.proofs.HeadCountLemmas.{ints}
-use Rattle.vault_audit_model.specs.declared.schema.Edition.{Edition}
+use Rattle.vault_audit_model.specs.declared.schema.SchemaVersion.{SchemaVersion}
 
 abbrev Fit : NotePass → List Note → Type 0
 Fit = AllFit noted_row ComesAfter with_note
@@ -109,7 +109,7 @@ by_line a b = refl
 abbrev source : Database → List Row
 source db = join_rows intake_tree 10 notes_shown db.trees
 
-answers : (n : Edition) → (a b : State) → a.now.schema ≡ schema_of n → (rows : List Row) → Shown notes_walk [] a b rows → IsPermutation (source a.now) rows × IsSorted row_order rows
+answers : (n : SchemaVersion) → (a b : State) → a.now.schema ≡ schema_of n → (rows : List Row) → Shown notes_walk [] a b rows → IsPermutation (source a.now) rows × IsSorted row_order rows
 answers n a b schema rows shown = joined notes_walk a b (schema_of n) schema (notes_walk_plain n) (notes_walk_is n).1 intake_tree 10 notes_shown notes_order row_order _ (notes_walk_is n).0 by_line refl rows shown
 
 -- a row of intake, with the bucket, the key, the size and the digest of the entry of its id
@@ -197,7 +197,7 @@ shown_noted db es ns are same all =
 abbrev pub start : NotePass
 start = record { last = None }
 
-module _ (n : Edition) (old new : State) (has : old.now.schema ≡ schema_of n) (same : IsUnchanged old new) (r : NotePass) (es : List Entry) (are : AreEntries new.now es) where
+module _ (n : SchemaVersion) (old new : State) (has : old.now.schema ≡ schema_of n) (same : IsUnchanged old new) (r : NotePass) (es : List Entry) (are : AreEntries new.now es) where
   notes_yes : Walked (Takes noted_row ComesAfter with_note) (Refuses noted_row ComesAfter with_note) notes_walk old new start r true → DecidesNotes new.now es true
   notes_yes h =
       let it = pass_yes noted_row ComesAfter with_note same_row row_order row_order_total (schema_of n) notes_walk _ _ (notes_walk_is n).0 source (answers n) old new has same start r h in
@@ -218,10 +218,10 @@ named : (v : Vault) (ns : List Note) → AllByRecursion (λ n. IsNoted n (entry_
 named v [] all = tt
 named v (n ∷ ns) all = (subst (IsNoted n) (entry_found n.id v.histories) all.0, named v ns all.1)
 
-sound_notes : (n : Edition) → (db : Database) (v : Vault) → AreSoundAs n db v → AreNotes db (entries_in v.histories) v.notes
+sound_notes : (n : SchemaVersion) → (db : Database) (v : Vault) → AreSoundAs n db v → AreNotes db (entries_in v.histories) v.notes
 sound_notes n db v it =
     let kept = it.spells.kept in
     (it.spells.intake, kept.sound.ordered.notes, kept.limits.notes, named v v.notes kept.sound.notes)
 
-pub unsound : (n : Edition) → (db : Database) → ((es : List Entry) → AreEntries db es → DecidesNotes db es false) → (v : Vault) → ¬ AreSoundAs n db v
+pub unsound : (n : SchemaVersion) → (db : Database) → ((es : List Entry) → AreEntries db es → DecidesNotes db es false) → (v : Vault) → ¬ AreSoundAs n db v
 unsound n db stated v it = stated (entries_in v.histories) (sound_entries n db v it) v.notes ((sound_notes n) db v it)

@@ -30,7 +30,7 @@ use Rattle.vault_audit_entries.proofs.SettingTextLemmas.{placed_walk, placed_wal
 use Rattle.vault_audit_entries.proofs.SettingPresenceLemmas.{presence}
 use Rattle.vault_audit_walk.specs.Records.{Checked}
 use Rattle.vault_audit_walk.specs.Beside.{ReportsAbsence}
-use Rattle.vault_audit_model.specs.declared.schema.Edition.{Edition}
+use Rattle.vault_audit_model.specs.declared.schema.SchemaVersion.{SchemaVersion}
 use Rattle.vault_audit_rows.proofs.LimitLemmas.{numbers_of}
 
 -- ---- the walk
@@ -38,10 +38,10 @@ use Rattle.vault_audit_rows.proofs.LimitLemmas.{numbers_of}
 abbrev source : Database → List Row
 source db = map setting_columns (db.trees settings_tree)
 
-answers : (n : Edition) → (a b : State) → a.now.schema ≡ schema_of n → (rows : List Row) → Shown placed_walk [] a b rows → IsPermutation (source a.now) rows × IsSorted pair_cmp rows
+answers : (n : SchemaVersion) → (a b : State) → a.now.schema ≡ schema_of n → (rows : List Row) → Shown placed_walk [] a b rows → IsPermutation (source a.now) rows × IsSorted pair_cmp rows
 answers n a b schema rows shown = pair_walked placed_walk a b (schema_of n) schema (placed_walk_plain n) (placed_walk_is n).1 settings_tree 1 2 (drop 2 (terms_of settings)) _ (placed_walk_is n).0 refl rows shown
 
-module _ (n : Edition) (old new : State) (has : old.now.schema ≡ schema_of n) (same : IsUnchanged old new) (r : SettingPass) where
+module _ (n : SchemaVersion) (old new : State) (has : old.now.schema ≡ schema_of n) (same : IsUnchanged old new) (r : SettingPass) where
   pub places : (b : Bool) → Walked (Takes setting_row ComesNext with_setting) (Refuses setting_row ComesNext with_setting) placed_walk old new no_setting r b → DecidesPlaces new.now b
   places true h =
       let it = pass_yes setting_row ComesNext with_setting same_setting pair_cmp pair_cmp_total (schema_of n) placed_walk _ _ (placed_walk_is n).0 source (answers n) old new has same no_setting r h in
@@ -72,7 +72,7 @@ have : (hs : List History) → AllByRecursion IsHistory hs → AllByRecursion Is
 have [] are whole = tt
 have (h ∷ hs) are whole = ((whole_as h.entry.marker h whole.0, are.0.settings), have hs are.1 whole.1)
 
-module _ (n : Edition) (db : Database) (v : Vault) (it : AreSoundAs n db v) where
+module _ (n : SchemaVersion) (db : Database) (v : Vault) (it : AreSoundAs n db v) where
   pub its_entries : AreEntries db (map (λ h. h.entry) v.histories)
   its_entries = (
     subst (λ rows. IsPermutation rows (map entry_columns (db.trees entries_tree))) (sym (map-map entry_row (λ h. h.entry) v.histories)) it.spells.entries,
@@ -83,12 +83,12 @@ module _ (n : Edition) (db : Database) (v : Vault) (it : AreSoundAs n db v) wher
   its_settings = (refl, it.spells.settings, have v.histories it.spells.kept.limits.histories it.spells.kept.sound.whole)
 
 -- so where they are not, the tables are sound for no vault
-pub unsound : (n : Edition) → (db : Database) → ((es : List Entry) → AreEntries db es → DecidesSettings db es false) → (v : Vault) → ¬ AreSoundAs n db v
+pub unsound : (n : SchemaVersion) → (db : Database) → ((es : List Entry) → AreEntries db es → DecidesSettings db es false) → (v : Vault) → ¬ AreSoundAs n db v
 unsound n db none v it = none (map (λ h. h.entry) v.histories) ((its_entries n) db v it) v.histories ((its_settings n) db v it)
 
 -- ---- the answers of the looks
 
-module _ (n : Edition) (old new : State) (has : old.now.schema ≡ schema_of n) where
+module _ (n : SchemaVersion) (old new : State) (has : old.now.schema ≡ schema_of n) where
   pub places_if_ok : (r : SettingPass) (answer : Result Bool Error) → OnOk answer (IsUnchanged old new)
       → IfOk answer (Walked (Takes setting_row ComesNext with_setting) (Refuses setting_row ComesNext with_setting) placed_walk old new no_setting r) → IfOk answer (DecidesPlaces new.now)
   places_if_ok r (Ok b) same h = places n old new has same r b h

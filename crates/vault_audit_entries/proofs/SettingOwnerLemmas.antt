@@ -14,7 +14,7 @@ use Rattle.sqlite_sql.specs.Ops.{binary, is_true, from_truth}
 use Rattle.sqlite.specs.Effect.{Database}
 use Rattle.vault_core_model.specs.declared.records.Entry.{Entry}
 use Rattle.vault_audit_model.specs.declared.rows.SettingRow.{SettingRow}
-use Rattle.vault_audit_model.specs.declared.schema.Edition.{Edition}
+use Rattle.vault_audit_model.specs.declared.schema.SchemaVersion.{SchemaVersion}
 use Rattle.vault_audit_model.specs.Relations.{AreEntries}
 use Rattle.vault_audit_model.specs.Rows.{entry_row, entry_columns, setting_row, setting_columns}
 use Rattle.vault_audit_model.specs.Tables.{entries_tree, settings_tree}
@@ -34,7 +34,7 @@ tied_agrees (Real x) n tie = ap (λ o. is_true (from_truth (Some (is_eq o)))) ti
 tied_agrees (Text t) n tie = ap (λ o. is_true (from_truth (Some (is_eq o)))) tie
 tied_agrees (Blob b) n tie = ap (λ o. is_true (from_truth (Some (is_eq o)))) tie
 
-module _ (n : Edition) (db : Database) (tied : AreTied n db) (es : List Entry) (are : AreEntries db es) (xs : List SettingRow) (rows : AreRowsOf db xs) where
+module _ (n : SchemaVersion) (db : Database) (tied : AreTied n db) (es : List Entry) (are : AreEntries db es) (xs : List SettingRow) (rows : AreRowsOf db xs) where
   abbrev Entries : List Row
   Entries = db.trees entries_tree
 
@@ -58,5 +58,5 @@ module _ (n : Edition) (db : Database) (tied : AreTied n db) (es : List Entry) (
       let stored : AllByRecursion (λ r. IsTiedRow (setting_columns r)) (db.trees settings_tree) = all_from_map IsTied (λ r. column r 1) (db.trees settings_tree) tied.entries_of_settings in
       all_as owner xs (of_records setting_row setting_columns IsTiedRow xs (db.trees settings_tree) rows stored)
 
-pub have_owners : (n : Edition) (db : Database) → AreTied n db → HaveOwners db
+pub have_owners : (n : SchemaVersion) (db : Database) → AreTied n db → HaveOwners db
 have_owners n db tied = owned n db tied

@@ -17,7 +17,7 @@ use Rattle.vault_audit_model.proofs.ValueLemmas.{agrees}
 use Rattle.vault_audit_walk.proofs.BesideLemmas.{agree_numbers, beside_row, beside_yes, beside_no, met_yes, met_no, met_as, of_records, of_stored}
 use Rattle.vault_audit_entries.specs.SettingPlaces.{AreRowsOf, IsSetAs, DecidesPresence}
 use Rattle.vault_audit_entries.proofs.SettingTextLemmas.{settings_beside, settings_beside_is}
-use Rattle.vault_audit_model.specs.declared.schema.Edition.{Edition}
+use Rattle.vault_audit_model.specs.declared.schema.SchemaVersion.{SchemaVersion}
 use Rattle.vault_audit_model.proofs.ListLemmas.{all_as}
 
 -- ---- each entry beside its settings
@@ -41,7 +41,7 @@ module _ (db : Database) (es : List Entry) (are : AreEntries db es) (xs : List S
   set_no all =
       of_stored entry_row entry_columns Besides es (db.trees entries_tree) are.0 (all_as (λ e stated. met_no (col 1 3) 1 0 (entry_row e) e.marker (λ s. refl) Settings (has e.id ∙ stated)) es all)
 
-module _ (n : Edition) (old new : State) (has : old.now.schema ≡ schema_of n) (same : IsUnchanged old new) where
+module _ (n : SchemaVersion) (old new : State) (has : old.now.schema ≡ schema_of n) (same : IsUnchanged old new) where
   pub presence : (b : Bool) → Checked ReportsAbsence settings_beside old new b → DecidesPresence new.now b
   presence true h es are xs rows = set_yes new.now es are xs rows (beside_yes (settings_beside_is n) (λ trees. (refl, refl)) ReportsAbsence old new has same h)
   presence false h es are xs rows = λ all. beside_no (settings_beside_is n) (λ trees. (refl, refl)) ReportsAbsence old new has same h (set_no new.now es are xs rows all)

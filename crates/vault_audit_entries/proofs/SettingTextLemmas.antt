@@ -11,31 +11,31 @@ use Rattle.vault_audit_schema.specs.Texts.{names_of, select_text, terms_of}
 use Rattle.vault_audit_walk.proofs.PairLemmas.{pair_walk_of}
 use Rattle.vault_audit_walk.proofs.BesideLemmas.{beside_of}
 use Rattle.vault_audit_walk.specs.Health.{Asks}
-use Rattle.vault_audit_model.specs.declared.schema.Edition.{Edition}
+use Rattle.vault_audit_model.specs.declared.schema.SchemaVersion.{SchemaVersion}
 
 abbrev pub placed_walk : List ℕ
 placed_walk = select_text settings (codes " ORDER BY id, n")
 
-pub placed_walk_is : (n : Edition) → (command_of (understood (schema_of n) placed_walk) ≡ Select (record { lets = []; body = pair_walk_of settings_tree 1 2 (drop 2 (terms_of settings)) }) (names_of settings))
+pub placed_walk_is : (n : SchemaVersion) → (command_of (understood (schema_of n) placed_walk) ≡ Select (record { lets = []; body = pair_walk_of settings_tree 1 2 (drop 2 (terms_of settings)) }) (names_of settings))
     × (reads_listing (schema_of n) placed_walk ≡ false)
 unfolding understood everything
 placed_walk_is n = (refl, refl)
 
-pub placed_walk_plain : (n : Edition) → IsPlain (understood (schema_of n) placed_walk)
+pub placed_walk_plain : (n : SchemaVersion) → IsPlain (understood (schema_of n) placed_walk)
 unfolding understood everything
 placed_walk_plain n = (refl, refl)
 
-pub placed_walk_asks : (n : Edition) → Asks (schema_of n) placed_walk
+pub placed_walk_asks : (n : SchemaVersion) → Asks (schema_of n) placed_walk
 unfolding understood everything
 placed_walk_asks n = record { is = (omega (arith), refl, (refl, refl, refl, refl)); unlisted = refl }
 
 abbrev pub settings_beside : List ℕ
 settings_beside = codes "SELECT e.marker, s.id FROM entries AS e LEFT JOIN settings AS s ON s.id = e.id"
 
-pub settings_beside_is : (n : Edition) → Selects (schema_of n) settings_beside (beside_of 9 settings_tree (col 1 4) 1 0)
+pub settings_beside_is : (n : SchemaVersion) → Selects (schema_of n) settings_beside (beside_of 9 settings_tree (col 1 4) 1 0)
 unfolding understood everything
 settings_beside_is n = record { names = codes "marker" ∷ codes "id" ∷ []; is = refl; plain = (refl, refl); unlisted = refl }
 
-pub settings_beside_asks : (n : Edition) → Asks (schema_of n) settings_beside
+pub settings_beside_asks : (n : SchemaVersion) → Asks (schema_of n) settings_beside
 unfolding understood everything
 settings_beside_asks n = record { is = (omega (arith), refl, (refl, refl, refl, refl)); unlisted = refl }

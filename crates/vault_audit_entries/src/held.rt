@@ -6,11 +6,11 @@ ghost use Rattle.sqlite.specs.State.{HasCleanDisk};
 ghost use Rattle.sqlite.specs.Held.{state};
 ghost use Rattle.vault_audit_model.specs.Rows.{bit};
 ghost use Rattle.vault_audit_entries.specs.HeldPasses.{CountsRows, is_zero, is_held_row, is_version_row};
-ghost use Rattle.vault_audit_walk.specs.Health.{IsHealthy, IsMemory, IsOfEdition, OnlyLooks};
+ghost use Rattle.vault_audit_walk.specs.Health.{IsHealthy, IsMemory, IsOfSchemaVersion, OnlyLooks};
 
 use sqlite::types::ValueRef;
 use sqlite::{Alter, Connection, Error, ErrorCode, Row};
-use vault_audit_model::schema::Edition;
+use vault_audit_model::schema::SchemaVersion;
 use vault_audit_walk::walk::{Pass, walk};
 
 /// The counts of held entries as they run.
@@ -88,8 +88,8 @@ impl Pass for HeldCount {
 }
 
 /// How many of `entries` are held, and how many of these are versions.
-pub fn count_held<S: Alter>(conn: &mut Connection<S>, edition: Edition) -> Result<HeldCount, Error>
-    requires { IsOfEdition S.Store conn.old edition }
+pub fn count_held<S: Alter>(conn: &mut Connection<S>, schema_version: SchemaVersion) -> Result<HeldCount, Error>
+    requires { IsOfSchemaVersion S.Store conn.old schema_version }
     ensures reported { HasCleanDisk (state S.Store conn.new) → IfOk result (CountsRows (state S.Store conn.new).now) }
     ensures look { OnlyLooks S.Store conn.old conn.new result }
     ensures err { IsHealthy (state S.Store conn.new) → IfErr result IsMemory }

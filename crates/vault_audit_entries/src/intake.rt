@@ -16,11 +16,11 @@ ghost use Rattle.vault_audit_model.specs.Rows.{retention_mode, retention_until};
 ghost use Rattle.vault_audit_model.specs.Spells.{AreSoundAs};
 ghost use Rattle.vault_audit_model.specs.Values.{number as value, flag_or_null as hold_value};
 ghost use Rattle.vault_audit_entries.specs.Notes.{noted_row, IsAfter};
-ghost use Rattle.vault_audit_walk.specs.Health.{IsHealthy, IsMemory, IsOfEdition, OnlyLooks};
+ghost use Rattle.vault_audit_walk.specs.Health.{IsHealthy, IsMemory, IsOfSchemaVersion, OnlyLooks};
 
 use sqlite::{Alter, Connection, Error, ErrorCode, Row};
 use std::cmp::Ordering;
-use vault_audit_model::schema::Edition;
+use vault_audit_model::schema::SchemaVersion;
 use vault_audit_rows::cell::{
     bytes, digest, flag_or_null, number, number_within, text, version_id,
 };
@@ -148,10 +148,10 @@ impl Pass for NotePass {
 
 /// Whether each row of `intake` holds a note of a version of its bucket, key, size and digest, and no
 /// two are of one line of a batch. It is meant for entries whose ids are 1, 2, 3 and so on.
-pub fn check_notes<S: Alter>(conn: &mut Connection<S>, edition: Edition) -> Result<bool, Error>
-    requires { IsOfEdition S.Store conn.old edition }
+pub fn check_notes<S: Alter>(conn: &mut Connection<S>, schema_version: SchemaVersion) -> Result<bool, Error>
+    requires { IsOfSchemaVersion S.Store conn.old schema_version }
     ensures reported { HasCleanDisk (state S.Store conn.new) → IfOk result (λ b. (es : List Entry) → AreEntries (state S.Store conn.new).now es → DecidesNotes (state S.Store conn.new).now es b) }
-    ensures damaged { HasCleanDisk (state S.Store conn.new) → IfOk result (λ found. found ≡ false → (v : Vault) → ¬ AreSoundAs edition (state S.Store conn.new).now v) }
+    ensures damaged { HasCleanDisk (state S.Store conn.new) → IfOk result (λ found. found ≡ false → (v : Vault) → ¬ AreSoundAs schema_version (state S.Store conn.new).now v) }
     ensures look { OnlyLooks S.Store conn.old conn.new result }
     ensures err { IsHealthy (state S.Store conn.new) → IfErr result IsMemory }
 {

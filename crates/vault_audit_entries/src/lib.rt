@@ -1,6 +1,6 @@
 //! Looks at what stands beside the entries: contents, settings, notes of intakes, and the heads of their keys.
 //!
-//! An error is want of memory, reported as `ErrorCode::OutOfMemory`, or a failure of the store.
+//! An error is out of memory, reported as `ErrorCode::OutOfMemory`, or a failure of the store.
 #![tactic(auto)]
 
 pub mod contents;

@@ -23,7 +23,7 @@ use Rattle.vault_core_model.specs.IntakeOutcome.{is_line}
 use Rattle.vault_core_model.specs.Sound.{Sound, AreIdsFrom, AreInOrder, IsInTime, IsWhole, IsWholeAs, IsPlaced, IsNoted, NamesItsVersion, IsInNameOrder, LiesBetween}
 use Rattle.vault_core_model.specs.Totals.{items_in}
 use Rattle.vault_core_model.specs.Vault.{next_id, Vault, config_in}
-use Rattle.vault_audit_model.specs.declared.schema.Edition.{Edition}
+use Rattle.vault_audit_model.specs.declared.schema.SchemaVersion.{SchemaVersion}
 use Rattle.vault_audit_model.specs.declared.rows.MetaRow.{MetaRow}
 use Rattle.vault_audit_model.specs.Limits.{IsInLimits, IsHistory, IsEntry, IsSizedAs, IsBucket, AreRules, IsNote}
 use Rattle.vault_audit_model.specs.Relations.{AreNumbered, IsPast, HasContent, HasContentAs, HasSettings, HasSettingsAs, NamesOneOf}
@@ -95,7 +95,7 @@ line n (low, high) = grind (arith, low, high)
 
 -- ---- the vault
 
-module _ (ed : Edition) (db : Database) (m : MetaRow) (departments : List (List ℕ)) (callers : List Caller) (buckets : List Bucket) (notes : List Note) (entries : List Entry) (contents settings tenures : List History) (are : AreParts ed db m departments callers buckets notes entries contents settings tenures) where
+module _ (ed : SchemaVersion) (db : Database) (m : MetaRow) (departments : List (List ℕ)) (callers : List Caller) (buckets : List Bucket) (notes : List Note) (entries : List Entry) (contents settings tenures : List History) (are : AreParts ed db m departments callers buckets notes entries contents settings tenures) where
   abbrev hs : List History
   hs = joined contents settings tenures
 

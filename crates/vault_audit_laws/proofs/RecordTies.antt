@@ -19,8 +19,8 @@ use Rattle.vault_core_model.specs.declared.records.Entry.{Entry}
 use Rattle.vault_core_model.specs.declared.records.History.{History}
 use Rattle.vault_core_model.specs.declared.records.Tenure.{Tenure}
 use Rattle.vault_core_model.specs.Vault.{Vault, config_in}
-use Rattle.vault_audit_model.specs.declared.schema.Edition.{Edition}
-use Rattle.vault_audit_model.specs.declared.schema.Edition.TheVariants.{First, Second, Third}
+use Rattle.vault_audit_model.specs.declared.schema.SchemaVersion.{SchemaVersion}
+use Rattle.vault_audit_model.specs.declared.schema.SchemaVersion.TheVariants.{First, Second, Third}
 use Rattle.vault_audit_model.specs.Rows.{caller_row, bucket_row, entry_row, tenure_row, caller_columns, bucket_columns, entry_columns}
 use Rattle.vault_audit_model.specs.Spells.{bucket_of, tenure_at, tenures_in, tenure_rows_of, tenure_rows_in}
 use Rattle.vault_audit_model.specs.Tables.{departments_tree, callers_tree, buckets_tree, entries_tree}
@@ -94,7 +94,7 @@ unmoved_owned departments v unmoved owned =
 
 -- ---- all records
 
-module _ (n : Edition) (db : Database) (tied : AreTied n db) where
+module _ (n : SchemaVersion) (db : Database) (tied : AreTied n db) where
   pub callers_employed : (departments : List (List ℕ)) (callers : List Caller) → IsPermutation (map (λ d. Text d) departments) (map (λ r. column r 1) (db.trees departments_tree))
       → IsPermutation (map caller_row callers) (map caller_columns (db.trees callers_tree)) → AllByRecursion (λ (c : Caller). IsTrue (passes_if_given (is_among departments) c.dept)) callers
   callers_employed departments callers stated are =
@@ -135,7 +135,7 @@ stated_owned db tied departments v stated are =
     among departments names t.dept stated
     (all_has (λ x. (x ≡ Null) ⊎ Has names x) (map (λ r. column r 2) (tenure_rows_in Third db)) (Text t.dept) tied.departments_of_tenures (mapped_has (λ r. column r 2) (tenure_rows_in Third db) row stored))))
 
-pub tenures_owned : (n : Edition) (db : Database) → AreTied n db → (departments : List (List ℕ)) (v : Vault) → IsPermutation (map (λ d. Text d) departments) (map (λ r. column r 1) (db.trees departments_tree))
+pub tenures_owned : (n : SchemaVersion) (db : Database) → AreTied n db → (departments : List (List ℕ)) (v : Vault) → IsPermutation (map (λ d. Text d) departments) (map (λ r. column r 1) (db.trees departments_tree))
     → IsPermutation (tenure_rows_of n v) (tenure_rows_in n db) → IsUnmovedIn n v → AllByRecursion (λ (b : Bucket). IsTrue (is_among departments b.config.dept)) v.buckets
     → AllByRecursion (λ (h : History). AllByRecursion (λ (t : Tenure). IsTrue (is_among departments t.dept)) h.tenures) v.histories
 tenures_owned First db tied departments v stated are unmoved owned = unmoved_owned departments v unmoved owned

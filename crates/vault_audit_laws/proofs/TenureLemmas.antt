@@ -7,8 +7,8 @@ use Rattle.vault_core_model.specs.declared.records.Removal.{Removal}
 use Rattle.vault_core_model.specs.Sound.{HasTenures, HasTenuresAs, IsWithBucket}
 use Rattle.vault_core_model.specs.Vault.{Vault}
 use Rattle.vault_audit_model.specs.declared.rows.MetaRow.{MetaRow}
-use Rattle.vault_audit_model.specs.declared.schema.Edition.{Edition}
-use Rattle.vault_audit_model.specs.declared.schema.Edition.TheVariants.{First, Second, Third}
+use Rattle.vault_audit_model.specs.declared.schema.SchemaVersion.{SchemaVersion}
+use Rattle.vault_audit_model.specs.declared.schema.SchemaVersion.TheVariants.{First, Second, Third}
 use Rattle.vault_audit_model.specs.Relations.{IsTenured, IsTenuredAs}
 use Rattle.vault_audit_model.specs.Rows.{tenure_row}
 use Rattle.vault_audit_model.specs.Spells.{entries_in, tenure_rows_of}
@@ -49,12 +49,12 @@ module _ (m : MetaRow) (v : Vault) (cs ss ts : List History) (e : entries_in cs 
   unmoved : IsUnmoved stated → IsUnmoved whole
   unmoved is = record { moves = is.moves; tenures = all_third (HasFirstTenures v.buckets) (HasFirstTenures v.buckets) first_too cs ss ts e f is.tenures }
 
-  pub joined_unmoved : (n : Edition) → IsUnmovedIn n stated → IsUnmovedIn n whole
+  pub joined_unmoved : (n : SchemaVersion) → IsUnmovedIn n stated → IsUnmovedIn n whole
   joined_unmoved First is = unmoved is
   joined_unmoved Second is = unmoved is
   joined_unmoved Third is = tt
 
-  pub joined_rows : (n : Edition) → tenure_rows_of n stated ≡ tenure_rows_of n whole
+  pub joined_rows : (n : SchemaVersion) → tenure_rows_of n stated ≡ tenure_rows_of n whole
   joined_rows First = refl
   joined_rows Second = refl
   joined_rows Third = ap (map tenure_row) (sym (joined_tenures cs ss ts e f))

@@ -24,8 +24,8 @@ use Rattle.sqlite_rules.specs.Lists.{Has}
 use Rattle.sqlite_rules.proofs.ListLemmas.{all_has, some_has}
 use Rattle.sqlite_rules.proofs.ProbeLemmas.{mapped_has}
 use Rattle.sqlite.specs.Effect.{Database, IsDatabase}
-use Rattle.vault_audit_model.specs.declared.schema.Edition.{Edition}
-use Rattle.vault_audit_model.specs.declared.schema.Edition.TheVariants.{First, Second, Third}
+use Rattle.vault_audit_model.specs.declared.schema.SchemaVersion.{SchemaVersion}
+use Rattle.vault_audit_model.specs.declared.schema.SchemaVersion.TheVariants.{First, Second, Third}
 use Rattle.vault_audit_model.specs.Rows.{tenure_columns}
 use Rattle.vault_audit_model.specs.Spells.{tenure_rows_in}
 use Rattle.vault_audit_model.specs.Tables.{schema_of, rules_as, refers, departments_as, callers, buckets, entries, intake, heads, tenures, has, departments_tree, callers_tree, buckets_tree, rules_tree, entries_tree, contents_tree, settings_tree, intake_tree, heads_tree, tenures_tree}
@@ -183,20 +183,20 @@ module _ (tables : List Table) (trees : Trees) (at place tree : ℕ) (ref : Refe
 
 -- ---- the tables
 
-departments_key : (n : Edition) (at : ℕ) → parent_key (schema_of n).tables (refers at (codes "departments") (codes "name")) ≡ Some (departments_tree, 1 ∷ [], plain)
+departments_key : (n : SchemaVersion) (at : ℕ) → parent_key (schema_of n).tables (refers at (codes "departments") (codes "name")) ≡ Some (departments_tree, 1 ∷ [], plain)
 unfolding same_name joined
 departments_key n at = refl
 
-buckets_key : (n : Edition) (at : ℕ) → parent_key (schema_of n).tables (refers at (codes "buckets") (codes "name")) ≡ Some (buckets_tree, 1 ∷ [], plain)
+buckets_key : (n : SchemaVersion) (at : ℕ) → parent_key (schema_of n).tables (refers at (codes "buckets") (codes "name")) ≡ Some (buckets_tree, 1 ∷ [], plain)
 unfolding same_name joined
 buckets_key n at = refl
 
-entries_key : (n : Edition) (at : ℕ) → parent_key (schema_of n).tables (refers at (codes "entries") (codes "id")) ≡ Some (entries_tree, 0 ∷ [], plain)
+entries_key : (n : SchemaVersion) (at : ℕ) → parent_key (schema_of n).tables (refers at (codes "entries") (codes "id")) ≡ Some (entries_tree, 0 ∷ [], plain)
 unfolding same_name joined
 entries_key n at = refl
 
--- tenures, in the edition that has them
-tenure_departments : (n : Edition) (db : Database) → Keeps Datatype (schema_of n) db.trees → Keeps ForeignKey (schema_of n) db.trees → AllByRecursion (λ r. IsTextOrNull (column r 1)) (db.trees departments_tree)
+-- tenures, in the schema version that has them
+tenure_departments : (n : SchemaVersion) (db : Database) → Keeps Datatype (schema_of n) db.trees → Keeps ForeignKey (schema_of n) db.trees → AllByRecursion (λ r. IsTextOrNull (column r 1)) (db.trees departments_tree)
     → HaveParents (map (λ r. column r 2) (tenure_rows_in n db)) (map (λ r. column r 1) (db.trees departments_tree))
 tenure_departments First db typed refer names = tt
 tenure_departments Second db typed refer names = tt
@@ -207,7 +207,7 @@ tenure_departments Third db typed refer names =
     subst (λ vs. HaveParents vs (map (λ r. column r 1) (db.trees departments_tree))) (sym (map-map (λ r. column r 2) tenure_columns rows))
     (text_parents 3 1 (db.trees departments_tree) rows names texts named)
 
-module _ (n : Edition) (db : Database) (is : IsDatabase db) (ours : db.schema ≡ schema_of n) where
+module _ (n : SchemaVersion) (db : Database) (is : IsDatabase db) (ours : db.schema ≡ schema_of n) where
   refer : Keeps ForeignKey (schema_of n) db.trees
   refer = subst (λ s. Keeps ForeignKey s db.trees) ours (is.obeys.rules ForeignKey)
 

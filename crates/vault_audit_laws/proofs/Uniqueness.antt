@@ -24,9 +24,9 @@ use Rattle.vault_audit_model.specs.declared.rows.MetaRow.{MetaRow}
 use Rattle.vault_audit_model.specs.declared.rows.RuleRow.{RuleRow}
 use Rattle.vault_audit_model.specs.declared.rows.SettingRow.{SettingRow}
 use Rattle.vault_audit_model.specs.declared.rows.TenureRow.{TenureRow}
-use Rattle.vault_audit_model.specs.declared.schema.Edition.{Edition}
-use Rattle.vault_audit_model.specs.declared.schema.Edition.TheVariants.{First, Second, Third}
-use Rattle.vault_audit_model.specs.Editions.{newest}
+use Rattle.vault_audit_model.specs.declared.schema.SchemaVersion.{SchemaVersion}
+use Rattle.vault_audit_model.specs.declared.schema.SchemaVersion.TheVariants.{First, Second, Third}
+use Rattle.vault_audit_model.specs.SchemaVersions.{newest}
 use Rattle.vault_audit_model.specs.Rows.{meta_row, caller_row, bucket_row, rule_row, entry_row, content_row, setting_row, note_row, tenure_row, meta_columns_as, caller_columns, bucket_columns, rule_columns_as, entry_columns, content_columns, setting_columns, note_columns, tenure_columns}
 use Rattle.vault_audit_model.specs.Spells.{SpellsAs, meta_stated, bucket_of, rules_from, rules_if_given, rules_in, content_if_given, contents_in, settings_from, settings_in, tenure_at, tenures_in}
 use Rattle.vault_audit_model.specs.Tables.{meta_tree, departments_tree, callers_tree, buckets_tree, rules_tree, entries_tree, contents_tree, settings_tree, intake_tree, tenures_tree}
@@ -163,7 +163,7 @@ one_history hs ascending g h in_g in_h same =
 
 -- ---- what the one vault has the other has
 
-module _ (n : Edition) (db : Database) where
+module _ (n : SchemaVersion) (db : Database) where
   ordered_ids : (v : Vault) → SpellsAs n db v → IsAscending (on id_of nat_cmp) v.histories
   ordered_ids v it = ascending_numbered id_of 1 v.histories (ids_numbered 1 v.histories it.kept.sound.ids)
 
@@ -240,12 +240,12 @@ module _ (n : Edition) (db : Database) where
 tenures_within : (db : Database) (v w : Vault) → SpellsAs Third db v → SpellsAs Third db w → IsWithin (flat_map tenures_in v.histories) (flat_map tenures_in w.histories)
 tenures_within db v w it is = within_by_rows tenure_row same_tenure (flat_map tenures_in v.histories) (flat_map tenures_in w.histories) (map tenure_columns (db.trees tenures_tree)) it.tenures is.tenures
 
-same_tenures : (n : Edition) (db : Database) (v w : Vault) → SpellsAs n db v → SpellsAs n db w → (g h : History) → Has v.histories g → Has w.histories h → g.entry ≡ h.entry → g.tenures ≡ h.tenures
+same_tenures : (n : SchemaVersion) (db : Database) (v w : Vault) → SpellsAs n db v → SpellsAs n db w → (g h : History) → Has v.histories g → Has w.histories h → g.entry ≡ h.entry → g.tenures ≡ h.tenures
 same_tenures First db v w it is = same_first_tenures First db v w it is it.kept.unmoved is.kept.unmoved
 same_tenures Second db v w it is = same_first_tenures Second db v w it is it.kept.unmoved is.kept.unmoved
 same_tenures Third db v w it is = same_stated_tenures Third db v w it is (tenures_within db v w it is) (tenures_within db w v is it)
 
-module _ (n : Edition) (db : Database) where
+module _ (n : SchemaVersion) (db : Database) where
   same_history_there : (v w : Vault) → SpellsAs n db v → SpellsAs n db w → (g h : History) → Has v.histories g → Has w.histories h → g.entry ≡ h.entry → g ≡ h
   same_history_there v w it is g h in_v in_w same =
       let id : g.entry.id ≡ h.entry.id = ap (λ e. e.id) same in
@@ -271,7 +271,7 @@ module _ (n : Edition) (db : Database) where
 
 -- ---- the vault
 
-pub same_vault_as : (n : Edition) (db : Database) (v w : Vault) → SpellsAs n db v → SpellsAs n db w → v ≡ w
+pub same_vault_as : (n : SchemaVersion) (db : Database) (v w : Vault) → SpellsAs n db v → SpellsAs n db w → v ≡ w
 same_vault_as n db v w it is =
     let first = it.kept.sound.ordered in
     let second = is.kept.sound.ordered in

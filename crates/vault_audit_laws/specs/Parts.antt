@@ -13,8 +13,8 @@ use Rattle.vault_core_model.specs.declared.records.History.{History}
 use Rattle.vault_core_model.specs.declared.records.Note.{Note}
 use Rattle.vault_core_model.specs.Order.{IsAscending, name_cmp}
 use Rattle.vault_core_model.specs.Vault.{Vault, config_in}
-use Rattle.vault_audit_model.specs.declared.schema.Edition.{Edition}
-use Rattle.vault_audit_model.specs.Editions.{number_of}
+use Rattle.vault_audit_model.specs.declared.schema.SchemaVersion.{SchemaVersion}
+use Rattle.vault_audit_model.specs.SchemaVersions.{number_of}
 use Rattle.vault_audit_model.specs.declared.rows.MetaRow.{MetaRow}
 use Rattle.vault_audit_model.specs.Limits.{IsMetaRow, IsPlainName}
 use Rattle.vault_audit_model.specs.Relations.{AreCallers, AreEntries, AreContents, AreSettings, AreNotes, AreTenuresOf, AreBuckets, IsPast, IsWithin}
@@ -28,8 +28,8 @@ AreDepartments db ds =
     IsPermutation (map (λ d. Text d) ds) (map (λ r. column r 1) (db.trees departments_tree)) × IsAscending name_cmp ds
     × AllByRecursion IsPlainName ds
 
--- the row of meta is this one, of that edition, whose next id is above all entries
-abbrev pub IsMeta : Edition → Database → List Entry → MetaRow → Type 0
+-- the row of meta is this one, of that schema version, whose next id is above all entries
+abbrev pub IsMeta : SchemaVersion → Database → List Entry → MetaRow → Type 0
 IsMeta ed db es m =
     IsPermutation (meta_row m ∷ []) (map (meta_columns_as ed) (db.trees meta_tree)) × IsMetaRow m × (m.next ≡ length es + 1) × (m.schema ≡ number_of ed)
 
@@ -74,7 +74,7 @@ abbrev pub IsTenuredAmong : List (List ℕ) → History → Type 0
 IsTenuredAmong ds h = AllByRecursion (λ t. IsAmong ds t.dept) h.tenures
 
 -- what each table says by itself, and what ties them to each other
-pub record AreParts (ed : Edition) (db : Database) (m : MetaRow) (departments : List (List ℕ)) (callers : List Caller) (buckets : List Bucket) (notes : List Note) (entries : List Entry) (contents settings tenures : List History) : Type 0 where
+pub record AreParts (ed : SchemaVersion) (db : Database) (m : MetaRow) (departments : List (List ℕ)) (callers : List Caller) (buckets : List Bucket) (notes : List Note) (entries : List Entry) (contents settings tenures : List History) : Type 0 where
   pub schema : db.schema ≡ schema_of ed
   pub meta : IsMeta ed db entries m
   pub departments_are : AreDepartments db departments

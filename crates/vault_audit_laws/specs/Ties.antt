@@ -8,7 +8,7 @@ use Rattle.sqlite_value.specs.declared.value.Value.TheVariants.{Null}
 use Rattle.sqlite_value.specs.Order.{column, value_cmp}
 use Rattle.sqlite_rules.specs.Lists.{Has}
 use Rattle.sqlite.specs.Effect.{Database}
-use Rattle.vault_audit_model.specs.declared.schema.Edition.{Edition}
+use Rattle.vault_audit_model.specs.declared.schema.SchemaVersion.{SchemaVersion}
 use Rattle.vault_audit_model.specs.Spells.{tenure_rows_in}
 use Rattle.vault_audit_model.specs.Tables.{departments_tree, callers_tree, buckets_tree, rules_tree, entries_tree, contents_tree, settings_tree, intake_tree, heads_tree}
 
@@ -25,7 +25,7 @@ abbrev pub is_among : List (List ℕ) → List ℕ → Bool
 is_among names name = list_any (λ n. bytes_eq n name) names
 
 -- What a row names by a text or by an id stands in its table. An id is compared as SQL does, which for whole numbers is that it is the same.
-pub record AreTied (n : Edition) (db : Database) : Type 0 where
+pub record AreTied (n : SchemaVersion) (db : Database) : Type 0 where
   pub departments_of_callers : HaveParents (map (λ r. column r 2) (db.trees callers_tree)) (map (λ r. column r 1) (db.trees departments_tree))
   pub departments_of_buckets : HaveParents (map (λ r. column r 2) (db.trees buckets_tree)) (map (λ r. column r 1) (db.trees departments_tree))
   pub buckets_of_rules : HaveParents (map (λ r. column r 1) (db.trees rules_tree)) (map (λ r. column r 1) (db.trees buckets_tree))

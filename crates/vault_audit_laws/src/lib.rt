@@ -15,40 +15,40 @@ ghost use Rattle.vault_core_model.specs.declared.records.Bucket.{Bucket};
 ghost use Rattle.vault_core_model.specs.declared.records.Caller.{Caller};
 ghost use Rattle.vault_core_model.specs.declared.records.Entry.{Entry};
 ghost use Rattle.vault_core_model.specs.Vault.{Vault, config_in};
-ghost use Rattle.vault_audit_model.specs.declared.schema.Edition.{Edition};
+ghost use Rattle.vault_audit_model.specs.declared.schema.SchemaVersion.{SchemaVersion};
 ghost use Rattle.vault_audit_model.specs.Rows.{caller_row, bucket_row, entry_row, caller_columns, bucket_columns, entry_columns};
 ghost use Rattle.vault_audit_model.specs.Spells.{SpellsAs, bucket_of, tenure_rows_of, tenure_rows_in};
 ghost use Rattle.vault_audit_model.specs.Tables.{schema_of, departments_tree, callers_tree, buckets_tree, entries_tree};
 ghost use Rattle.vault_audit_model.specs.Tenures.{IsUnmovedIn};
 ghost use Rattle.vault_audit_laws.specs.Ties.{AreTied, is_among};
 
-/// The rows of a database of an edition spell at most one vault.
+/// The rows of a database of a schema version spell at most one vault.
 pub fn one_vault()
-    ensures { (n : Edition) (db : Database) (v w : Vault) → SpellsAs n db v → SpellsAs n db w → v ≡ w }
+    ensures { (n : SchemaVersion) (db : Database) (v w : Vault) → SpellsAs n db v → SpellsAs n db w → v ≡ w }
 {}
 
 /// In a database that obeys the schema of a vault, what a row names stands in its table.
 pub fn live_tables_are_tied()
-    ensures { (n : Edition) (db : Database) → IsDatabase db → db.schema ≡ schema_of n → AreTied n db }
+    ensures { (n : SchemaVersion) (db : Database) → IsDatabase db → db.schema ≡ schema_of n → AreTied n db }
 {}
 
 /// Where it does, the records that the rows hold have what they name: a caller the department, if it has
 /// one, a bucket its department, and an entry its bucket; a tenure its department, where the buckets that state it
 /// without a row have theirs.
 pub fn tied_records_have_what_they_name()
-    ensures employed { (n : Edition) (db : Database) (departments : List (List ℕ)) (callers : List Caller) → AreTied n db →
+    ensures employed { (n : SchemaVersion) (db : Database) (departments : List (List ℕ)) (callers : List Caller) → AreTied n db →
         IsPermutation (map (λ d. Text d) departments) (map (λ r. column r 1) (db.trees departments_tree)) →
         IsPermutation (map caller_row callers) (map caller_columns (db.trees callers_tree)) →
         AllByRecursion (λ c. IsTrue (passes_if_given (is_among departments) c.dept)) callers }
-    ensures owned { (n : Edition) (db : Database) (departments : List (List ℕ)) (buckets : List Bucket) → AreTied n db →
+    ensures owned { (n : SchemaVersion) (db : Database) (departments : List (List ℕ)) (buckets : List Bucket) → AreTied n db →
         IsPermutation (map (λ d. Text d) departments) (map (λ r. column r 1) (db.trees departments_tree)) →
         IsPermutation (map (λ b. bucket_row (bucket_of b)) buckets) (map bucket_columns (db.trees buckets_tree)) →
         AllByRecursion (λ b. IsTrue (is_among departments b.config.dept)) buckets }
-    ensures placed { (n : Edition) (db : Database) (buckets : List Bucket) (entries : List Entry) → AreTied n db →
+    ensures placed { (n : SchemaVersion) (db : Database) (buckets : List Bucket) (entries : List Entry) → AreTied n db →
         IsPermutation (map (λ b. bucket_row (bucket_of b)) buckets) (map bucket_columns (db.trees buckets_tree)) →
         IsPermutation (map entry_row entries) (map entry_columns (db.trees entries_tree)) →
         AllByRecursion (λ e. IsSome (config_in buckets e.bucket)) entries }
-    ensures tenured { (n : Edition) (db : Database) (departments : List (List ℕ)) (v : Vault) → AreTied n db →
+    ensures tenured { (n : SchemaVersion) (db : Database) (departments : List (List ℕ)) (v : Vault) → AreTied n db →
         IsPermutation (map (λ d. Text d) departments) (map (λ r. column r 1) (db.trees departments_tree)) →
         IsPermutation (tenure_rows_of n v) (tenure_rows_in n db) → IsUnmovedIn n v →
         AllByRecursion (λ b. IsTrue (is_among departments b.config.dept)) v.buckets →

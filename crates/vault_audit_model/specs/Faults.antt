@@ -5,7 +5,7 @@ use Rattle.sqlite.specs.declared.error.ErrorCode.TheVariants as code
 use Rattle.vault_base.specs.declared.refusal.Refusal.{Refusal}
 use Rattle.vault_base.specs.declared.refusal.Refusal.TheVariants.{Memory, Device}
 
--- want of memory, or else a failure of the device
+-- out of memory, or else a failure of the device
 abbrev pub refusal_of : Error → Refusal
 refusal_of (SqliteFailure code.OutOfMemory) = Memory
 refusal_of _ = Device

@@ -1,5 +1,5 @@
 pub mod Values
-pub mod Editions
+pub mod SchemaVersions
 pub mod Tables
 pub mod Order
 pub mod Commands

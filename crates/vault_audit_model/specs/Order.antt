@@ -2,8 +2,8 @@
 use Rattle.std.specs.Prelude.{ℕ, List, [], ◌∷◌}
 use Rattle.vault_base.specs.declared.refusal.Table.{Table}
 use Rattle.vault_base.specs.declared.refusal.Table.TheVariants.{Meta, Departments, Callers, Buckets, Rules, Entries, Contents, Settings, Intake, Heads, Tenures}
-use Rattle.vault_audit_model.specs.declared.schema.Edition.{Edition}
-use Rattle.vault_audit_model.specs.declared.schema.Edition.TheVariants.{First, Second, Third}
+use Rattle.vault_audit_model.specs.declared.schema.SchemaVersion.{SchemaVersion}
+use Rattle.vault_audit_model.specs.declared.schema.SchemaVersion.TheVariants.{First, Second, Third}
 
 -- how many tables are made before this one, and so its number among those of a schema
 abbrev pub place_of : Table → ℕ
@@ -19,12 +19,12 @@ place_of Intake = 8
 place_of Heads = 9
 place_of Tenures = 10
 
--- the tables that an edition has besides those of the first
-abbrev pub made_later : Edition → List Table
+-- the tables that a schema version has besides those of the first
+abbrev pub made_later : SchemaVersion → List Table
 made_later First = []
 made_later Second = []
 made_later Third = Tenures ∷ []
 
--- the tables of an edition, in their order
-abbrev pub made_in : Edition → List Table
+-- the tables of a schema version, in their order
+abbrev pub made_in : SchemaVersion → List Table
 made_in n = Meta ∷ Departments ∷ Callers ∷ Buckets ∷ Rules ∷ Entries ∷ Contents ∷ Settings ∷ Intake ∷ Heads ∷ made_later n

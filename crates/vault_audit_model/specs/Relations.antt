@@ -15,7 +15,7 @@ use Rattle.vault_core_model.specs.Sound.{AreTenures, HasItsBytes, IsNoted, IsWit
 use Rattle.vault_core_model.specs.Totals.{items_in}
 use Rattle.vault_core_model.specs.Vault.{Vault}
 use Rattle.vault_audit_model.specs.declared.rows.DepartmentRow.{DepartmentRow}
-use Rattle.vault_audit_model.specs.declared.schema.Edition.{Edition}
+use Rattle.vault_audit_model.specs.declared.schema.SchemaVersion.{SchemaVersion}
 use Rattle.vault_audit_model.specs.Limits.{IsCaller, IsBucket, IsEntry, IsNote, IsPlainName, IsSetting, IsTenure}
 use Rattle.vault_audit_model.specs.Rows.{caller_row, bucket_row, rule_row, entry_row, content_row, setting_row, note_row, department_row, head_row, caller_columns, bucket_columns, rule_columns_as, entry_columns, content_columns, setting_columns, note_columns, department_columns_as, head_columns}
 use Rattle.vault_audit_model.specs.Spells.{bucket_of, rules_in, contents_in, settings_in, entries_in, tenure_rows_of, tenure_rows_in, sums_over, heads_in}
@@ -121,31 +121,31 @@ abbrev pub AreTenuresInLimits : History → Type 0
 AreTenuresInLimits h = AllByRecursion IsTenure h.tenures
 
 -- The rows of tenures are those of the vault's versions. Of the vault this reads its last moment, its number of moves, its buckets and its histories.
-pub record AreTenuresOf (n : Edition) (db : Database) (v : Vault) : Type 0 where
+pub record AreTenuresOf (n : SchemaVersion) (db : Database) (v : Vault) : Type 0 where
   pub rows : IsPermutation (tenure_rows_of n v) (tenure_rows_in n db)
   pub unmoved : IsUnmovedIn n v
   pub limits : AllByRecursion AreTenuresInLimits v.histories
   pub tenured : AllByRecursion (IsTenured v) v.histories
 
 -- the same for a vault with these histories of the same entries
-abbrev pub AreTenuresWith : Edition → Database → Vault → List History → Type 0
+abbrev pub AreTenuresWith : SchemaVersion → Database → Vault → List History → Type 0
 AreTenuresWith n db v hs = (entries_in hs ≡ entries_in v.histories) × AreTenuresOf n db (record v { histories = hs })
 
 -- whether there are such histories
-abbrev pub DecidesTenures : Edition → Database → Vault → Bool → Type 0
+abbrev pub DecidesTenures : SchemaVersion → Database → Vault → Bool → Type 0
 DecidesTenures n db v true = (hs : List History) × AreTenuresWith n db v hs
 DecidesTenures n db v false = (hs : List History) → ¬ AreTenuresWith n db v hs
 
 -- ---- buckets and rules
 
 -- the rows of buckets and of rules are these buckets, each with no rules or with a set that it may have
-abbrev pub AreBuckets : Edition → Database → List Bucket → Type 0
+abbrev pub AreBuckets : SchemaVersion → Database → List Bucket → Type 0
 AreBuckets n db bs =
     IsPermutation (map (λ b. bucket_row (bucket_of b)) bs) (map bucket_columns (db.trees buckets_tree))
     × IsPermutation (map rule_row (flat_map rules_in bs)) (map (rule_columns_as n) (db.trees rules_tree)) × IsAscending bucket_cmp bs
     × AllByRecursion IsBucket bs
 
-abbrev pub DecidesBuckets : Edition → Database → Bool → Type 0
+abbrev pub DecidesBuckets : SchemaVersion → Database → Bool → Type 0
 DecidesBuckets n db true = (bs : List Bucket) × AreBuckets n db bs
 DecidesBuckets n db false = (bs : List Bucket) → ¬ AreBuckets n db bs
 
@@ -164,12 +164,12 @@ abbrev pub IsWithin : List History → List ℕ → Type 0
 IsWithin hs name = sum_by admitted_size (items_in name hs) + sum_by received_size (items_in name hs) ≤ quota
 
 -- the rows of departments are these departments with their sums
-abbrev pub AreSums : Edition → Database → List History → List (List ℕ) → Type 0
+abbrev pub AreSums : SchemaVersion → Database → List History → List (List ℕ) → Type 0
 AreSums n db hs ds =
     IsPermutation (map (λ d. department_row (department_with hs d)) ds) (map (department_columns_as n) (db.trees departments_tree))
     × AllByRecursion IsPlainName ds × AllByRecursion (IsWithin hs) ds
 
-abbrev pub DecidesSums : Edition → Database → List History → Bool → Type 0
+abbrev pub DecidesSums : SchemaVersion → Database → List History → Bool → Type 0
 DecidesSums n db hs true = (ds : List (List ℕ)) × AreSums n db hs ds
 DecidesSums n db hs false = (ds : List (List ℕ)) → ¬ AreSums n db hs ds
 

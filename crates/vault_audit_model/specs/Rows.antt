@@ -27,9 +27,9 @@ use Rattle.vault_audit_model.specs.declared.rows.ContentRow.{ContentRow}
 use Rattle.vault_audit_model.specs.declared.rows.SettingRow.{SettingRow}
 use Rattle.vault_audit_model.specs.declared.rows.HeadRow.{HeadRow}
 use Rattle.vault_audit_model.specs.declared.rows.TenureRow.{TenureRow}
-use Rattle.vault_audit_model.specs.declared.schema.Edition.{Edition}
-use Rattle.vault_audit_model.specs.declared.schema.Edition.TheVariants.{First, Second, Third}
-use Rattle.vault_audit_model.specs.Editions.{newest}
+use Rattle.vault_audit_model.specs.declared.schema.SchemaVersion.{SchemaVersion}
+use Rattle.vault_audit_model.specs.declared.schema.SchemaVersion.TheVariants.{First, Second, Third}
+use Rattle.vault_audit_model.specs.SchemaVersions.{newest}
 use Rattle.vault_audit_model.specs.Values.{number, number_or_null, text_or_null, bytes_or_null, flag, flag_or_null}
 
 -- ---- parts of rows
@@ -160,25 +160,25 @@ tenure_row t = number t.id ∷ number t.tenure.number ∷ Text t.tenure.dept ∷
 
 -- ---- the columns of a row as it is stored: its number in the file and then each column, where the number is the key of a table whose key is a number
 
--- in an edition without a column for it, no bucket was moved
-abbrev pub moves_in : Edition → Row → Row
+-- in a schema version without a column for it, no bucket was moved
+abbrev pub moves_in : SchemaVersion → Row → Row
 moves_in First r = number 0 ∷ []
 moves_in Second r = number 0 ∷ []
 moves_in Third r = column r 5 ∷ []
 
-abbrev pub meta_columns_as : Edition → Row → Row
+abbrev pub meta_columns_as : SchemaVersion → Row → Row
 meta_columns_as n r = column r 0 ∷ column r 2 ∷ column r 3 ∷ column r 4 ∷ moves_in n r
 
 abbrev pub meta_columns : Row → Row
 meta_columns = meta_columns_as newest
 
--- in an edition without columns for them, no bytes came or went with a bucket
-abbrev pub exchanged_in : Edition → Row → Row
+-- in a schema version without columns for them, no bytes came or went with a bucket
+abbrev pub exchanged_in : SchemaVersion → Row → Row
 exchanged_in First r = number 0 ∷ number 0 ∷ []
 exchanged_in Second r = number 0 ∷ number 0 ∷ []
 exchanged_in Third r = column r 7 ∷ column r 8 ∷ []
 
-abbrev pub department_columns_as : Edition → Row → Row
+abbrev pub department_columns_as : SchemaVersion → Row → Row
 department_columns_as n r =
     column r 1 ∷ column r 2 ∷ column r 3 ∷ column r 4 ∷ column r 5 ∷ column r 6 ∷ exchanged_in n r
 
@@ -191,13 +191,13 @@ caller_columns r = column r 1 ∷ column r 2 ∷ column r 3 ∷ column r 4 ∷ [
 abbrev pub bucket_columns : Row → Row
 bucket_columns r = column r 1 ∷ column r 2 ∷ column r 3 ∷ column r 4 ∷ column r 5 ∷ []
 
--- what an edition has no column for is NULL
-abbrev pub bounds_in : Edition → Row → Row
+-- what a schema version has no column for is NULL
+abbrev pub bounds_in : SchemaVersion → Row → Row
 bounds_in First r = Null ∷ Null ∷ []
 bounds_in Second r = column r 10 ∷ column r 11 ∷ []
 bounds_in Third r = column r 10 ∷ column r 11 ∷ []
 
-abbrev pub rule_columns_as : Edition → Row → Row
+abbrev pub rule_columns_as : SchemaVersion → Row → Row
 rule_columns_as n r =
     column r 1 ∷ column r 2 ∷ column r 3 ∷ column r 4 ∷ column r 5 ∷ column r 6 ∷ column r 7 ∷ column r 8 ∷ column r 9
     ∷ bounds_in n r

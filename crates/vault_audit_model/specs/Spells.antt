@@ -23,9 +23,9 @@ use Rattle.vault_audit_model.specs.declared.rows.ContentRow.{ContentRow}
 use Rattle.vault_audit_model.specs.declared.rows.SettingRow.{SettingRow}
 use Rattle.vault_audit_model.specs.declared.rows.HeadRow.{HeadRow}
 use Rattle.vault_audit_model.specs.declared.rows.TenureRow.{TenureRow}
-use Rattle.vault_audit_model.specs.declared.schema.Edition.{Edition}
-use Rattle.vault_audit_model.specs.declared.schema.Edition.TheVariants.{First, Second, Third}
-use Rattle.vault_audit_model.specs.Editions.{number_of, newest}
+use Rattle.vault_audit_model.specs.declared.schema.SchemaVersion.{SchemaVersion}
+use Rattle.vault_audit_model.specs.declared.schema.SchemaVersion.TheVariants.{First, Second, Third}
+use Rattle.vault_audit_model.specs.SchemaVersions.{number_of, newest}
 use Rattle.vault_audit_model.specs.Tables.{schema_of, meta_tree, departments_tree, callers_tree, buckets_tree, rules_tree, entries_tree, contents_tree, settings_tree, intake_tree, heads_tree, tenures_tree}
 use Rattle.vault_audit_model.specs.Rows.{meta_row, department_row, caller_row, bucket_row, rule_row, entry_row, content_row, setting_row, note_row, head_row, tenure_row, meta_columns_as, department_columns_as, caller_columns, bucket_columns, rule_columns_as, entry_columns, content_columns, setting_columns, note_columns, head_columns, tenure_columns}
 use Rattle.vault_audit_model.specs.Limits.{IsInLimits}
@@ -33,7 +33,7 @@ use Rattle.vault_audit_model.specs.Tenures.{IsUnmovedIn}
 
 -- ---- the rows of a vault
 
-abbrev pub meta_stated : Edition → Vault → MetaRow
+abbrev pub meta_stated : SchemaVersion → Vault → MetaRow
 meta_stated n v = record { schema = number_of n; last = v.last; next = next_id v; moves = v.moves }
 
 abbrev pub meta_of : Vault → MetaRow
@@ -78,13 +78,13 @@ tenure_at id t = record { id = id; tenure = t }
 abbrev pub tenures_in : History → List TenureRow
 tenures_in h = map (tenure_at h.entry.id) h.tenures
 
--- the rows of tenures, of a vault and of a database; an edition without that table has none
-abbrev pub tenure_rows_of : Edition → Vault → List Row
+-- the rows of tenures, of a vault and of a database; a schema version without that table has none
+abbrev pub tenure_rows_of : SchemaVersion → Vault → List Row
 tenure_rows_of First v = []
 tenure_rows_of Second v = []
 tenure_rows_of Third v = map tenure_row (flat_map tenures_in v.histories)
 
-abbrev pub tenure_rows_in : Edition → Database → List Row
+abbrev pub tenure_rows_in : SchemaVersion → Database → List Row
 tenure_rows_in First db = []
 tenure_rows_in Second db = []
 tenure_rows_in Third db = map tenure_columns (db.trees tenures_tree)
@@ -124,8 +124,8 @@ heads_in v = map (head_in v) (filter (is_current v) v.histories)
 
 -- ---- what holds beyond the limits of values
 
--- a vault as tables of that edition may keep it: in its limits, sound, and with no tenures but those that they can state
-pub record IsKeptAs (n : Edition) (v : Vault) : Type 0 where
+-- a vault as tables of that schema version may keep it: in its limits, sound, and with no tenures but those that they can state
+pub record IsKeptAs (n : SchemaVersion) (v : Vault) : Type 0 where
   pub limits : IsInLimits v
   pub sound : Sound v
   pub unmoved : IsUnmovedIn n v
@@ -135,8 +135,8 @@ IsKept = IsKeptAs newest
 
 -- ---- the vault that the rows spell
 
--- The rows of each table of that edition are those of the vault, in any order. The running numbers and the heads say nothing of a vault.
-pub record SpellsAs (n : Edition) (db : Database) (v : Vault) : Type 0 where
+-- The rows of each table of that schema version are those of the vault, in any order. The running numbers and the heads say nothing of a vault.
+pub record SpellsAs (n : SchemaVersion) (db : Database) (v : Vault) : Type 0 where
   pub schema : db.schema ≡ schema_of n
   pub meta : IsPermutation (meta_row (meta_stated n v) ∷ []) (map (meta_columns_as n) (db.trees meta_tree))
   pub departments : IsPermutation (map (λ d. Text d) v.departments) (map (λ r. column r 1) (db.trees departments_tree))
@@ -153,8 +153,8 @@ pub record SpellsAs (n : Edition) (db : Database) (v : Vault) : Type 0 where
 abbrev pub Spells : Database → Vault → Type 0
 Spells = SpellsAs newest
 
--- The tables of that edition are sound: they spell this vault, with the running numbers over its tenures and the heads over its entries.
-pub record AreSoundAs (n : Edition) (db : Database) (v : Vault) : Type 0 where
+-- The tables of that schema version are sound: they spell this vault, with the running numbers over its tenures and the heads over its entries.
+pub record AreSoundAs (n : SchemaVersion) (db : Database) (v : Vault) : Type 0 where
   pub spells : SpellsAs n db v
   pub numbers : IsPermutation (map (λ d. department_row (department_in v d)) v.departments) (map (department_columns_as n) (db.trees departments_tree))
   pub heads : IsPermutation (map head_row (heads_in v)) (map head_columns (db.trees heads_tree))

@@ -1,4 +1,4 @@
--- The tables, as a database knows them once they are made. An edition has columns more at the end of a table than the one before it, or a table or an index more after the others.
+-- The tables, as a database knows them once they are made. A schema version has columns more at the end of a table than the one before it, or a table or an index more after the others.
 use Rattle.std.specs.Prelude.{ℕ, Bool, true, false, List, [], ◌∷◌, None, Some, Option, codes}
 use Rattle.sqlite_value.specs.Keys.{plain}
 use Rattle.sqlite_value.specs.declared.keys.Order.{Order}
@@ -13,9 +13,9 @@ use Rattle.sqlite_schema.specs.declared.schema.Reference.{Reference}
 use Rattle.sqlite_schema.specs.declared.schema.Action.TheVariants.{NoAction}
 use Rattle.sqlite.specs.Kind.TheVariants.{Integer, Text, Blob}
 use Rattle.sqlite_catalog.specs.Listing.{automatic}
-use Rattle.vault_audit_model.specs.declared.schema.Edition.{Edition}
-use Rattle.vault_audit_model.specs.declared.schema.Edition.TheVariants.{First, Second, Third}
-use Rattle.vault_audit_model.specs.Editions.{newest}
+use Rattle.vault_audit_model.specs.declared.schema.SchemaVersion.{SchemaVersion}
+use Rattle.vault_audit_model.specs.declared.schema.SchemaVersion.TheVariants.{First, Second, Third}
+use Rattle.vault_audit_model.specs.SchemaVersions.{newest}
 
 -- a column of a STRICT table, with no default
 abbrev pub column_as : Bool → List ℕ → Kind → Column
@@ -101,12 +101,12 @@ tenures_tree = 18
 -- ---- the tables
 
 -- how often a bucket was moved
-abbrev pub moves_column : Edition → List Column
+abbrev pub moves_column : SchemaVersion → List Column
 moves_column First = []
 moves_column Second = []
 moves_column Third = has (codes "moves") Integer ∷ []
 
-abbrev pub meta_as : Edition → Table
+abbrev pub meta_as : SchemaVersion → Table
 meta_as n =
     table_by_number (codes "meta") meta_tree
     (may_have (codes "one") Integer ∷ has (codes "schema") Integer ∷ has (codes "last") Integer ∷ has (codes "next") Integer
@@ -117,12 +117,12 @@ abbrev pub meta : Table
 meta = meta_as newest
 
 -- the bytes that came and went with buckets
-abbrev pub exchange_columns : Edition → List Column
+abbrev pub exchange_columns : SchemaVersion → List Column
 exchange_columns First = []
 exchange_columns Second = []
 exchange_columns Third = has (codes "received") Integer ∷ has (codes "handed") Integer ∷ []
 
-abbrev pub departments_as : Edition → Table
+abbrev pub departments_as : SchemaVersion → Table
 departments_as n =
     table_by (1 ∷ []) (codes "departments") departments_tree
     (has (codes "name") Text ∷ has (codes "admitted") Integer ∷ has (codes "held") Integer ∷ has (codes "removed") Integer
@@ -146,12 +146,12 @@ buckets =
     (refers 2 (codes "departments") (codes "name") ∷ [])
 
 -- the bounds of sizes
-abbrev pub bound_columns : Edition → List Column
+abbrev pub bound_columns : SchemaVersion → List Column
 bound_columns First = []
 bound_columns Second = may_have (codes "larger") Integer ∷ may_have (codes "smaller") Integer ∷ []
 bound_columns Third = may_have (codes "larger") Integer ∷ may_have (codes "smaller") Integer ∷ []
 
-abbrev pub rules_as : Edition → Table
+abbrev pub rules_as : SchemaVersion → Table
 rules_as n =
     table_by (1 ∷ 2 ∷ []) (codes "rules") rules_tree
     (has (codes "bucket") Text ∷ has (codes "n") Integer ∷ has (codes "id") Text ∷ has (codes "prefix") Text
@@ -205,8 +205,8 @@ tenures =
     (has (codes "id") Integer ∷ has (codes "n") Integer ∷ has (codes "dept") Text ∷ has (codes "moment") Integer ∷ [])
     (refers 1 (codes "entries") (codes "id") ∷ refers 3 (codes "departments") (codes "name") ∷ [])
 
--- the tables that an edition has besides those of the first
-abbrev pub later_tables : Edition → List Table
+-- the tables that a schema version has besides those of the first
+abbrev pub later_tables : SchemaVersion → List Table
 later_tables First = []
 later_tables Second = []
 later_tables Third = tenures ∷ []
@@ -216,8 +216,8 @@ abbrev pub entries_held : Index
 entries_held =
     record { name = codes "entries_held"; tree = 20; table = entries_tree; columns = 2 ∷ 3 ∷ 10 ∷ []; order = record { digits = 64 }; is_unique = false }
 
--- the indexes that an edition has besides those of the first
-abbrev pub later_indexes : Edition → List Index
+-- the indexes that a schema version has besides those of the first
+abbrev pub later_indexes : SchemaVersion → List Index
 later_indexes First = []
 later_indexes Second = []
 later_indexes Third = automatic tenures 0 (1 ∷ 2 ∷ []) 19 ∷ entries_held ∷ []
@@ -227,7 +227,7 @@ abbrev pub no_schema : Schema
 no_schema = record { tables = []; indexes = []; views = [] }
 
 -- the schema of a vault's file, and no table, index or view beside it
-abbrev pub schema_of : Edition → Schema
+abbrev pub schema_of : SchemaVersion → Schema
 schema_of n = record {
   tables = meta_as n ∷ departments_as n ∷ callers ∷ buckets ∷ rules_as n ∷ entries ∷ contents ∷ settings ∷ intake ∷ heads ∷ later_tables n;
   indexes = automatic (departments_as n) 0 (1 ∷ []) 2 ∷ automatic callers 0 (1 ∷ []) 4 ∷ automatic buckets 0 (1 ∷ []) 6

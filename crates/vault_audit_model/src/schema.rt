@@ -1,10 +1,10 @@
-//! The editions of the schema.
+//! The schema versions of the schema.
 ghost use Rattle.std.specs.Prelude.{◌≡◌};
-ghost use Rattle.vault_audit_model.specs.Editions.{number_of};
+ghost use Rattle.vault_audit_model.specs.SchemaVersions.{number_of};
 
-/// An edition of the schema. New vaults have the newest; a file with another is not opened, and may be migrated.
+/// A schema version of the schema. New vaults have the newest; a file with another is not opened, and may be migrated.
 #[derive(Clone, Copy, Debug, PartialEq, Eq)]
-pub enum Edition {
+pub enum SchemaVersion {
     First,
     /// Rules have bounds of sizes.
     Second,
@@ -12,18 +12,18 @@ pub enum Edition {
     Third,
 }
 
-/// The newest edition.
-pub const NEWEST: Edition = Edition::Third;
+/// The newest schema version.
+pub const NEWEST: SchemaVersion = SchemaVersion::Third;
 
-impl Edition {
+impl SchemaVersion {
     /// The number of the schema, as `meta` has it.
     pub fn number(self) -> u64
         ensures { result ≡ number_of self }
     {
         match self {
-            Edition::First => 1,
-            Edition::Second => 2,
-            Edition::Third => 3,
+            SchemaVersion::First => 1,
+            SchemaVersion::Second => 2,
+            SchemaVersion::Third => 3,
         }
     }
 }

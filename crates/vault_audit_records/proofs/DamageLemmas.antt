@@ -14,8 +14,8 @@ use Rattle.vault_core_model.specs.declared.records.Entry.{Entry}
 use Rattle.vault_core_model.specs.declared.records.History.{History}
 use Rattle.vault_audit_model.specs.Limits.{IsCaller, IsBucket, IsHistory, IsNote, IsDepartmentRow, IsBucketRow, IsRuleRow, IsContentRow, IsSettingRow, IsHeadRow, IsTenureRow}
 use Rattle.vault_audit_model.specs.declared.rows.TenureRow.{TenureRow}
-use Rattle.vault_audit_model.specs.declared.schema.Edition.{Edition}
-use Rattle.vault_audit_model.specs.declared.schema.Edition.TheVariants.{First, Second, Third}
+use Rattle.vault_audit_model.specs.declared.schema.SchemaVersion.{SchemaVersion}
+use Rattle.vault_audit_model.specs.declared.schema.SchemaVersion.TheVariants.{First, Second, Third}
 use Rattle.vault_audit_model.specs.Rows.{department_row, caller_row, bucket_row, rule_row, entry_row, content_row, setting_row, note_row, head_row, tenure_row, department_columns_as, caller_columns, bucket_columns, rule_columns_as, entry_columns, content_columns, setting_columns, note_columns, head_columns}
 use Rattle.vault_audit_model.specs.Spells.{AreSoundAs, meta_stated, bucket_of, rules_in, contents_in, settings_in, IsKeptAs, tenures_in, tenure_rows_of, tenure_rows_in, department_in, head_in, heads_in}
 use Rattle.vault_audit_model.specs.Tables.{departments_tree, callers_tree, buckets_tree, rules_tree, entries_tree, contents_tree, settings_tree, intake_tree, heads_tree}
@@ -35,8 +35,8 @@ refused_if_ok Rec P f (Err x) h = tt
 
 -- ---- what the records of a vault are
 
--- the rows of tenures state tenures in their limits, and where an edition has no such rows, none
-stated_tenures : (n : Edition) (v : Vault) → IsKeptAs n v → (xs : List TenureRow) × (map tenure_row xs ≡ tenure_rows_of n v) × AllByRecursion IsTenureRow xs
+-- the rows of tenures state tenures in their limits, and where a schema version has no such rows, none
+stated_tenures : (n : SchemaVersion) (v : Vault) → IsKeptAs n v → (xs : List TenureRow) × (map tenure_row xs ≡ tenure_rows_of n v) × AllByRecursion IsTenureRow xs
 stated_tenures First v kept = ([], refl, tt)
 stated_tenures Second v kept = ([], refl, tt)
 stated_tenures Third v kept = (flat_map tenures_in v.histories, refl, all_flat IsTenureRow tenures_in v.histories (tenures_limited v kept))
@@ -49,7 +49,7 @@ by_last from last (h ∷ hs) order =
 
 -- ---- tables
 
-module _ (n : Edition) (db : Database) (v : Vault) where
+module _ (n : SchemaVersion) (db : Database) (v : Vault) where
   abbrev entries_are : List Entry
   entries_are = map (λ h. h.entry) v.histories
 

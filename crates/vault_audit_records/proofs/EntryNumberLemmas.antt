@@ -9,7 +9,7 @@ use Rattle.sqlite.specs.State.{State, Shown, IsUnchanged}
 use Rattle.vault_core_model.specs.declared.records.Entry.{Entry}
 use Rattle.vault_audit_model.proofs.SameRows.{same_entry}
 use Rattle.vault_audit_model.specs.Rows.{entry_row, entry_columns}
-use Rattle.vault_audit_model.specs.declared.schema.Edition.{Edition}
+use Rattle.vault_audit_model.specs.declared.schema.SchemaVersion.{SchemaVersion}
 use Rattle.vault_audit_model.specs.Tables.{schema_of, entries, entries_tree}
 use Rattle.vault_audit_schema.specs.Texts.{terms_of}
 use Rattle.vault_audit_walk.specs.Pass.{Takes, Refuses, AllFit, after}
@@ -55,7 +55,7 @@ rise p (e ∷ es) fit = (above (with_entry p e) e es (omega (arith, fit.0.1.0)) 
 abbrev pub source : Database → List Row
 source db = map entry_columns (db.trees entries_tree)
 
-pub answers : (n : Edition) (a b : State) → a.now.schema ≡ schema_of n → (rows : List Row) → Shown numbers_walk [] a b rows → IsPermutation (source a.now) rows × IsSorted first_cmp rows
+pub answers : (n : SchemaVersion) (a b : State) → a.now.schema ≡ schema_of n → (rows : List Row) → Shown numbers_walk [] a b rows → IsPermutation (source a.now) rows × IsSorted first_cmp rows
 answers n a b schema rows shown =
     walked numbers_walk a b (schema_of n) schema (numbers_walk_plain n) (numbers_walk_is n).1 entries_tree 0 (drop 1 (terms_of entries)) _ (numbers_walk_is n).0 refl rows shown
 
@@ -66,7 +66,7 @@ start = record { next = 1; low = 0 }
 pub rising : (es : List Entry) → AreNumbered 1 0 es → IsAscending (λ a b. first_cmp a b ≡ Less) (map entry_row es)
 rising es are = rise start es (fitting start es are)
 
-module _ (n : Edition) (old new : State) (has : old.now.schema ≡ schema_of n) (same : IsUnchanged old new) (r : NumberPass) where
+module _ (n : SchemaVersion) (old new : State) (has : old.now.schema ≡ schema_of n) (same : IsUnchanged old new) (r : NumberPass) where
   pub numbers_yes : Walked (Takes entry_row ComesNext with_entry) (Refuses entry_row ComesNext with_entry) numbers_walk old new start r true → AreEntriesUpTo new.now (Some r.next)
   numbers_yes h =
       let it = walk_yes entry_row ComesNext with_entry same_entry (schema_of n) numbers_walk _ _ (numbers_walk_is n).0 source (answers n) old new has same start r h in

@@ -25,16 +25,16 @@ use Rattle.vault_audit_records.specs.Meta.{IsMetaOf}
 use Rattle.vault_audit_records.specs.declared.meta.second_look.RowCount.{RowCount}
 use Rattle.vault_audit_records.specs.MetaCount.{CountsOne, DecidesNext}
 use Rattle.vault_audit_walk.specs.Health.{Asks}
-use Rattle.vault_audit_model.specs.declared.schema.Edition.{Edition}
+use Rattle.vault_audit_model.specs.declared.schema.SchemaVersion.{SchemaVersion}
 
 abbrev pub ids_text : List ℕ
 ids_text = codes "SELECT id FROM entries"
 
-pub ids_scan : (n : Edition) → Selects (schema_of n) ids_text (table_scan 9 [] (col 1 0 ∷ []))
+pub ids_scan : (n : SchemaVersion) → Selects (schema_of n) ids_text (table_scan 9 [] (col 1 0 ∷ []))
 unfolding understood everything
 ids_scan n = record { names = codes "id" ∷ []; is = refl; plain = (refl, refl); unlisted = refl }
 
-pub ids_asks : (n : Edition) → Asks (schema_of n) ids_text
+pub ids_asks : (n : SchemaVersion) → Asks (schema_of n) ids_text
 unfolding understood everything
 ids_asks n = record { is = (omega (arith), refl, (refl, refl, refl, refl)); unlisted = refl }
 
@@ -46,7 +46,7 @@ counted p q [] goes = let same = ap (λ (c : RowCount). c.count) goes in omega (
 counted p q (r ∷ rows) (m, one, more) = let it = counted m q rows more in omega (arith, one, it)
 
 -- all rows were met, whatever the answer
-pub all_counted : (n : Edition) → (old new : State) → old.now.schema ≡ schema_of n → IsUnchanged old new → (p q : RowCount) → (whole : Bool) → Walked Counting (λ _ _. ⊥) ids_text old new p q whole → q.count ≡ p.count + length (new.now.trees entries_tree)
+pub all_counted : (n : SchemaVersion) → (old new : State) → old.now.schema ≡ schema_of n → IsUnchanged old new → (p q : RowCount) → (whole : Bool) → Walked Counting (λ _ _. ⊥) ids_text old new p q whole → q.count ≡ p.count + length (new.now.trees entries_tree)
 all_counted n old new has same p q true (rows, shown, goes) =
     let each = scanned (schema_of n) ids_text _ _ (ids_scan n) old new has refl rows shown in
     let a = length_permutation _ _ each in
@@ -57,7 +57,7 @@ all_counted n old new has same p q true (rows, shown, goes) =
 all_counted n old new has same p q false (rows, row, m, begins, goes, never) = absurd never
 
 -- the next id of a vault that the tables are sound for is one above the number of rows
-pub next_of : (n : Edition) → (db : Database) (v : Vault) (m : MetaRow) → IsMetaOf n db (Some m) → AreSoundAs n db v → m.next ≡ length (db.trees entries_tree) + 1
+pub next_of : (n : SchemaVersion) → (db : Database) (v : Vault) (m : MetaRow) → IsMetaOf n db (Some m) → AreSoundAs n db v → m.next ≡ length (db.trees entries_tree) + 1
 next_of n db v m is it =
     let rows = one_permutation (meta_row m) _ (IsPermutation-trans _ _ _ is.0 (IsPermutation-sym _ _ it.spells.meta)) in
     let first : meta_row (meta_stated n v) ≡ meta_row m = cc in

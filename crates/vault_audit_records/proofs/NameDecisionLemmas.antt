@@ -26,8 +26,8 @@ use Rattle.vault_audit_records.specs.ByName.{IsNextCaller, with_caller, DecidesC
 use Rattle.vault_audit_records.proofs.NameRiseLemmas.{ascending, in_limits, rise, fitting}
 use Rattle.vault_audit_records.proofs.NameRowLemmas.{same_name}
 use Rattle.vault_audit_records.proofs.NameTextLemmas.{callers_walk, callers_walk_is, callers_walk_plain, departments_walk, departments_walk_is, departments_walk_plain}
-use Rattle.vault_audit_model.specs.declared.schema.Edition.{Edition}
-use Rattle.vault_audit_model.specs.declared.schema.Edition.TheVariants.{First, Second, Third}
+use Rattle.vault_audit_model.specs.declared.schema.SchemaVersion.{SchemaVersion}
+use Rattle.vault_audit_model.specs.declared.schema.SchemaVersion.TheVariants.{First, Second, Third}
 
 -- ---- callers
 
@@ -37,19 +37,19 @@ callers_in db = map caller_columns (db.trees callers_tree)
 callers_first : (x y : Caller) → first_cmp (caller_row x) (caller_row y) ≡ name_cmp x.name y.name
 callers_first x y = value_cmp-Text x.name y.name
 
-callers_answer : (n : Edition) → (a b : State) → a.now.schema ≡ schema_of n → (rows : List Row) → Shown callers_walk [] a b rows → IsPermutation (callers_in a.now) rows × IsSorted first_cmp rows
+callers_answer : (n : SchemaVersion) → (a b : State) → a.now.schema ≡ schema_of n → (rows : List Row) → Shown callers_walk [] a b rows → IsPermutation (callers_in a.now) rows × IsSorted first_cmp rows
 callers_answer n a b schema rows shown =
     walked callers_walk a b (schema_of n) schema (callers_walk_plain n) (callers_walk_is n).1 callers_tree 1 (drop 1 (terms_of callers)) _ (callers_walk_is n).0 refl rows shown
 
 -- ---- departments
 
-abbrev departments_in : Edition → Database → List Row
+abbrev departments_in : SchemaVersion → Database → List Row
 departments_in n db = map (department_columns_as n) (db.trees departments_tree)
 
 departments_first : (x y : DepartmentRow) → first_cmp (department_row x) (department_row y) ≡ name_cmp x.name y.name
 departments_first x y = value_cmp-Text x.name y.name
 
-departments_answer : (n : Edition) (a b : State) → a.now.schema ≡ schema_of n → (rows : List Row) → Shown (departments_walk n) [] a b rows → IsPermutation (departments_in n a.now) rows × IsSorted first_cmp rows
+departments_answer : (n : SchemaVersion) (a b : State) → a.now.schema ≡ schema_of n → (rows : List Row) → Shown (departments_walk n) [] a b rows → IsPermutation (departments_in n a.now) rows × IsSorted first_cmp rows
 departments_answer First a b schema rows shown =
     walked (departments_walk First) a b (schema_of First) schema (departments_walk_plain First) (departments_walk_is First).1 departments_tree 1 (drop 1 (department_terms First)) _ (departments_walk_is First).0 refl rows shown
 departments_answer Second a b schema rows shown =
@@ -62,7 +62,7 @@ alike before x y e = ap Some (same_name x y e)
 
 -- ---- the walks
 
-module _ (n : Edition) (old new : State) (has : old.now.schema ≡ schema_of n) (r : Option (List ℕ)) where
+module _ (n : SchemaVersion) (old new : State) (has : old.now.schema ≡ schema_of n) (r : Option (List ℕ)) where
   callers_stated : (stated : Bool) → IsUnchanged old new → Walked (Takes caller_row IsNextCaller with_caller) (Refuses caller_row IsNextCaller with_caller) callers_walk old new None r stated → DecidesCallers new.now stated
   callers_stated true same h =
       let it = walk_yes caller_row IsNextCaller with_caller same_caller (schema_of n) callers_walk _ _ (callers_walk_is n).0 callers_in (callers_answer n) old new has same None r h in
@@ -90,7 +90,7 @@ module _ (n : Edition) (old new : State) (has : old.now.schema ≡ schema_of n) 
 
 -- ---- sound tables
 
-module _ (n : Edition) (db : Database) (v : Vault) where
+module _ (n : SchemaVersion) (db : Database) (v : Vault) where
   pub no_callers : DecidesCallers db false → ¬ AreSoundAs n db v
   no_callers none it = none v.callers (it.spells.callers, it.spells.kept.sound.ordered.callers, it.spells.kept.limits.callers)
 

@@ -36,8 +36,8 @@ use Rattle.vault_audit_records.proofs.RuleRiseLemmas.{buckets_rise, rules_rise}
 use Rattle.vault_audit_records.proofs.WholeWalkLemmas.{pass_only}
 use Rattle.vault_audit_records.proofs.RuleGroupLemmas.{start, make, ascend, rows_fit, after_none, rules_fit, rules_owned}
 use Rattle.vault_audit_records.proofs.RuleTextLemmas.{buckets_walk, buckets_walk_is, buckets_walk_plain, rules_walk, rules_walk_is, rules_walk_plain, buckets_beside, buckets_beside_is}
-use Rattle.vault_audit_model.specs.declared.schema.Edition.{Edition}
-use Rattle.vault_audit_model.specs.declared.schema.Edition.TheVariants.{First, Second, Third}
+use Rattle.vault_audit_model.specs.declared.schema.SchemaVersion.{SchemaVersion}
+use Rattle.vault_audit_model.specs.declared.schema.SchemaVersion.TheVariants.{First, Second, Third}
 use Rattle.vault_audit_model.proofs.ListLemmas.{all_as}
 
 -- ---- the walks
@@ -45,13 +45,13 @@ use Rattle.vault_audit_model.proofs.ListLemmas.{all_as}
 abbrev bucket_source : Database → List Row
 bucket_source db = map bucket_columns (db.trees buckets_tree)
 
-bucket_answers : (n : Edition) (a b : State) → a.now.schema ≡ schema_of n → (rows : List Row) → Shown buckets_walk [] a b rows → IsPermutation (bucket_source a.now) rows × IsSorted first_cmp rows
+bucket_answers : (n : SchemaVersion) (a b : State) → a.now.schema ≡ schema_of n → (rows : List Row) → Shown buckets_walk [] a b rows → IsPermutation (bucket_source a.now) rows × IsSorted first_cmp rows
 bucket_answers n a b schema rows shown = walked buckets_walk a b (schema_of n) schema (buckets_walk_plain n) (buckets_walk_is n).1 buckets_tree 1 (drop 1 (terms_of buckets)) _ (buckets_walk_is n).0 refl rows shown
 
-abbrev rule_source : Edition → Database → List Row
+abbrev rule_source : SchemaVersion → Database → List Row
 rule_source n db = map (rule_columns_as n) (db.trees rules_tree)
 
-rule_answers : (n : Edition) (a b : State) → a.now.schema ≡ schema_of n → (rows : List Row) → Shown (rules_walk n) [] a b rows → IsPermutation (rule_source n a.now) rows × IsSorted pair_cmp rows
+rule_answers : (n : SchemaVersion) (a b : State) → a.now.schema ≡ schema_of n → (rows : List Row) → Shown (rules_walk n) [] a b rows → IsPermutation (rule_source n a.now) rows × IsSorted pair_cmp rows
 rule_answers First a b schema rows shown =
     pair_walked (rules_walk First) a b (schema_of First) schema (rules_walk_plain First) (rules_walk_is First).1 rules_tree 1 2 (drop 2 (rule_terms First)) _ (rules_walk_is First).0 refl rows shown
 rule_answers Second a b schema rows shown =
@@ -59,7 +59,7 @@ rule_answers Second a b schema rows shown =
 rule_answers Third a b schema rows shown =
     pair_walked (rules_walk Third) a b (schema_of Third) schema (rules_walk_plain Third) (rules_walk_is Third).1 rules_tree 1 2 (drop 2 (rule_terms Third)) _ (rules_walk_is Third).0 refl rows shown
 
-module _ (n : Edition) (old new : State) (has : old.now.schema ≡ schema_of n) (same : IsUnchanged old new) where
+module _ (n : SchemaVersion) (old new : State) (has : old.now.schema ≡ schema_of n) (same : IsUnchanged old new) where
   pub buckets_stated : (r : Option (List ℕ)) (b : Bool) → Walked (Takes bucket_row IsNextBucket with_bucket) (Refuses bucket_row IsNextBucket with_bucket) buckets_walk old new None r b → DecidesBucketRows new.now b
   buckets_stated r true h =
       let it = walk_yes bucket_row IsNextBucket with_bucket same_bucket (schema_of n) buckets_walk _ _ (buckets_walk_is n).0 bucket_source (bucket_answers n) old new has same None r h in
@@ -91,7 +91,7 @@ module _ (n : Edition) (old new : State) (has : old.now.schema ≡ schema_of n) 
 
 -- ---- each rule beside its bucket
 
-module _ (db : Database) (bs : List BucketRow) (are : IsPermutation (map bucket_row bs) (map bucket_columns (db.trees buckets_tree))) (n : Edition) (xs : List RuleRow) (rows : AreRowsOf n db xs) where
+module _ (db : Database) (bs : List BucketRow) (are : IsPermutation (map bucket_row bs) (map bucket_columns (db.trees buckets_tree))) (n : SchemaVersion) (xs : List RuleRow) (rows : AreRowsOf n db xs) where
   abbrev Buckets : List Row
   Buckets = db.trees buckets_tree
 
@@ -109,14 +109,14 @@ module _ (db : Database) (bs : List BucketRow) (are : IsPermutation (map bucket_
   owned_no all =
       of_stored rule_row (rule_columns_as n) Owners xs (db.trees rules_tree) rows (all_as (λ x stated. met_no (lit (Int (pos 0))) 1 0 (rule_row x) false (λ s. refl) Buckets (owns x.bucket ∙ stated)) xs all)
 
-module _ (n : Edition) (old new : State) (has : old.now.schema ≡ schema_of n) (same : IsUnchanged old new) where
+module _ (n : SchemaVersion) (old new : State) (has : old.now.schema ≡ schema_of n) (same : IsUnchanged old new) where
   pub owners : (b : Bool) → Checked ReportsAbsence buckets_beside old new b → DecidesOwners n new.now b
   owners true h bs are xs rows = owned_yes new.now bs are.0 n xs rows (beside_yes (buckets_beside_is n) (λ trees. (refl, refl)) ReportsAbsence old new has same h)
   owners false h bs are xs rows = λ all. beside_no (buckets_beside_is n) (λ trees. (refl, refl)) ReportsAbsence old new has same h (owned_no new.now bs are.0 n xs rows all)
 
 -- ---- together
 
-module _ (n : Edition) (db : Database) where
+module _ (n : SchemaVersion) (db : Database) where
   pub all_hold : DecidesBucketRows db true → DecidesRuns n db true → DecidesOwners n db true → DecidesBuckets n db true
   all_hold (bs, are) (xs, rows, runs) owned =
       let it = make None bs xs are.1 (start xs runs) (owned bs are xs rows) in (
@@ -151,7 +151,7 @@ module _ (n : Edition) (db : Database) where
 
 -- ---- the answers of the looks
 
-module _ (n : Edition) (old new : State) (has : old.now.schema ≡ schema_of n) where
+module _ (n : SchemaVersion) (old new : State) (has : old.now.schema ≡ schema_of n) where
   pub buckets_if_ok : (r : Option (List ℕ)) (answer : Result Bool Error) → OnOk answer (IsUnchanged old new)
       → IfOk answer (Walked (Takes bucket_row IsNextBucket with_bucket) (Refuses bucket_row IsNextBucket with_bucket) buckets_walk old new None r) → IfOk answer (DecidesBucketRows new.now)
   buckets_if_ok r (Ok b) same h = buckets_stated n old new has same r b h
@@ -161,7 +161,7 @@ module _ (n : Edition) (old new : State) (has : old.now.schema ≡ schema_of n) 
   owners_if_ok (Ok b) same h = owners n old new has same b h
   owners_if_ok (Err e) same h = tt
 
-pub last_stated : (n : Edition) (a b s : State) → IsUnchanged a b → DecidesBucketRows a.now true → DecidesRuns n b.now true → (answer : Result Bool Error) → OnOk answer (IsUnchanged b s) → IfOk answer (DecidesOwners n s.now) → IfOk answer (DecidesBuckets n s.now)
+pub last_stated : (n : SchemaVersion) (a b s : State) → IsUnchanged a b → DecidesBucketRows a.now true → DecidesRuns n b.now true → (answer : Result Bool Error) → OnOk answer (IsUnchanged b s) → IfOk answer (DecidesOwners n s.now) → IfOk answer (DecidesBuckets n s.now)
 last_stated n a b s same named placed (Err e) last owned = tt
 last_stated n a b s same named placed (Ok true) last owned =
     let second : b.now ≡ s.now = sym last.0.now_is in
@@ -169,7 +169,7 @@ last_stated n a b s same named placed (Ok true) last owned =
     all_hold n s.now (subst (λ (d : Database). DecidesBucketRows d true) first named) (subst (λ (d : Database). DecidesRuns n d true) second placed) owned
 last_stated n a b s same named placed (Ok false) last owned = not_owned n s.now owned
 
-pub damaged_if_ok : (n : Edition) (db : Database) (answer : Result Bool Error) → IfOk answer (DecidesBuckets n db) → IfOk answer (λ found. found ≡ false → (v : Vault) → ¬ AreSoundAs n db v)
+pub damaged_if_ok : (n : SchemaVersion) (db : Database) (answer : Result Bool Error) → IfOk answer (DecidesBuckets n db) → IfOk answer (λ found. found ≡ false → (v : Vault) → ¬ AreSoundAs n db v)
 damaged_if_ok n db (Err e) h = tt
 damaged_if_ok n db (Ok true) h = λ no. absurd cc
 damaged_if_ok n db (Ok false) h = λ _ v. unsound n db h v

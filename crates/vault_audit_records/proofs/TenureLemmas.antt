@@ -4,7 +4,7 @@ use Rattle.sqlite.specs.Effect.{Database}
 use Rattle.vault_core_model.specs.Sound.{HasTenuresAs, HasTenures}
 use Rattle.vault_core_model.specs.Vault.{Vault}
 use Rattle.vault_core_model.specs.declared.records.History.{History}
-use Rattle.vault_audit_model.specs.declared.schema.Edition.{Edition}
+use Rattle.vault_audit_model.specs.declared.schema.SchemaVersion.{SchemaVersion}
 use Rattle.vault_audit_model.specs.Relations.{IsTenuredAs, AreTenuresOf}
 use Rattle.vault_audit_model.specs.Spells.{AreSoundAs}
 use Rattle.vault_audit_model.proofs.ListLemmas.{all_as}
@@ -14,7 +14,7 @@ tenured_as : (marker : Bool) (v : Vault) (h : History) → HasTenuresAs marker v
 tenured_as true v h has = has
 tenured_as false v h has = (has.0, has.2)
 
-pub sound_tenures : (n : Edition) (db : Database) (v : Vault) → AreSoundAs n db v → AreTenuresOf n db v
+pub sound_tenures : (n : SchemaVersion) (db : Database) (v : Vault) → AreSoundAs n db v → AreTenuresOf n db v
 sound_tenures n db v it = record {
   rows = it.spells.tenures;
   unmoved = it.spells.kept.unmoved;

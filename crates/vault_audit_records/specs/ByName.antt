@@ -6,7 +6,7 @@ use Rattle.sqlite.specs.Effect.{Database}
 use Rattle.vault_core_model.specs.declared.records.Caller.{Caller}
 use Rattle.vault_core_model.specs.Order.{IsAscending, name_cmp}
 use Rattle.vault_audit_model.specs.declared.rows.DepartmentRow.{DepartmentRow}
-use Rattle.vault_audit_model.specs.declared.schema.Edition.{Edition}
+use Rattle.vault_audit_model.specs.declared.schema.SchemaVersion.{SchemaVersion}
 use Rattle.vault_audit_model.specs.Limits.{IsCaller, IsDepartmentRow}
 use Rattle.vault_audit_model.specs.Rows.{department_row, department_columns_as}
 use Rattle.vault_audit_model.specs.Tables.{departments_tree}
@@ -38,11 +38,11 @@ abbrev pub with_department : Option (List ℕ) → DepartmentRow → Option (Lis
 with_department before d = Some d.name
 
 -- the rows of departments are these, in their limits and by rising name
-abbrev pub AreDepartmentsByName : Edition → Database → List DepartmentRow → Type 0
+abbrev pub AreDepartmentsByName : SchemaVersion → Database → List DepartmentRow → Type 0
 AreDepartmentsByName n db ds =
     IsPermutation (map department_row ds) (map (department_columns_as n) (db.trees departments_tree)) × IsAscending department_cmp ds
     × AllByRecursion IsDepartmentRow ds
 
-abbrev pub DecidesDepartments : Edition → Database → Bool → Type 0
+abbrev pub DecidesDepartments : SchemaVersion → Database → Bool → Type 0
 DecidesDepartments n db true = (ds : List DepartmentRow) × AreDepartmentsByName n db ds
 DecidesDepartments n db false = (ds : List DepartmentRow) → ¬ AreDepartmentsByName n db ds

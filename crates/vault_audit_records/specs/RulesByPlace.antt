@@ -8,7 +8,7 @@ use Rattle.vault_rules.specs.declared.rule.Rule.{Rule}
 use Rattle.vault_core_model.specs.Order.{name_cmp}
 use Rattle.vault_audit_model.specs.declared.rows.BucketRow.{BucketRow}
 use Rattle.vault_audit_model.specs.declared.rows.RuleRow.{RuleRow}
-use Rattle.vault_audit_model.specs.declared.schema.Edition.{Edition}
+use Rattle.vault_audit_model.specs.declared.schema.SchemaVersion.{SchemaVersion}
 use Rattle.vault_audit_model.specs.Limits.{IsBucketRow, IsRuleRow}
 use Rattle.vault_audit_model.specs.Rows.{bucket_row, rule_row, bucket_columns, rule_columns_as}
 use Rattle.vault_audit_model.specs.Tables.{buckets_tree, rules_tree}
@@ -63,7 +63,7 @@ abbrev pub no_rule : RulesSoFar
 no_rule = record { bucket = None; rules = [] }
 
 -- the rows of rules are these, in any order
-abbrev pub AreRowsOf : Edition → Database → List RuleRow → Type 0
+abbrev pub AreRowsOf : SchemaVersion → Database → List RuleRow → Type 0
 AreRowsOf n db xs = IsPermutation (map rule_row xs) (map (rule_columns_as n) (db.trees rules_tree))
 
 -- each comes next after those before it, and the last bucket's are whole
@@ -71,7 +71,7 @@ abbrev pub AreWholeSets : List RuleRow → Type 0
 AreWholeSets xs = AllFit rule_row ComesNext with_rule no_rule xs × IsWhole (after rule_row ComesNext with_rule no_rule xs)
 
 -- whether the rules of each bucket stand at the places 1, 2, 3 and so on, and are a set that it may have
-abbrev pub DecidesRuns : Edition → Database → Bool → Type 0
+abbrev pub DecidesRuns : SchemaVersion → Database → Bool → Type 0
 DecidesRuns n db true = (xs : List RuleRow) × AreRowsOf n db xs × AreWholeSets xs
 DecidesRuns n db false = (xs : List RuleRow) → AreRowsOf n db xs → ¬ AreWholeSets xs
 
@@ -80,5 +80,5 @@ abbrev pub IsOfOne : List BucketRow → RuleRow → Type 0
 IsOfOne bs r = list_any (λ b. is_eq (name_cmp b.name r.bucket)) bs ≡ true
 
 -- whether each rule has its bucket
-abbrev pub DecidesOwners : Edition → Database → Bool → Type 0
+abbrev pub DecidesOwners : SchemaVersion → Database → Bool → Type 0
 DecidesOwners n db b = (bs : List BucketRow) → AreBucketRows db bs → (xs : List RuleRow) → AreRowsOf n db xs → Decides b (AllByRecursion (IsOfOne bs) xs)

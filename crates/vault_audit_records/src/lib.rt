@@ -1,7 +1,7 @@
 //! Looks at the rows of each table by themselves, and at those that the office is made of: the row of `meta`,
 //! names in their order, rules at their places, and entries by their ids.
 //!
-//! An error is want of memory, reported as `ErrorCode::OutOfMemory`, or a failure of the store.
+//! An error is out of memory, reported as `ErrorCode::OutOfMemory`, or a failure of the store.
 #![tactic(auto)]
 
 pub mod buckets;

@@ -4,7 +4,7 @@ ghost use Rattle.std.specs.Prelude.{◌≡◌, false, IfErr, IfOk};
 use sqlite::{Error, ErrorCode};
 use vault_audit_rows::misread::Misread;
 
-/// What an unread row is reported as: a row that holds no such record doesn't pass, and want of memory is an error.
+/// What an unread row is reported as: a row that holds no such record doesn't pass, and out of memory is an error.
 pub fn refused(misread: Misread) -> Result<bool, Error>
     ensures wrong { IfOk result (λ passes. (passes ≡ false) × (misread ≡ Misread.Wrong)) }
     ensures memory { IfErr result (λ error. (misread ≡ Misread.Memory) × (error ≡ Error.SqliteFailure ErrorCode.OutOfMemory)) }

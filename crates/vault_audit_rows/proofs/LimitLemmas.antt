@@ -18,7 +18,7 @@ use Rattle.vault_core_model.specs.declared.records.Setting.{Setting}
 use Rattle.vault_core_model.specs.declared.records.Tenure.{Tenure}
 use Rattle.vault_audit_model.specs.Limits.{IsPlainName, IsBucketName, IsBucket, IsRule, AreRules, IsHistory, IsSetting, IsTenure, IsRuleRow, IsContentRow, IsSettingRow, IsTenureRow}
 use Rattle.vault_audit_model.specs.Relations.{AreTenuresInLimits, AreNumbered}
-use Rattle.vault_audit_model.specs.declared.schema.Edition.{Edition}
+use Rattle.vault_audit_model.specs.declared.schema.SchemaVersion.{SchemaVersion}
 use Rattle.vault_audit_model.specs.Spells.{IsKeptAs, rules_from, rules_if_given, rules_in, content_if_given, contents_in, settings_from, settings_in, tenures_in, tenure_at}
 use Rattle.vault_audit_model.proofs.ListLemmas.{all_as, all_both}
 use Rattle.vault_audit_rows.proofs.ColumnLemmas.{few}
@@ -135,7 +135,7 @@ numbers_of next low last (h ∷ hs) ids order all = ((all.0.entry, (ids.0, order
 
 -- ---- of a vault that tables keep
 
-module _ {n : Edition} (v : Vault) (kept : IsKeptAs n v) where
+module _ {n : SchemaVersion} (v : Vault) (kept : IsKeptAs n v) where
   pub wholes : AllByRecursion (λ h. IsHistory h × IsWhole h) v.histories
   wholes = all_both IsHistory IsWhole v.histories kept.limits.histories kept.sound.whole
 

@@ -37,7 +37,7 @@ use vault_lock::lock::Lock;
 use vault_rules::rule::Rule;
 use vault_tally::row::Row as Sums;
 
-/// The row of `meta`, of any edition.
+/// The row of `meta`, of any schema version.
 pub fn read_meta(row: &Row) -> Result<MetaRow, Misread>
     ensures ok { IfOk result (λ x. (row.now ≡ meta_row x) × IsMetaRow x) }
     ensures wrong { IfErr result (λ e. e ≡ Misread.Wrong → (x : MetaRow) → IsMetaRow x → row.now ≢ meta_row x) }

@@ -7,8 +7,8 @@ use Rattle.std.proofs.lemmas.Option.{slice_get-map, same_Some}
 use Rattle.vault_base.specs.declared.refusal.Table.{Table}
 use Rattle.vault_base.specs.declared.refusal.Table.TheVariants.{Meta, Departments, Callers, Buckets, Rules, Entries, Contents, Settings, Intake, Heads, Tenures}
 use Rattle.sqlite.specs.Table.{Table as Made}
-use Rattle.vault_audit_model.specs.declared.schema.Edition.{Edition}
-use Rattle.vault_audit_model.specs.declared.schema.Edition.TheVariants.{First, Second, Third}
+use Rattle.vault_audit_model.specs.declared.schema.SchemaVersion.{SchemaVersion}
+use Rattle.vault_audit_model.specs.declared.schema.SchemaVersion.TheVariants.{First, Second, Third}
 use Rattle.vault_audit_model.specs.Order.{place_of, made_in}
 use Rattle.vault_audit_model.specs.Tables.{schema_of}
 use Rattle.vault_audit_schema.specs.Compare.{IsFirstUnlike}
@@ -43,17 +43,17 @@ placed (suc (suc (suc (suc (suc (suc (suc (suc (suc zero))))))))) h = (Heads, re
 placed (suc (suc (suc (suc (suc (suc (suc (suc (suc (suc zero)))))))))) h = (Tenures, refl)
 placed (suc (suc (suc (suc (suc (suc (suc (suc (suc (suc (suc n))))))))))) h = absurd (omega arith)
 
--- how many an edition has
-abbrev count : Edition → ℕ
+-- how many a schema version has
+abbrev count : SchemaVersion → ℕ
 count n = length (schema_of n).tables
 
-few : (n : Edition) → count n < 12
+few : (n : SchemaVersion) → count n < 12
 few First = omega arith
 few Second = omega arith
 few Third = omega arith
 
--- a table stands in the edition's list at its place
-made_at : (n : Edition) (t : Table) → HasTable n t → slice_get (made_in n) (place_of t) ≡ Some t
+-- a table stands in the schema version's list at its place
+made_at : (n : SchemaVersion) (t : Table) → HasTable n t → slice_get (made_in n) (place_of t) ≡ Some t
 made_at n Meta has = refl
 made_at n Departments has = refl
 made_at n Callers has = refl
@@ -69,7 +69,7 @@ made_at Second Tenures has = absurd (omega (arith, has))
 made_at Third Tenures has = refl
 
 -- so where its forms have these names, the form at this place has the table's
-pub named_at : {F : Type 0} (n : Edition) (name_of : F → Table) (forms : List F) → map name_of forms ≡ made_in n → (form : F) (at : ℕ) → slice_get forms at ≡ Some form
+pub named_at : {F : Type 0} (n : SchemaVersion) (name_of : F → Table) (forms : List F) → map name_of forms ≡ made_in n → (form : F) (at : ℕ) → slice_get forms at ≡ Some form
     → (t : Table) → HasTable n t → place_of t ≡ at → name_of form ≡ t
 named_at n name_of forms are form at is t has here =
     same_Some (name_of form) t (
@@ -87,18 +87,18 @@ agree_before : {X : Type 0} (xs ys : List X) (n k : ℕ) → take n xs ≡ take 
 agree_before xs ys n k e h = sym (get_in_take n xs k h) ∙ ap (λ (l : List _). slice_get l k) e ∙ get_in_take n ys k h
 
 -- a table that the tables begin with stands in its place
-pub in_place : (n : Edition) (tables : List Made) (t : Table) → BeginTo n tables t → IsInPlace n tables t
+pub in_place : (n : SchemaVersion) (tables : List Made) (t : Table) → BeginTo n tables t → IsInPlace n tables t
 in_place n tables t begin has = agree_before tables (schema_of n).tables (place_of t + 1) (place_of t) begin (omega arith)
 
--- one that doesn't stand in its place is one of the edition's
-has_out : (n : Edition) (tables : List Made) (t : Table) → ¬ IsInPlace n tables t → HasTable n t
+-- one that doesn't stand in its place is one of the schema version's
+has_out : (n : SchemaVersion) (tables : List Made) (t : Table) → ¬ IsInPlace n tables t → HasTable n t
 has_out n tables t here = elim (cases_order (place_of t) (count n)) [
   | inl e ↦ absurd (here (λ has. absurd (omega (arith, has, e))))
   | inr (inl less) ↦ less
   | inr (inr more) ↦ absurd (here (λ has. absurd (omega (arith, has, more))))
 ]
 
-same_place : (n : Edition) (tables : List Made) (at : ℕ) (t : Table) → IsFirstUnlike tables (schema_of n).tables at
+same_place : (n : SchemaVersion) (tables : List Made) (at : ℕ) (t : Table) → IsFirstUnlike tables (schema_of n).tables at
     → ((u : Table) → place_of u < place_of t → IsInPlace n tables u) → ¬ IsInPlace n tables t → place_of t ≡ at
 same_place n tables at t unlike before here = elim (cases_order (place_of t) at) [
   | inl e ↦ e
@@ -112,12 +112,12 @@ same_place n tables at t unlike before here = elim (cases_order (place_of t) at)
       absurd (unlike.differs (subst (λ (k : ℕ). slice_get tables k ≡ slice_get (schema_of n).tables k) found.1 (before found.0 lower there)))
 ]
 
-begin_before : (n : Edition) (tables : List Made) (at : ℕ) → take at tables ≡ take at (schema_of n).tables → (t : Table) → place_of t < at → BeginTo n tables t
+begin_before : (n : SchemaVersion) (tables : List Made) (at : ℕ) → take at tables ≡ take at (schema_of n).tables → (t : Table) → place_of t < at → BeginTo n tables t
 begin_before n tables at before t less =
     let within : place_of t + 1 ≤ at = omega (arith, less) in
     sym (take-take (place_of t + 1) at tables within) ∙ ap (take (place_of t + 1)) before ∙ take-take (place_of t + 1) at (schema_of n).tables within
 
-module _ (n : Edition) (tables : List Made) (at : ℕ) (stated : Table) (unlike : IsFirstUnlike tables (schema_of n).tables at) where
+module _ (n : SchemaVersion) (tables : List Made) (at : ℕ) (stated : Table) (unlike : IsFirstUnlike tables (schema_of n).tables at) where
   abbrev Reported : Type 0
   Reported = ((t : Table) → place_of t < place_of stated → BeginTo n tables t) × (¬ IsInPlace n tables stated ⊎ AreInPlace n tables)
 

@@ -12,7 +12,7 @@ names columns = map (λ (c : Column). c.name) columns
 abbrev pub names_of : Table → List (List ℕ)
 names_of t = names t.columns
 
--- the columns that a later edition has at the end of a table
+-- the columns that a later schema version has at the end of a table
 abbrev pub later_columns : Table → Table → List Column
 later_columns old new = drop (length old.columns) new.columns
 
@@ -30,7 +30,7 @@ query_text shown t ending = codes "SELECT " ++ listed shown ++ codes " FROM " ++
 abbrev pub select_text : Table → List ℕ → List ℕ
 select_text t ending = query_text (names_of t) t ending
 
--- the same over the table of an earlier edition, with what is there for each column that it lacks
+-- the same over the table of an earlier schema version, with what is there for each column that it lacks
 abbrev pub select_text_as : List ℕ → Table → Table → List ℕ → List ℕ
 select_text_as absent old new ending =
     query_text (names_of old ++ map (λ (c : Column). absent ++ codes " AS " ++ c.name) (later_columns old new)) old ending
@@ -57,6 +57,6 @@ terms_by (Some at) columns = col 1 0 ∷ terms_from 2 (drop 1 columns)
 abbrev pub terms_of : Table → List Term
 terms_of t = terms_by t.key t.columns
 
--- the same over the table of an earlier edition, with this for each column that it lacks
+-- the same over the table of an earlier schema version, with this for each column that it lacks
 abbrev pub terms_as : Term → Table → Table → List Term
 terms_as absent old new = terms_of old ++ map (λ (c : Column). absent) (later_columns old new)

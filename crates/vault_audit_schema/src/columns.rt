@@ -1,8 +1,8 @@
 //! The columns of each table, said once. `callers_columns!(select_text, " ORDER BY name")` hands those of `callers` to
 //! `select_text!`, with what comes after them; so do the other ten, and so with each macro that makes something of columns.
 //!
-//! A column is its name and what SQL says of it. One that came with a later edition comes after a `;`, with what it is
-//! where an edition lacks it.
+//! A column is its name and what SQL says of it. One that came with a later schema version comes after a `;`, with what it is
+//! where a schema version lacks it.
 
 /// The columns of `meta`.
 #[macro_export]

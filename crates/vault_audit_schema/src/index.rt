@@ -10,7 +10,7 @@ use crate::table::{
 };
 use sqlite_schema::schema::Index;
 use sqlite_value::keys::Order;
-use vault_audit_model::schema::Edition;
+use vault_audit_model::schema::SchemaVersion;
 
 /// The index of the places by which a table's rows are found.
 #[derive(Clone, Copy, Debug)]
@@ -49,7 +49,7 @@ const ENTRIES_HELD: IndexForm = IndexForm {
     is_unique: false,
 };
 
-/// The indexes in the order in which they are made, the last two of the third edition alone.
+/// The indexes in the order in which they are made, the last two of the third schema version alone.
 static INDEXES: [IndexForm; 10] = [
     brought_by!(DEPARTMENTS, "departments", &[1]),
     brought_by!(CALLERS, "callers", &[1]),
@@ -63,13 +63,13 @@ static INDEXES: [IndexForm; 10] = [
     ENTRIES_HELD,
 ];
 
-/// The indexes of an edition, in the order in which they are made.
-pub(crate) fn indexes_of(edition: Edition) -> &'static [IndexForm]
-    ensures { map index_of result.now ≡ (schema_of edition).indexes }
+/// The indexes of a schema version, in the order in which they are made.
+pub(crate) fn indexes_of(schema_version: SchemaVersion) -> &'static [IndexForm]
+    ensures { map index_of result.now ≡ (schema_of schema_version).indexes }
 {
-    match edition {
-        Edition::First | Edition::Second => &INDEXES[..8],
-        Edition::Third => &INDEXES,
+    match schema_version {
+        SchemaVersion::First | SchemaVersion::Second => &INDEXES[..8],
+        SchemaVersion::Third => &INDEXES,
     }
 }
 

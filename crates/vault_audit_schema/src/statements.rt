@@ -6,7 +6,7 @@ use crate::table::{
 };
 use vault_base::refusal::Table;
 
-/// The statement that makes a table of the newest edition, all those before it being there. They are made in the
+/// The statement that makes a table of the newest schema version, all those before it being there. They are made in the
 /// order of `Table`'s variants.
 pub fn creation(table: Table) -> &'static str
     ensures { IsCreationOf table result.now }

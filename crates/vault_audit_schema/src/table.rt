@@ -1,4 +1,4 @@
-//! The tables of each edition, and the parts of a table that are no column.
+//! The tables of each schema version, and the parts of a table that are no column.
 
 ghost use Rattle.std.specs.Prelude.{◌≡◌, ◌↔◌, [], ◌∷◌, Some, None, IsTrue, map};
 ghost use Rattle.vault_audit_model.specs.Order.{made_in};
@@ -17,7 +17,7 @@ use crate::{
 use sqlite_items::Items;
 use sqlite_schema::schema::{self, Kind};
 use sqlite_value::keys::Order;
-use vault_audit_model::schema::Edition;
+use vault_audit_model::schema::SchemaVersion;
 use vault_base::refusal::Table;
 
 /// What distinguishes the rows of a table.
@@ -104,7 +104,7 @@ macro_rules! table {
     };
 }
 
-/// The same of editions that lack the later columns.
+/// The same of schema versions that lack the later columns.
 macro_rules! earlier_table {
     (
         $title:ident(
@@ -135,12 +135,12 @@ macro_rules! refers {
     };
 }
 
-/// `meta` of the first two editions.
+/// `meta` of the first two schema versions.
 const FIRST_META: TableForm = meta_columns!(earlier_table, Table::Meta, 0, KeyForm::Number, &[]);
 
 pub(crate) const META: TableForm = meta_columns!(table, Table::Meta, 0, KeyForm::Number, &[]);
 
-/// The departments of the first two editions.
+/// The departments of the first two schema versions.
 const FIRST_DEPARTMENTS: TableForm = departments_columns!(
     earlier_table,
     Table::Departments,
@@ -177,7 +177,7 @@ pub(crate) const BUCKETS: TableForm = buckets_columns!(
     "PRIMARY KEY (name)"
 );
 
-/// The rules of the first edition.
+/// The rules of the first schema version.
 const FIRST_RULES: TableForm = rules_columns!(
     earlier_table,
     Table::Rules,
@@ -249,8 +249,8 @@ pub(crate) const TENURES: TableForm = tenures_columns!(
     "PRIMARY KEY (id, n)"
 );
 
-/// The tables in the order in which they are made: those of which editions have forms of their own, between the others,
-/// and after them those that an edition has besides.
+/// The tables in the order in which they are made: those of which schema versions have forms of their own, between the others,
+/// and after them those that a schema version has besides.
 macro_rules! tables {
     ($meta:ident, $departments:ident, $rules:ident $(, $later:ident)*) => {
         [
@@ -266,15 +266,15 @@ static SECOND_TABLES: [TableForm; 10] = tables!(FIRST_META, FIRST_DEPARTMENTS, R
 
 static THIRD_TABLES: [TableForm; 11] = tables!(META, DEPARTMENTS, RULES, TENURES);
 
-/// The tables of an edition, in the order in which they are made.
-pub(crate) fn tables_of(edition: Edition) -> &'static [TableForm]
-    ensures forms { map table_of result.now ≡ (schema_of edition).tables }
-    ensures names { map (λ form. form.table) result.now ≡ made_in edition }
+/// The tables of a schema version, in the order in which they are made.
+pub(crate) fn tables_of(schema_version: SchemaVersion) -> &'static [TableForm]
+    ensures forms { map table_of result.now ≡ (schema_of schema_version).tables }
+    ensures names { map (λ form. form.table) result.now ≡ made_in schema_version }
 {
-    match edition {
-        Edition::First => &FIRST_TABLES,
-        Edition::Second => &SECOND_TABLES,
-        Edition::Third => &THIRD_TABLES,
+    match schema_version {
+        SchemaVersion::First => &FIRST_TABLES,
+        SchemaVersion::Second => &SECOND_TABLES,
+        SchemaVersion::Third => &THIRD_TABLES,
     }
 }
 

@@ -18,7 +18,7 @@ macro_rules! select_text {
     };
 }
 
-/// The query for all columns over the table as editions had it that lack the later ones.
+/// The query for all columns over the table as schema versions had it that lack the later ones.
 #[macro_export]
 macro_rules! earlier_select_text {
     (

@@ -11,7 +11,7 @@ use Rattle.vault_core_model.specs.Sound.{Sound, IsInTime}
 use Rattle.vault_core_model.specs.Totals.{items_in}
 use Rattle.vault_core_model.specs.Vault.{Vault}
 use Rattle.vault_core_laws.proofs.Soundness.{admitted_by}
-use Rattle.vault_audit_model.specs.declared.schema.Edition.{Edition}
+use Rattle.vault_audit_model.specs.declared.schema.SchemaVersion.{SchemaVersion}
 use Rattle.vault_audit_model.specs.declared.rows.DepartmentRow.{DepartmentRow}
 use Rattle.vault_audit_model.specs.Limits.{IsPlainName}
 use Rattle.vault_audit_model.specs.Relations.{department_with, IsPast, IsWithin, AreBuckets, AreEntries, AreTenuresOf, DecidesSums}
@@ -78,7 +78,7 @@ module _ (hs : List History) where
     all_total (n ∷ ns) named low = (has_total n named.0 low.0, all_total ns named.1 low.1)
 
     -- what the rows hold beside the totals is said of the table
-    pub table_stated : (n : Edition) (db : Database) (hold : Bool) → HaveTotals t n db hold → DecidesSums n db hs hold
+    pub table_stated : (n : SchemaVersion) (db : Database) (hold : Bool) → HaveTotals t n db hold → DecidesSums n db hs hold
     table_stated n db true (ds, are, all) =
         let each = each_has ds all in
         (names ds, (subst (λ rows. IsPermutation rows (map (department_columns_as n) (db.trees departments_tree))) (rows_same ds each) are, named ds all, within ds each))
@@ -96,7 +96,7 @@ each_within v [] sound = tt
 each_within v (d ∷ ds) sound = (sound.within d, each_within v ds sound)
 
 -- where a department lacks its sums, whatever the vault is, no vault has these tables
-pub no_sums : (n : Edition) (db : Database)
+pub no_sums : (n : SchemaVersion) (db : Database)
     → ((v : Vault) → AreBuckets n db v.buckets → AreEntries db (entries_in v.histories) → AllByRecursion (IsPast v.last) (entries_in v.histories) → AreTenuresOf n db v → DecidesSums n db v.histories false)
     → (v : Vault) → ¬ AreSoundAs n db v
 no_sums n db stated v it =

@@ -24,7 +24,7 @@ use Rattle.vault_core_model.specs.declared.records.Removal.{Removal}
 use Rattle.vault_core_model.specs.Order.{IsAscending, bucket_cmp}
 use Rattle.vault_core_model.specs.Vault.{bucket_in}
 use Rattle.vault_base.specs.Days.{last_moment}
-use Rattle.vault_audit_model.specs.declared.schema.Edition.{Edition}
+use Rattle.vault_audit_model.specs.declared.schema.SchemaVersion.{SchemaVersion}
 use Rattle.vault_audit_model.specs.Limits.{IsBucket, IsEntry, IsPlainName, IsRemoval}
 use Rattle.vault_audit_model.specs.Relations.{AreBuckets, AreEntries, AreNumbered}
 use Rattle.vault_audit_model.specs.Rows.{bucket_row, bucket_columns, entry_row, entry_columns}
@@ -134,7 +134,7 @@ pub each_one : {X Y : Type 0} (f : X → List Y) (g : X → Y) → ((x : X) → 
 each_one f g same [] = refl
 each_one f g same (x ∷ xs) = rw (same x) (ap (λ ys. g x ∷ ys) (each_one f g same xs))
 
-module _ (n : Edition) (db : Database) (bs : List Bucket) (es : List Entry) (buckets : AreBuckets n db bs) (entries : AreEntries db es) where
+module _ (n : SchemaVersion) (db : Database) (bs : List Bucket) (es : List Entry) (buckets : AreBuckets n db bs) (entries : AreEntries db es) where
   abbrev rows_stated : List Values
   rows_stated = map owned_row (map (owned_in bs) es)
 
@@ -160,7 +160,7 @@ owned_rise bs es are =
 by_first : IsOrderOf (joined_of entries_tree buckets_tree 1 2 owned_shown owned_order) first_cmp
 by_first a b = ap is_lt (then-Equal (value_cmp (eval (col 1 0) a) (eval (col 1 0) b)))
 
-pub answers : (n : Edition) (a b : State) → a.now.schema ≡ schema_of n → (rows : List Values) → Shown owned_text [] a b rows → IsPermutation (source a.now) rows × IsSorted first_cmp rows
+pub answers : (n : SchemaVersion) (a b : State) → a.now.schema ≡ schema_of n → (rows : List Values) → Shown owned_text [] a b rows → IsPermutation (source a.now) rows × IsSorted first_cmp rows
 answers n a b schema rows shown =
     joined_with owned_text a b (schema_of n) schema (owned_plain n) (owned_is n).1 entries_tree buckets_tree 1 2 owned_shown owned_order first_cmp _ (owned_is n).0 by_first refl refl rows shown
 

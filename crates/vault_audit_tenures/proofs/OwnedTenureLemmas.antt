@@ -17,7 +17,7 @@ use Rattle.vault_core_model.specs.declared.records.Tenure.{Tenure}
 use Rattle.vault_core_model.specs.Order.{IsAscending, bucket_cmp}
 use Rattle.vault_core_model.specs.Vault.{Vault, bucket_in}
 use Rattle.vault_audit_model.specs.declared.rows.TenureRow.{TenureRow}
-use Rattle.vault_audit_model.specs.declared.schema.Edition.{Edition}
+use Rattle.vault_audit_model.specs.declared.schema.SchemaVersion.{SchemaVersion}
 use Rattle.vault_audit_model.specs.Relations.{AreBuckets, AreEntries}
 use Rattle.vault_audit_model.specs.Rows.{bucket_columns, entry_columns, tenure_row, tenure_columns, removal_at}
 use Rattle.vault_audit_model.specs.Spells.{entries_in, tenures_in}
@@ -96,7 +96,7 @@ map_alike_on f g (x ∷ xs) all = rw (all.0, map_alike_on f g xs all.1) refl
 
 -- ---- all rows
 
-module _ (n : Edition) (db : Database) (bs : List Bucket) (es : List Entry) (buckets : AreBuckets n db bs) (entries : AreEntries db es) where
+module _ (n : SchemaVersion) (db : Database) (bs : List Bucket) (es : List Entry) (buckets : AreBuckets n db bs) (entries : AreEntries db es) where
   abbrev stored : List Values
   stored = db.trees tenures_tree
 
@@ -155,7 +155,7 @@ module _ (n : Edition) (db : Database) (bs : List Bucket) (es : List Entry) (buc
 
 -- ---- from histories
 
-module _ (n : Edition) (db : Database) (v : Vault) (es : List Entry) (buckets : AreBuckets n db v.buckets) (entries : AreEntries db es) where
+module _ (n : SchemaVersion) (db : Database) (v : Vault) (es : List Entry) (buckets : AreBuckets n db v.buckets) (entries : AreEntries db es) where
   one_stated : (e : Entry) → found_among es e.id ≡ Some e → (t : Tenure) → shown_for v.buckets (find (is_id (number e.id)) es) (tenure_row (row_of (owned_in v.buckets e t))) ≡ owned_row (owned_in v.buckets e t)
   one_stated e found t = ap (λ o. shown_for v.buckets o (tenure_row (row_of (owned_in v.buckets e t)))) (found_number es e.id ∙ found)
 

@@ -8,8 +8,8 @@ use Rattle.vault_core_model.specs.declared.records.History.{History}
 use Rattle.vault_core_model.specs.Sound.{AreInOrder, IsInTime}
 use Rattle.vault_core_model.specs.Vault.{Vault}
 use Rattle.vault_audit_model.specs.declared.rows.MetaRow.{MetaRow}
-use Rattle.vault_audit_model.specs.declared.schema.Edition.{Edition}
-use Rattle.vault_audit_model.specs.declared.schema.Edition.TheVariants.{First, Second, Third}
+use Rattle.vault_audit_model.specs.declared.schema.SchemaVersion.{SchemaVersion}
+use Rattle.vault_audit_model.specs.declared.schema.SchemaVersion.TheVariants.{First, Second, Third}
 use Rattle.vault_audit_model.specs.Relations.{AreTenuresWith, IsPast}
 use Rattle.vault_audit_model.specs.Rows.{meta_row}
 use Rattle.vault_audit_model.specs.Spells.{AreSoundAs, entries_in, meta_stated}
@@ -38,7 +38,7 @@ stated_in_third : (db : Database) (m : MetaRow) (answer : Result Bool Error) →
 stated_in_third db m (Err e) stated = tt
 stated_in_third db m (Ok b) stated = λ meta v at_last many buckets entries past placed. stated v at_last many buckets entries
 
-module _ (n : Edition) (db : Database) (m : MetaRow) where
+module _ (n : SchemaVersion) (db : Database) (m : MetaRow) where
   pub if_older : (n ≡ First) ⊎ (n ≡ Second) → DecidesTenuresOf n db m true
   if_older (inl is) = subst (λ e. DecidesTenuresOf e db m true) (sym is) (stated_in_first db m)
   if_older (inr is) = subst (λ e. DecidesTenuresOf e db m true) (sym is) (stated_in_second db m)

@@ -9,8 +9,8 @@ use Rattle.sqlite.specs.Command.TheVariants.{Select}
 use Rattle.sqlite.specs.Listing.{understood, reads_listing}
 use Rattle.sqlite.proofs.Callers.{IsPlain, command_of}
 use Rattle.sqlite_sql.specs.Term.{Term, col}
-use Rattle.vault_audit_model.specs.declared.schema.Edition.{Edition}
-use Rattle.vault_audit_model.specs.declared.schema.Edition.TheVariants.{First, Second, Third}
+use Rattle.vault_audit_model.specs.declared.schema.SchemaVersion.{SchemaVersion}
+use Rattle.vault_audit_model.specs.declared.schema.SchemaVersion.TheVariants.{First, Second, Third}
 use Rattle.vault_audit_model.specs.Queries.{table_scan, Selects}
 use Rattle.vault_audit_model.specs.Rows.{department_columns_as}
 use Rattle.vault_audit_model.specs.Tables.{schema_of, departments, departments_tree, buckets_tree, entries_tree, tenures_tree}
@@ -21,25 +21,25 @@ use Rattle.vault_audit_walk.proofs.JoinLemmas.{joined_of}
 use Rattle.vault_audit_walk.proofs.ScanLemmas.{shows}
 use Rattle.vault_audit_walk.specs.Health.{Asks}
 
-pub departments_scan : (n : Edition) → Selects (schema_of n) (departments_select n []) (table_scan departments_tree [] (department_terms n))
+pub departments_scan : (n : SchemaVersion) → Selects (schema_of n) (departments_select n []) (table_scan departments_tree [] (department_terms n))
 unfolding understood everything
 departments_scan First = record { names = names_of departments; is = refl; plain = (refl, refl); unlisted = refl }
 departments_scan Second = record { names = names_of departments; is = refl; plain = (refl, refl); unlisted = refl }
 departments_scan Third = record { names = names_of departments; is = refl; plain = (refl, refl); unlisted = refl }
 
-pub departments_asks : (n : Edition) → Asks (schema_of n) (departments_select n [])
+pub departments_asks : (n : SchemaVersion) → Asks (schema_of n) (departments_select n [])
 unfolding understood everything
 departments_asks First = record { is = (omega (arith), refl, (refl, refl, refl, refl)); unlisted = refl }
 departments_asks Second = record { is = (omega (arith), refl, (refl, refl, refl, refl)); unlisted = refl }
 departments_asks Third = record { is = (omega (arith), refl, (refl, refl, refl, refl)); unlisted = refl }
 
 -- it shows the columns of each row
-shown_columns : (n : Edition) (row : Row) → shows (department_terms n) [] row ≡ department_columns_as n row
+shown_columns : (n : SchemaVersion) (row : Row) → shows (department_terms n) [] row ≡ department_columns_as n row
 shown_columns First row = refl
 shown_columns Second row = refl
 shown_columns Third row = refl
 
-pub departments_shows : (n : Edition) (rows : List Row) → map (shows (department_terms n) []) rows ≡ map (department_columns_as n) rows
+pub departments_shows : (n : SchemaVersion) (rows : List Row) → map (shows (department_terms n) []) rows ≡ map (department_columns_as n) rows
 departments_shows n [] = refl
 departments_shows n (row ∷ rows) = ap₂ (λ (r : Row) (rs : List Row). r ∷ rs) (shown_columns n row) (departments_shows n rows)
 
@@ -52,16 +52,16 @@ owned_shown = col 1 0 ∷ col 1 4 ∷ col 1 5 ∷ col 1 7 ∷ col 1 10 ∷ col 2
 abbrev pub owned_order : List (Term × Key)
 owned_order = (col 1 0, ascending Binary) ∷ []
 
-pub owned_is : (n : Edition) → (command_of (understood (schema_of n) owned_text) ≡ Select (record { lets = []; body = joined_of entries_tree buckets_tree 1 2 owned_shown owned_order }) (codes "id" ∷ codes "marker" ∷ codes "size" ∷ codes "admitted" ∷ codes "removed" ∷ codes "dept" ∷ []))
+pub owned_is : (n : SchemaVersion) → (command_of (understood (schema_of n) owned_text) ≡ Select (record { lets = []; body = joined_of entries_tree buckets_tree 1 2 owned_shown owned_order }) (codes "id" ∷ codes "marker" ∷ codes "size" ∷ codes "admitted" ∷ codes "removed" ∷ codes "dept" ∷ []))
     × (reads_listing (schema_of n) owned_text ≡ false)
 unfolding understood everything
 owned_is n = (refl, refl)
 
-pub owned_plain : (n : Edition) → IsPlain (understood (schema_of n) owned_text)
+pub owned_plain : (n : SchemaVersion) → IsPlain (understood (schema_of n) owned_text)
 unfolding understood everything
 owned_plain n = (refl, refl)
 
-pub owned_asks : (n : Edition) → Asks (schema_of n) owned_text
+pub owned_asks : (n : SchemaVersion) → Asks (schema_of n) owned_text
 unfolding understood everything
 owned_asks n = record { is = (omega (arith), refl, (refl, refl, refl, refl)); unlisted = refl }
 

@@ -5,7 +5,7 @@ use Rattle.sqlite.specs.Command.TheVariants.{Select}
 use Rattle.sqlite.specs.Listing.{understood, reads_listing}
 use Rattle.sqlite.proofs.Callers.{IsPlain, command_of}
 use Rattle.sqlite_sql.specs.Term.{col}
-use Rattle.vault_audit_model.specs.declared.schema.Edition.TheVariants.{Third}
+use Rattle.vault_audit_model.specs.declared.schema.SchemaVersion.TheVariants.{Third}
 use Rattle.vault_audit_model.specs.Queries.{Selects}
 use Rattle.vault_audit_model.specs.Tables.{schema_of, entries_tree, tenures_tree}
 use Rattle.vault_audit_walk.proofs.BesideLemmas.{beside_of}

@@ -15,7 +15,7 @@ use Rattle.vault_core_model.specs.declared.records.Removal.{Removal}
 use Rattle.vault_core_model.specs.Sound.{IsPlaced, IsWithBucket, LiesBetween, end_of}
 use Rattle.vault_core_model.specs.Vault.{Vault, bucket_in, config_in, config_of}
 use Rattle.vault_audit_model.specs.declared.rows.MetaRow.{MetaRow}
-use Rattle.vault_audit_model.specs.declared.schema.Edition.TheVariants.{First, Second}
+use Rattle.vault_audit_model.specs.declared.schema.SchemaVersion.TheVariants.{First, Second}
 use Rattle.vault_audit_model.specs.Limits.{IsBucket, IsPlainName, IsTenure}
 use Rattle.vault_audit_model.specs.Relations.{AreNumbered, AreTenuresInLimits, IsPast, IsTenured, IsTenuredAs, DecidesTenures}
 use Rattle.vault_audit_model.specs.Rows.{meta_row, meta_columns_as}

@@ -21,7 +21,7 @@ use Rattle.vault_core_model.specs.Sound.{LiesBetween, end_of}
 use Rattle.vault_core_model.specs.Totals.{Share, share, removal_day, shares_from, shares_of, items_by, items_in}
 use Rattle.vault_core_model.specs.Vault.{Vault, config_in}
 use Rattle.vault_core_laws.proofs.Bounds.{dated}
-use Rattle.vault_audit_model.specs.declared.schema.Edition.{Edition}
+use Rattle.vault_audit_model.specs.declared.schema.SchemaVersion.{SchemaVersion}
 use Rattle.vault_audit_model.specs.Limits.{IsEntry, IsRemoval}
 use Rattle.vault_audit_model.specs.Relations.{AreBuckets, AreEntries, AreNumbered, IsPast}
 use Rattle.vault_audit_model.specs.Spells.{entries_in}
@@ -111,7 +111,7 @@ module _ (name : List ℕ) where
 
 -- ---- the walk
 
-module _ (n : Edition) (old new : State) (has : old.now.schema ≡ schema_of n) (same : IsUnchanged old new) (p r : SumPass) (v : Vault)
+module _ (n : SchemaVersion) (old new : State) (has : old.now.schema ≡ schema_of n) (same : IsUnchanged old new) (p r : SumPass) (v : Vault)
     (buckets : AreBuckets n new.now v.buckets) (entries : AreEntries new.now (entries_in v.histories)) (past : AllByRecursion (IsPast v.last) (entries_in v.histories)) (unmoved : IsUnmoved v) where
   abbrev es : List Entry
   es = entries_in v.histories

@@ -5,8 +5,8 @@ use Rattle.sqlite.specs.Effect.{Database}
 use Rattle.vault_core_model.specs.Sound.{IsPlaced}
 use Rattle.vault_core_model.specs.Vault.{Vault}
 use Rattle.vault_audit_model.specs.declared.rows.MetaRow.{MetaRow}
-use Rattle.vault_audit_model.specs.declared.schema.Edition.{Edition}
-use Rattle.vault_audit_model.specs.declared.schema.Edition.TheVariants.{Third}
+use Rattle.vault_audit_model.specs.declared.schema.SchemaVersion.{SchemaVersion}
+use Rattle.vault_audit_model.specs.declared.schema.SchemaVersion.TheVariants.{Third}
 use Rattle.vault_audit_model.specs.Relations.{AreBuckets, AreEntries, IsPast, DecidesTenures}
 use Rattle.vault_audit_model.specs.Spells.{AreSoundAs, entries_in}
 use Rattle.vault_audit_records.specs.Meta.{IsMetaOf}
@@ -16,12 +16,12 @@ abbrev pub DecidesTenuresBy : ℕ → ℕ → Database → Bool → Type 0
 DecidesTenuresBy moves last db found =
     (v : Vault) → v.last ≡ last → v.moves ≡ moves → AreBuckets Third db v.buckets → AreEntries db (entries_in v.histories) → DecidesTenures Third db v found
 
--- the same of an edition, where this is the row of meta
-abbrev pub DecidesTenuresOf : Edition → Database → MetaRow → Bool → Type 0
+-- the same of a schema version, where this is the row of meta
+abbrev pub DecidesTenuresOf : SchemaVersion → Database → MetaRow → Bool → Type 0
 DecidesTenuresOf n db m found =
     IsMetaOf n db (Some m) → (v : Vault) → v.last ≡ m.last → v.moves ≡ m.moves → AreBuckets n db v.buckets → AreEntries db (entries_in v.histories)
     → AllByRecursion (IsPast v.last) (entries_in v.histories) → AllByRecursion (IsPlaced v) v.histories → DecidesTenures n db v found
 
 -- where they are not, the tables are sound for no vault
-abbrev pub DamagedUnless : Edition → Database → MetaRow → Bool → Type 0
+abbrev pub DamagedUnless : SchemaVersion → Database → MetaRow → Bool → Type 0
 DamagedUnless n db m found = found ≡ false → IsMetaOf n db (Some m) → (v : Vault) → ¬ AreSoundAs n db v

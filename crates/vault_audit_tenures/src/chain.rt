@@ -2,9 +2,9 @@
 ghost use Rattle.std.specs.Prelude.{◌≡◌, ◌↔◌, IsTrue, IfSome, IfOk, IfErr};
 ghost use Rattle.sqlite.specs.State.{HasCleanDisk};
 ghost use Rattle.sqlite.specs.Held.{state};
-ghost use Rattle.vault_audit_model.specs.declared.schema.Edition.TheVariants.{Third};
+ghost use Rattle.vault_audit_model.specs.declared.schema.SchemaVersion.TheVariants.{Third};
 ghost use Rattle.vault_audit_tenures.specs.Chain.{end_at, IsTimely, IsFirst, IsNext, IsLast, Follows, DecidesChains};
-ghost use Rattle.vault_audit_walk.specs.Health.{IsHealthy, IsMemory, IsOfEdition, OnlyLooks};
+ghost use Rattle.vault_audit_walk.specs.Health.{IsHealthy, IsMemory, IsOfSchemaVersion, OnlyLooks};
 
 use crate::owned_tenures::{OwnedTenure, read_owned};
 use sqlite::{Alter, Connection, Error, ErrorCode, Row};
@@ -126,7 +126,7 @@ pub(crate) fn are_chains<S: Alter>(
     moves: u64,
     last: Moment,
 ) -> Result<bool, Error>
-    requires { IsOfEdition S.Store conn.old Third }
+    requires { IsOfSchemaVersion S.Store conn.old Third }
     ensures reported { HasCleanDisk (state S.Store conn.new) → IfOk result (DecidesChains moves last (state S.Store conn.new).now) }
     ensures look { OnlyLooks S.Store conn.old conn.new result }
     ensures err { IsHealthy (state S.Store conn.new) → IfErr result IsMemory }

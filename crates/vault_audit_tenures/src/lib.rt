@@ -1,7 +1,7 @@
 //! Looks at tenures: each version has departments from its admission to its end, and each department has the
 //! sums over its tenures.
 //!
-//! An error is want of memory, reported as `ErrorCode::OutOfMemory`, or a failure of the store.
+//! An error is out of memory, reported as `ErrorCode::OutOfMemory`, or a failure of the store.
 #![tactic(auto)]
 
 pub mod chain;

@@ -2,9 +2,9 @@
 ghost use Rattle.std.specs.Prelude.{IfOk, IfErr};
 ghost use Rattle.sqlite.specs.State.{HasCleanDisk};
 ghost use Rattle.sqlite.specs.Held.{state};
-ghost use Rattle.vault_audit_model.specs.declared.schema.Edition.TheVariants.{Third};
+ghost use Rattle.vault_audit_model.specs.declared.schema.SchemaVersion.TheVariants.{Third};
 ghost use Rattle.vault_audit_tenures.specs.Presence.{DecidesPresence};
-ghost use Rattle.vault_audit_walk.specs.Health.{IsHealthy, IsMemory, IsOfEdition, OnlyLooks};
+ghost use Rattle.vault_audit_walk.specs.Health.{IsHealthy, IsMemory, IsOfSchemaVersion, OnlyLooks};
 
 use sqlite::{Alter, Connection, Error};
 use vault_audit_walk::absence::AbsenceCheck;
@@ -12,7 +12,7 @@ use vault_audit_walk::check::check_rows;
 
 /// Whether each version has a tenure, and no marker has one.
 pub(crate) fn have_tenures<S: Alter>(conn: &mut Connection<S>) -> Result<bool, Error>
-    requires { IsOfEdition S.Store conn.old Third }
+    requires { IsOfSchemaVersion S.Store conn.old Third }
     ensures reported { HasCleanDisk (state S.Store conn.new) → IfOk result (DecidesPresence (state S.Store conn.new).now) }
     ensures look { OnlyLooks S.Store conn.old conn.new result }
     ensures err { IsHealthy (state S.Store conn.new) → IfErr result IsMemory }

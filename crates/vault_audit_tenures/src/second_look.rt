@@ -2,15 +2,15 @@
 ghost use Rattle.std.specs.Prelude.{IsTrue, IfOk, IfErr};
 ghost use Rattle.sqlite.specs.State.{HasCleanDisk};
 ghost use Rattle.sqlite.specs.Held.{state};
-ghost use Rattle.vault_audit_model.specs.declared.schema.Edition.TheVariants.{Third};
+ghost use Rattle.vault_audit_model.specs.declared.schema.SchemaVersion.TheVariants.{Third};
 ghost use Rattle.vault_audit_tenures.specs.Decided.{DamagedUnless, DecidesTenuresBy, DecidesTenuresOf};
-ghost use Rattle.vault_audit_walk.specs.Health.{IsHealthy, IsMemory, IsOfEdition, OnlyLooks};
+ghost use Rattle.vault_audit_walk.specs.Health.{IsHealthy, IsMemory, IsOfSchemaVersion, OnlyLooks};
 
 use crate::chain::are_chains;
 use crate::present::have_tenures;
 use sqlite::{Alter, Connection, Error};
 use vault_audit_model::rows::MetaRow;
-use vault_audit_model::schema::Edition;
+use vault_audit_model::schema::SchemaVersion;
 use vault_base::moment::Moment;
 
 /// Whether each version has tenures from its admission to its end, the last of them of its bucket's
@@ -21,7 +21,7 @@ fn check_rows_of_tenures<S: Alter>(
     moves: u64,
     last: Moment,
 ) -> Result<bool, Error>
-    requires { IsOfEdition S.Store conn.old Third }
+    requires { IsOfSchemaVersion S.Store conn.old Third }
     ensures reported { HasCleanDisk (state S.Store conn.new) → IfOk result (DecidesTenuresBy moves last (state S.Store conn.new).now) }
     ensures look { OnlyLooks S.Store conn.old conn.new result }
     ensures err { IsHealthy (state S.Store conn.new) → IfErr result IsMemory }
@@ -33,22 +33,22 @@ fn check_rows_of_tenures<S: Alter>(
     are_chains(conn, moves, last)
 }
 
-/// Whether the tenures of the versions are those of a vault with this row of `meta`. An edition
+/// Whether the tenures of the versions are those of a vault with this row of `meta`. A schema version
 /// without that table reports none, and then no bucket was moved.
 pub fn check_tenures<S: Alter>(
     conn: &mut Connection<S>,
-    edition: Edition,
+    schema_version: SchemaVersion,
     meta: MetaRow,
 ) -> Result<bool, Error>
-    requires schema { IsOfEdition S.Store conn.old edition }
+    requires schema { IsOfSchemaVersion S.Store conn.old schema_version }
     requires open { HasCleanDisk (state S.Store conn.old) → IsTrue (state S.Store conn.old).is_open }
-    ensures reported { HasCleanDisk (state S.Store conn.new) → IfOk result (DecidesTenuresOf edition (state S.Store conn.new).now meta) }
-    ensures damaged { HasCleanDisk (state S.Store conn.new) → IfOk result (DamagedUnless edition (state S.Store conn.new).now meta) }
+    ensures reported { HasCleanDisk (state S.Store conn.new) → IfOk result (DecidesTenuresOf schema_version (state S.Store conn.new).now meta) }
+    ensures damaged { HasCleanDisk (state S.Store conn.new) → IfOk result (DamagedUnless schema_version (state S.Store conn.new).now meta) }
     ensures look { OnlyLooks S.Store conn.old conn.new result }
     ensures err { IsHealthy (state S.Store conn.new) → IfErr result IsMemory }
 {
-    match edition {
-        Edition::First | Edition::Second => Ok(true),
-        Edition::Third => check_rows_of_tenures(conn, meta.moves, meta.last),
+    match schema_version {
+        SchemaVersion::First | SchemaVersion::Second => Ok(true),
+        SchemaVersion::Third => check_rows_of_tenures(conn, meta.moves, meta.last),
     }
 }

@@ -1,4 +1,4 @@
--- A store that works refuses a query that it can answer for want of memory alone.
+-- A store that works refuses a query that it can answer only where memory runs out.
 use Rattle.std.proofs.Common.{◌≡◌, ◌⊎◌, inl, inr, ℕ, List, [], ◌∷◌, length, true, false, None, Option, Ok, IsTrue, IsSome, append-nil, sym, ap, subst, ◌∙◌, arith}
 use Rattle.sqlite_schema.specs.declared.command.Command.{Command}
 use Rattle.sqlite_schema.specs.declared.command.Command.TheVariants.{Select}
@@ -23,7 +23,7 @@ use Rattle.sqlite_value.specs.Order.{Row}
 by_fault : (old new : State) → IsHealthy new → HasCause old new ⊥ Io → ⊥
 by_fault old new well more = omega (arith, more, well.unfailed)
 
--- the store fails for want of memory, or what it was given is too big for it
+-- the store fails where memory runs out, or what it was given is too big for it
 pub by_size : (big : Type 0) (old new : State) → IsHealthy new → (e : Error) → Fails old new big e → IsMemory e ⊎ big
 by_size big old new well e (OutOfMemory, is, cause, undone, stated) = inl is
 by_size big old new well e (Io, is, cause, undone, stated) = absurd (by_fault old new well cause)
@@ -32,7 +32,7 @@ by_size big old new well e (Full, is, cause, undone, stated) = absurd (by_fault 
 by_size big old new well e (Broken, is, cause, undone, stated) = absurd (let is_open : IsTrue old.is_open = undone.was_open well.is_open in cc (cause, is_open))
 by_size big old new well e (Unstorable, is, cause, undone, stated) = inr cause
 
--- one that works fails for want of memory, if nothing was too big for it
+-- one that works fails where memory runs out, if nothing was too big for it
 pub by_store : (big : Type 0) → ¬ big → (old new : State) → IsHealthy new → (e : Error) → Fails old new big e → IsMemory e
 by_store big small old new well e failed = elim (by_size big old new well e failed) [ inl is ↦ is | inr is_big ↦ absurd (small is_big) ]
 

@@ -15,7 +15,7 @@ use Rattle.sqlite.specs.Listing.{understood, reads_listing}
 use Rattle.sqlite.specs.State.{State, HasCleanDisk, IsUnchanged, Survives}
 use Rattle.sqlite_trees.specs.declared.store.Store.{Ghosts}
 use Rattle.sqlite.specs.Held.{Held, state}
-use Rattle.vault_audit_model.specs.declared.schema.Edition.{Edition}
+use Rattle.vault_audit_model.specs.declared.schema.SchemaVersion.{SchemaVersion}
 use Rattle.vault_audit_model.specs.Tables.{schema_of}
 
 -- the disk returns what was written and has refused nothing, the connection is open, and no query has a limit on its steps
@@ -25,7 +25,7 @@ pub record IsHealthy (s : State) : Type 0 where
   pub is_open : IsTrue s.is_open
   pub unlimited : s.step_limit ≡ None
 
--- the error is want of memory
+-- the error is out of memory
 abbrev pub IsMemory : Error → Type 0
 IsMemory e = e ≡ SqliteFailure OutOfMemory
 
@@ -44,9 +44,9 @@ pub record Asks (schema : Schema) (sql : List ℕ) : Type 0 where
   pub is : IsRead schema sql (understood schema sql)
   pub unlisted : reads_listing schema sql ≡ false
 
--- unless the disk returned what wasn't written, the tables have the schema of this edition
-abbrev pub IsOfEdition : {S : Type 0} → Ghosts S → Held S → Edition → Type 0
-IsOfEdition g h edition = HasCleanDisk (state g h) → (state g h).now.schema ≡ schema_of edition
+-- unless the disk returned what wasn't written, the tables have the schema of this schema version
+abbrev pub IsOfSchemaVersion : {S : Type 0} → Ghosts S → Held S → SchemaVersion → Type 0
+IsOfSchemaVersion g h schema_version = HasCleanDisk (state g h) → (state g h).now.schema ≡ schema_of schema_version
 
 -- a look changes nothing: where it is answered the connection is as it was, and a crash leaves what it left before
 pub record OnlyLooks {S A E : Type 0} (g : Ghosts S) (old new : Held S) (result : Result A E) : Type 0 where

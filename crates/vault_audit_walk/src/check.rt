@@ -11,7 +11,7 @@ ghost use Rattle.vault_audit_walk.specs.Records.{Checked};
 use crate::walk::{Pass, walk};
 use sqlite::{Alter, Connection, Error, Row};
 
-/// A check that looks at each row by itself. An error is want of memory.
+/// A check that looks at each row by itself. An error is out of memory.
 pub trait Check {
     ghost use Rattle.std.specs.Prelude.{MatchBool, IfOk, IfErr};
     ghost use Rattle.vault_audit_walk.specs.Health.{IsMemory};

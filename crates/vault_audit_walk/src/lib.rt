@@ -1,6 +1,6 @@
 //! Walks over the rows of a query, one row at a time, also of rows that stand beside those of another table.
 //!
-//! An error is want of memory, reported as `ErrorCode::OutOfMemory`, or a failure of the store.
+//! An error is out of memory, reported as `ErrorCode::OutOfMemory`, or a failure of the store.
 #![tactic(auto)]
 
 pub mod absence;

@@ -10,7 +10,7 @@ ghost use Rattle.vault_audit_walk.specs.Walk.{Walked};
 
 use sqlite::{Alter, Connection, Error, ErrorCode, Row};
 
-/// A check that takes rows one at a time. An error is want of memory.
+/// A check that takes rows one at a time. An error is out of memory.
 pub trait Pass {
     ghost use Rattle.std.specs.Prelude.{MatchBool, IfErr};
     ghost use Rattle.vault_audit_walk.specs.Health.{IsMemory};

@@ -1,1 +1,2 @@
 pub mod StepByStep
+pub mod Hearing

@@ -2,5 +2,6 @@
 #![tactic(auto)]
 
 pub mod fuse_keeper;
+pub mod hearing;
 pub mod run;
 pub mod step;

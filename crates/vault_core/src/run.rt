@@ -18,7 +18,7 @@ use vault_core_model::reply::Reply;
 
 /// Carries out commands one after another, and answers one reply for each.
 ///
-/// The only error is want of memory for the replies; it comes before any command, and the keeper is as it was.
+/// The only error is out of memory for the replies; it comes before any command, and the keeper is as it was.
 pub fn run<K: Keeper>(
     alloc: Global,
     keeper: &mut K,

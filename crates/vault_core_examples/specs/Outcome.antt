@@ -53,7 +53,7 @@ abbrev pub replies_to : Vault → List Timed → List Reply
 replies_to v [] = []
 replies_to v (c ∷ cs) = (outcome v c.at c.who c.command).reply ∷ replies_to (outcome v c.at c.who c.command).vault cs
 
--- the reply reports want of memory or of a failing device
+-- the reply reports out of memory or of a failing device
 abbrev pub reports_fault : Reply → Bool
 reports_fault (Done a) = false
 reports_fault (Refused r) = is_fault r

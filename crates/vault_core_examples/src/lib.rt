@@ -17,7 +17,7 @@ pub fn every_command_is_answered()
     ensures run { (v : Vault) (cs : List Timed) → AllByRecursion (λ c. CanBeGiven c.command) cs → IsRun v cs (replies_to v cs) (vault_after v cs) }
 {}
 
-/// A command has one reply and leaves one vault, but for want of memory and a failing device.
+/// A command has one reply and leaves one vault, but where memory runs out and a failing device.
 pub fn answers_are_one()
     ensures { (v : Vault) (t : ℕ) (who : List ℕ) (c : Command) (r : Reply) (v' : Vault) → reports_fault r ≡ false → IsStep v t who c r v' → IsOutcome (outcome v t who c) r v' }
 {}

@@ -18,7 +18,7 @@ use Rattle.vault_core_model.specs.ListingOutcome.{list_versions, certificate}
 use Rattle.vault_core_model.specs.RunOutcome.{planned_run, AnswersRun}
 use Rattle.vault_core_model.specs.IntakeOutcome.{intake}
 
--- want of memory, or a failing device
+-- out of memory, or a failing device
 abbrev pub is_fault : Refusal → Bool
 is_fault Memory = true
 is_fault Device = true

@@ -23,7 +23,7 @@ use vault_core_model::reply::{Answer, Counts, Reply, Stop};
 /// Runs the lifecycle rules over a bucket: done after the whole plan, refused by a check, or stopped
 /// after the first changes of the plan.
 ///
-/// A mark that finds no id stops the run; so do want of memory and a failing device at any time, also
+/// A mark that finds no id stops the run; so do out of memory and a failing device at any time, also
 /// before a check would fail. What is made stands, and a run at the same moment makes the rest.
 pub fn run_rules<K: Keeper>(
     alloc: Global,

@@ -207,7 +207,7 @@ fn all_rows(
 }
 
 /// The records of what happened to an entry before a moment, or of all that did: its admission, its settings, its moves
-/// and its removal. The error is want of memory.
+/// and its removal. The error is out of memory.
 pub(crate) fn rows_of(
     alloc: Global,
     before: &Option<Moment>,

@@ -33,7 +33,7 @@ fn push_line(out: &mut String, label: &str, value: &str) -> Result<(), AllocErro
     out.push_str("\n")
 }
 
-/// The four lines of a seal. The error is want of memory.
+/// The four lines of a seal. The error is out of memory.
 pub fn seal_text(alloc: Global, seal: &Seal) -> Result<String, AllocError>
     ensures { IfOk result (λ text. string_bytes text ≡ spec.seal_text seal.now) }
 {

@@ -155,7 +155,7 @@ fn file_of(row: Row) -> FileName {
     file
 }
 
-/// The file that a record asks for, or why its cells ask for nothing. The error is want of memory.
+/// The file that a record asks for, or why its cells ask for nothing. The error is out of memory.
 pub(crate) fn file_asked<'a>(
     alloc: Global,
     cells: &'a ByteRecord,

@@ -15,7 +15,7 @@ use vault_files_intake::folder::Folder;
 /// One byte more than a version may have.
 const MOST_READ: u64 = MOST_CONTENT as u64 + 1;
 
-/// The path of a file of a folder. The error is want of memory.
+/// The path of a file of a folder. The error is out of memory.
 pub(crate) fn path_of(alloc: Global, folder: &str, name: &FileName) -> Result<PathBuf, AllocError>
     ensures { IfOk result (λ path. path_buf_bytes path ≡ path_join folder.now name.now) }
 {

@@ -127,7 +127,7 @@ fn read_error<R: Read + Drop>(alloc: Global, reader: R) -> FileFault {
     }
 }
 
-/// Why the file of that name couldn't be read. The error is want of memory.
+/// Why the file of that name couldn't be read. The error is out of memory.
 pub(crate) fn read_again<R: Files>(
     place: &Place<'_, R>,
     name: &FileName,

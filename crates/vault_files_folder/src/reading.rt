@@ -6,7 +6,7 @@ use std::alloc::Global;
 use std::io::{self, ErrorKind, Read};
 use vault_core_model::halt::Fault;
 
-/// What an error of a device says: want of memory, or that the device failed.
+/// What an error of a device says: out of memory, or that the device failed.
 pub(crate) fn fault_of(error: &io::Error) -> Fault
     ensures { (result ≡ Fault.Memory) ↔ (error_kind error.now ≡ ErrorKind.OutOfMemory) }
 {

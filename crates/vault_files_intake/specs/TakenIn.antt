@@ -50,7 +50,7 @@ Asks files bucket batch line cells (Ok c) = (folder : List ℕ → Option (List 
 Asks files bucket batch line cells (Err (halt.Refused r)) = (folder : List ℕ → Option (List ℕ)) × MayAnswer files folder × (command_of folder bucket batch line cells ≡ Err r)
 Asks files bucket batch line cells (Err (halt.Fault f)) = Unit {0}
 
--- want of memory or a failing device is no reply to a row; it ends the intake
+-- out of memory or a failing device is no reply to a row; it ends the intake
 abbrev pub is_fault_reply : Reply → Bool
 is_fault_reply (reply.Done answer) = false
 is_fault_reply (reply.Refused r) = is_fault r

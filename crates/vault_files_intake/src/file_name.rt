@@ -63,7 +63,7 @@ impl FileName {
     ghost use Rattle.std.specs.Prelude.{◌≡◌, IfOk, IsTrue};
     ghost use Rattle.vault_files_intake.specs.FileName as spec;
 
-    /// Answers the name that `text` is, if it is one. The error is want of memory.
+    /// Answers the name that `text` is, if it is one. The error is out of memory.
     pub fn read(alloc: Global, text: &str) -> Result<Option<FileName>, AllocError>
         ensures { IfOk result (λ read. read ≡ spec.file_name_of text.now) }
     {

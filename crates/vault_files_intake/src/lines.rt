@@ -80,7 +80,7 @@ fn push_stopped(out: &mut String, refusal: Refusal) -> Result<(), AllocError>
     out.push_str("\n")
 }
 
-/// The line that says what stopped an intake, as `stopped Device`. The error is want of memory.
+/// The line that says what stopped an intake, as `stopped Device`. The error is out of memory.
 pub fn stopped_line(alloc: Global, refusal: Refusal) -> Result<String, AllocError>
     ensures { IfOk result (λ text. string_bytes text ≡ spec.stopped_line refusal) }
 {
@@ -90,7 +90,7 @@ pub fn stopped_line(alloc: Global, refusal: Refusal) -> Result<String, AllocErro
 }
 
 /// The lines that an intake prints: for each row `LINE admitted ID`, `LINE again ID` or `LINE refused NAME`,
-/// and at last `stopped NAME` where something stopped it. The error is want of memory.
+/// and at last `stopped NAME` where something stopped it. The error is out of memory.
 pub fn intake_lines(alloc: Global, report: &IntakeReport) -> Result<String, AllocError>
     ensures { IfOk result (λ text. string_bytes text ≡ spec.lines report.now.rows.items report.now.stopped) }
 {

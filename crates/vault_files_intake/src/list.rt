@@ -13,7 +13,7 @@ use std::alloc::{AllocError, Global};
 pub const MOST_LIST: usize = 16_777_216;
 
 /// The records of a list: CSV (RFC 4180), after a byte order mark if there is one. Records may differ in
-/// length; blank lines are none. The error is want of memory.
+/// length; blank lines are none. The error is out of memory.
 pub fn records(alloc: Global, list: &[u8]) -> Result<Vec<ByteRecord>, AllocError>
     ensures { IfOk result (λ records. spec.AreRecordsOf list.now (map fields_of records.items)) }
 {

@@ -106,7 +106,7 @@ fn command<F: Folder>(
     Ok(intake(bucket, batch, line, row, content)?)
 }
 
-/// A reply that reports want of memory or a failing device is a fault.
+/// A reply that reports out of memory or a failing device is a fault.
 fn settled(reply: Reply) -> Result<Reply, Fault>
     ensures ok { IfOk result (λ r. (r ≡ reply) × (spec.is_fault_reply r ≡ false)) }
     ensures err { IfErr result (λ f. reply ≡ spec.fault_reply f) }

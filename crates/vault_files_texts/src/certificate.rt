@@ -212,7 +212,7 @@ fn sealed(alloc: Global, text: String) -> Result<String, AllocError>
 /// how many whole days it was held, and a seal, which is the SHA-256 digest of all bytes above its line.
 /// Of two tenures or more it states each: its department, and the whole days from its beginning to its end.
 ///
-/// A marker and a version that is held have no certificate; their text is empty. The error is want of memory.
+/// A marker and a version that is held have no certificate; their text is empty. The error is out of memory.
 #[tactic(auto, unfolding(crate::specs::Certificate::certificate_text))]
 pub fn certificate(alloc: Global, entry: &Entry, tenures: &[Tenure]) -> Result<String, AllocError>
     ensures { IfOk result (λ text. string_bytes text ≡ spec.certificate_text entry.now tenures.now) }

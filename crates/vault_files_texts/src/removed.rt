@@ -7,7 +7,7 @@ use vault_base::content::Digest;
 use vault_base::moment::Moment;
 use vault_core_model::records::{Author, Cause};
 
-/// The hex digits of a digest, in lower case; empty where there is none. The error is want of memory.
+/// The hex digits of a digest, in lower case; empty where there is none. The error is out of memory.
 pub fn digest_text(alloc: Global, digest: Option<&Digest>) -> Result<String, AllocError>
     ensures { IfOk result (λ text. string_bytes text ≡ spec.digest_text (option_map (λ d. d.now) digest.entry)) }
 {
@@ -17,7 +17,7 @@ pub fn digest_text(alloc: Global, digest: Option<&Digest>) -> Result<String, All
     hex::encode(alloc, digest.as_slice())
 }
 
-/// A caller's name, or `rule ID` for what a lifecycle run admitted. The error is want of memory.
+/// A caller's name, or `rule ID` for what a lifecycle run admitted. The error is out of memory.
 pub fn author_text(alloc: Global, author: &Author) -> Result<String, AllocError>
     ensures { IfOk result (λ text. string_bytes text ≡ spec.author_text author.now) }
 {

@@ -57,7 +57,7 @@ fn push_number(alloc: Global, out: &mut String, label: &str, n: u64) -> Result<(
 }
 
 /// The report of a department at a moment as text, a line for each of its parts: labels left in 12 places,
-/// numbers right in 20. The error is want of memory.
+/// numbers right in 20. The error is out of memory.
 #[tactic(auto, unfolding(crate::specs::ReportText::report_text))]
 pub fn report_text(alloc: Global, report: &Report) -> Result<String, AllocError>
     ensures { IfOk result (λ text. string_bytes text ≡ spec.report_text report.now) }

@@ -6,18 +6,18 @@ use Rattle.vault_base.specs.declared.refusal.Refusal.{Refusal}
 use Rattle.vault_base.specs.declared.refusal.Refusal.TheVariants.{MalformedBody}
 use Rattle.vault_core_model.specs.declared.command.Command.{Command}
 use Rattle.vault_values.specs.Fault.{◌>>=◌}
-use Rattle.vault_http_values.specs.Document.{json_of, or_malformed}
-use Rattle.vault_http_values.specs.Locks.{default_of, hold_of, retention_of}
-use Rattle.vault_http_values.specs.Rules.{rules_of}
-use Rattle.vault_http_values.specs.Shape.{has_members}
-use Rattle.vault_http_values.specs.declared.shape.Kind.{Kind}
-use Rattle.vault_http_values.specs.declared.shape.Kind.TheVariants.{Text, OptionalText, OptionalNumber, Rules}
-use Rattle.vault_http_values.proofs.LockLemmas.{reads-default, reads-hold, reads-retention}
-use Rattle.vault_http_values.proofs.ReadLemmas.{Reads, reads-then}
-use Rattle.vault_http_values.proofs.RuleLemmas.{reads-rules}
-use Rattle.vault_http_values.proofs.SpelledLemmas.{default-ok, hold-ok, retention-ok, rules-ok}
-use Rattle.vault_http_lines.proofs.CommandLemmas.{all-fit}
-use Rattle.vault_http_lines.proofs.GrammarLemmas.{Decided}
+use Rattle.vault_lines_json.specs.Document.{json_of, or_malformed}
+use Rattle.vault_lines_json.specs.Locks.{default_of, hold_of, retention_of}
+use Rattle.vault_lines_json.specs.Rules.{rules_of}
+use Rattle.vault_lines_json.specs.Shape.{has_members}
+use Rattle.vault_lines_json.specs.declared.shape.Kind.{Kind}
+use Rattle.vault_lines_json.specs.declared.shape.Kind.TheVariants.{Text, OptionalText, OptionalNumber, Rules}
+use Rattle.vault_lines_json.proofs.LockLemmas.{reads-default, reads-hold, reads-retention}
+use Rattle.vault_lines_json.proofs.ReadLemmas.{Reads, reads-then}
+use Rattle.vault_lines_json.proofs.RuleLemmas.{reads-rules}
+use Rattle.vault_lines_json.proofs.SpelledLemmas.{default-ok, hold-ok, retention-ok, rules-ok}
+use Rattle.vault_lines_read.proofs.CommandLemmas.{all-fit}
+use Rattle.vault_lines_read.proofs.GrammarLemmas.{Decided}
 use Rattle.vault_http_target.specs.declared.target.Object.{Object}
 use Rattle.vault_http_request.specs.Command.{command_of, if_formed, object_of, set_default, set_hold, set_retention, set_rules}
 use Rattle.vault_http_request.specs.declared.operation.Operation.{Operation}

@@ -3,4 +3,3 @@ pub mod TextLemmas
 pub mod Counted
 pub mod Serves
 pub mod JudgingLemmas
-pub mod StampedAt

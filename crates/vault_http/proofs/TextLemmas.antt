@@ -6,7 +6,7 @@ use Rattle.serde_json.specs.Written.{compact_text}
 use Rattle.vault_base.specs.declared.refusal.Refusal.{Refusal}
 use Rattle.vault_core_model.specs.declared.reply.Answer.{Answer}
 use Rattle.vault_core_model.specs.declared.reply.Reply.TheVariants.{Done, Refused}
-use Rattle.vault_http_replies.specs.ReplyLine.{reply_text, answer_value, refusal_value}
+use Rattle.vault_lines_reply.specs.ReplyLine.{reply_text, answer_value, refusal_value}
 use Rattle.vault_http.specs.Reply.{refusal_text, answer_text}
 
 pub refused_line : (r : Refusal) → reply_text (Refused r) ≡ codes "{\"error\":" ++ (refusal_text r ++ 125 ∷ 10 ∷ [])

@@ -7,11 +7,11 @@ use Rattle.vault_core_model.specs.declared.command.SetDefault.{SetDefault}
 use Rattle.vault_core_model.specs.declared.command.SetHold.{SetHold}
 use Rattle.vault_core_model.specs.declared.command.SetRetention.{SetRetention}
 use Rattle.vault_core_model.specs.declared.command.SetRules.{SetRules}
-use Rattle.vault_http_values.specs.Document.{json_of}
-use Rattle.vault_http_values.specs.Shape.{has_members}
-use Rattle.vault_http_values.specs.Spelling.{IsDefault, IsHold, IsRetention, IsRules}
-use Rattle.vault_http_values.specs.declared.shape.Kind.{Kind}
-use Rattle.vault_http_values.specs.declared.shape.Kind.TheVariants.{Text, OptionalText, OptionalNumber, Rules}
+use Rattle.vault_lines_json.specs.Document.{json_of}
+use Rattle.vault_lines_json.specs.Shape.{has_members}
+use Rattle.vault_lines_json.specs.Spelling.{IsDefault, IsHold, IsRetention, IsRules}
+use Rattle.vault_lines_json.specs.declared.shape.Kind.{Kind}
+use Rattle.vault_lines_json.specs.declared.shape.Kind.TheVariants.{Text, OptionalText, OptionalNumber, Rules}
 use Rattle.vault_http_request.specs.Command.{put}
 use Rattle.vault_http_request.specs.declared.operation.Operation.{Operation}
 use Rattle.vault_http_request.specs.declared.operation.Operation.TheVariants as operation

@@ -24,11 +24,6 @@ abbrev pub FromRead : ReadFault → ServeFault → Type 0
 FromRead reads.Read e = e ≡ faults.Read
 FromRead reads.Memory e = e ≡ faults.Memory
 
--- at most one step was made, at the reading
-abbrev pub AtMostOne : Option ℕ → Vault → Vault → Type 0
-AtMostOne moment old new =
-    (new ≡ old) ⊎ ((at : ℕ) × (who : List ℕ) × (c : Command) × (reply : Reply) × (moment ≡ Some at) × IsStep old at who c reply new)
-
 -- ---- what stands after a fault
 
 -- the vault after the step of a command, if there is one

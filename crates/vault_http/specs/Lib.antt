@@ -1,6 +1,5 @@
 pub mod Exchange
 pub mod Left
-pub mod Hearing
 pub mod Calls
 pub mod Steady
 pub mod Judging
@@ -8,8 +7,3 @@ pub mod Bodies
 pub mod Command
 pub mod Reply
 pub mod Answer
-pub use Rattle.vault_http_lines.specs.Grammar
-pub use Rattle.vault_http_lines.specs.ReadLine
-pub use Rattle.vault_http_replies.specs.ReplyLine
-pub use Rattle.vault_http_lines.specs.Stamped
-pub use Rattle.vault_http_lines.specs.declared.read_line.Line

@@ -11,7 +11,7 @@ use Rattle.vault_core_model.specs.declared.reply.Reply.TheVariants.{Done, Refuse
 use Rattle.vault_core_model.specs.declared.reply.Stop.{Stop}
 use Rattle.vault_core_model.specs.declared.reply.Stop.TheVariants as stop
 use Rattle.vault_core_model.specs.declared.reply.Version.{Version}
-use Rattle.vault_http_replies.specs.ReplyLine.{answer_value, refusal_value}
+use Rattle.vault_lines_reply.specs.ReplyLine.{answer_value, refusal_value}
 use Rattle.vault_http.specs.Answer.{Answers}
 use Rattle.vault_http.specs.declared.answer.head.Allow.{Allow}
 use Rattle.vault_http.specs.declared.answer.head.Allow.TheVariants as allow

@@ -4,14 +4,14 @@ ghost use Rattle.std.specs.Io.KnownBytes.{Appends};
 ghost use Rattle.vault_http.specs.Calls.{DoneBy, JudgedBy, JudgedLeftBy, JudgedLeavesBy};
 ghost use Rattle.vault_http.specs.Reply.{AnswersRefusal};
 ghost use Rattle.vault_http.specs.Exchange as spec;
-ghost use Rattle.vault_http.specs.Hearing.{HearsOnce};
+ghost use Rattle.vault_core.specs.Hearing.{HearsOnce};
 ghost use Rattle.vault_http.specs.Left as left;
 ghost use Rattle.vault_http.specs.declared.fault.ServeFault.TheVariants as faults;
 
 use crate::answer::head::Allow;
 use crate::answer::reply::{refusal_bytes, reply_bytes};
 use crate::fault::ServeFault;
-use crate::hearing::Hears;
+use vault_core::hearing::Hears;
 use crate::send::send;
 use std::alloc::Global;
 use std::io::Write;

@@ -34,7 +34,7 @@ fn body_of<R: Read>(
     }
 }
 
-/// The command of a body that is there. The error is want of memory.
+/// The command of a body that is there. The error is out of memory.
 fn command_with(
     alloc: Global,
     operation: Operation,

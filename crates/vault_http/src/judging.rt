@@ -17,7 +17,7 @@ use vault_base::moment::Moment;
 use vault_base::refusal::Refusal;
 use vault_http_request::host::{Hosts, is_for};
 use vault_http_request::operation::Resource;
-use vault_http_request::plan::{Asked, Plan, asked_of};
+use vault_http_request::plan::{Planned, Plan, asked_of};
 use vault_http_request::read::head::{Front, read_head};
 use vault_values::fault::LineFault;
 
@@ -59,7 +59,7 @@ fn spans_asked(
     buf: &[u8],
     headers: &[HeaderSpan],
     spans: RequestSpans,
-) -> Result<Asked, LineFault>
+) -> Result<Planned, LineFault>
     requires within { IsRequestWithin buf.now headers.now spans }
     requires room { length headers.now ≡ 64 }
     ensures value { Gives (λ x. x) result (spec.spans_asked hosts.now moment buf.now headers.now spans) }
@@ -72,12 +72,12 @@ fn spans_asked(
 }
 
 /// What a head comes to that asks for this.
-fn judgement_of(asked: Asked, shown: bool) -> Judgement
+fn judgement_of(asked: Planned, shown: bool) -> Judgement
     ensures { (moment : Option ℕ) → IsAt moment asked → ComesTo moment shown (Ok asked) result }
 {
     match asked {
-        Asked::Plan(plan) => Judgement::Planned(plan, shown),
-        Asked::NotAllowed(resource) => Judgement::Denied(
+        Planned::Plan(plan) => Judgement::Planned(plan, shown),
+        Planned::NotAllowed(resource) => Judgement::Denied(
             Refusal::MethodNotAllowed,
             Some(allow_of(resource)),
             shown,
@@ -85,7 +85,7 @@ fn judgement_of(asked: Asked, shown: bool) -> Judgement
     }
 }
 
-/// Judges a head, whose parts lie in the buffer. The error is want of memory.
+/// Judges a head, whose parts lie in the buffer. The error is out of memory.
 fn judge_head(
     alloc: Global,
     hosts: &Hosts,

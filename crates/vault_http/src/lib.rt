@@ -6,16 +6,11 @@ pub mod answer;
 pub mod carrying;
 pub mod command;
 pub mod fault;
-pub mod hearing;
 pub mod judging;
 pub mod laws;
 mod send;
 pub mod serve;
 
 pub use crate::fault::ServeFault;
-pub use crate::hearing::{Hears, Nobody};
 pub use crate::serve::{Occasion, serve_for, serve_one};
-pub use vault_http_causes::explain_line;
-pub use vault_http_lines::{read_line, stamped};
-pub use vault_http_replies::reply_line;
 pub use vault_http_request::host::Hosts;

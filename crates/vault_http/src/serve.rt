@@ -4,14 +4,14 @@ ghost use Rattle.std.specs.Io.KnownBytes.{Consumes};
 ghost use Rattle.vault_base.specs.Days.{moment_at};
 ghost use Rattle.vault_http.specs.Calls.{AnsweredBy, LeavesBy, PlanLeftBy, PlanServedBy, UnansweredBy};
 ghost use Rattle.vault_http.specs.Command.{IsWithinLength};
-ghost use Rattle.vault_http.specs.Hearing.{HearsOnce};
+ghost use Rattle.vault_core.specs.Hearing.{HearsOnce};
 ghost use Rattle.vault_http.specs.Left as left;
 ghost use Rattle.vault_http.specs.declared.fault.ServeFault.TheVariants as faults;
 
 use crate::carrying::{Denial, RequestContext, conclude, deny};
 use crate::command::command_after;
 use crate::fault::ServeFault;
-use crate::hearing::{Hears, Nobody};
+use vault_core::hearing::{Hears, Nobody};
 use crate::judging::{Judgement, judge_request};
 use crate::send::send_interim;
 use std::alloc::Global;

@@ -5,13 +5,13 @@ use Rattle.vault_base.specs.declared.refusal.Refusal.{Refusal}
 use Rattle.vault_base.specs.declared.refusal.Refusal.TheVariants.{MalformedBody}
 use Rattle.vault_core_model.specs.declared.command.Command.{Command}
 use Rattle.vault_core_model.specs.declared.command.Command.TheVariants as command
-use Rattle.vault_http_values.specs.Document.{document_of}
+use Rattle.vault_lines_json.specs.Document.{document_of}
 use Rattle.vault_values.specs.Fault.{◌>>=◌}
-use Rattle.vault_http_values.specs.Locks.{retention_of, hold_of, default_of}
-use Rattle.vault_http_values.specs.Rules.{rules_of}
-use Rattle.vault_http_values.specs.Shape.{has_members}
-use Rattle.vault_http_values.specs.declared.shape.Kind.{Kind}
-use Rattle.vault_http_values.specs.declared.shape.Kind.TheVariants.{Text, OptionalText, OptionalNumber, Rules}
+use Rattle.vault_lines_json.specs.Locks.{retention_of, hold_of, default_of}
+use Rattle.vault_lines_json.specs.Rules.{rules_of}
+use Rattle.vault_lines_json.specs.Shape.{has_members}
+use Rattle.vault_lines_json.specs.declared.shape.Kind.{Kind}
+use Rattle.vault_lines_json.specs.declared.shape.Kind.TheVariants.{Text, OptionalText, OptionalNumber, Rules}
 use Rattle.vault_http_target.specs.declared.target.Object.{Object}
 use Rattle.vault_http_request.specs.declared.operation.Operation.{Operation}
 use Rattle.vault_http_request.specs.declared.operation.Operation.TheVariants as operation

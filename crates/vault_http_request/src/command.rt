@@ -15,9 +15,9 @@ use vault_core_model::command::{
     Command, DeleteVersion, Put, SetDefault, SetHold, SetRetention, SetRules,
 };
 use vault_http_target::target::Object;
-use vault_http_values::document::document;
-use vault_http_values::shape::{Kind, has_members};
-use vault_http_values::{locks, rules};
+use vault_lines_json::document::document;
+use vault_lines_json::shape::{Kind, has_members};
+use vault_lines_json::{locks, rules};
 use vault_values::fault::LineFault;
 
 /// The JSON object of just these members that a body is.

@@ -34,7 +34,7 @@ impl Hosts {
         }
     }
 
-    /// One host more. The error is want of memory.
+    /// One host more. The error is out of memory.
     pub fn push(&mut self, alloc: Global, name: &str) -> Result<(), AllocError>
         ensures { OnOk result (self.new ≡ self.old ++ name.now ∷ []) }
     {

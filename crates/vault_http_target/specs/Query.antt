@@ -4,7 +4,7 @@ use Rattle.std.specs.List.{list_all}
 use Rattle.std.specs.Str.{bytes_eq}
 use Rattle.std.specs.Str.Lossy.{utf8_lossy}
 use Rattle.form_urlencoded.specs.Form.{decode, raw_pairs}
-use Rattle.vault_http_values.specs.Shape.{is_among}
+use Rattle.vault_lines_json.specs.Shape.{is_among}
 use Rattle.vault_http_target.specs.Fields.{Fields}
 use Rattle.vault_http_target.specs.declared.query.Pair.{Pair}
 

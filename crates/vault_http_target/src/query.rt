@@ -3,7 +3,7 @@ ghost use Rattle.std.specs.Prelude.{◌≡◌, IfOk, map};
 ghost use Rattle.std.specs.List.{list_any};
 ghost use Rattle.std.specs.Option.{option_copied};
 ghost use Rattle.std.specs.Str.{bytes_eq};
-ghost use Rattle.vault_http_values.specs.Shape.{is_among as among};
+ghost use Rattle.vault_lines_json.specs.Shape.{is_among as among};
 ghost use Rattle.vault_http_target.specs.Query as spec;
 
 use crate::text::Text;

@@ -22,7 +22,7 @@ fn has_route(alloc: Global, path: &str) -> Result<bool, LineFault>
 {
     match routes(alloc) {
         Ok(router) => Ok(router.at(path).is_ok()),
-        // The routes are well formed, and differ: only want of memory is left.
+        // The routes are well formed, and differ: only out of memory is left.
         Err(_) => Err(LineFault::Memory),
     }
 }

@@ -18,7 +18,7 @@ impl Model for Text {
 }
 
 impl Text {
-    /// A copy of a text. The error is want of memory.
+    /// A copy of a text. The error is out of memory.
     pub fn of(alloc: Global, text: &str) -> Result<Text, AllocError>
         ensures { IfOk result (λ made. made ≡ text.now) }
     {

@@ -42,7 +42,7 @@ pub enum Step {
 ///
 /// Each step names the first rule that makes its entry due. A run that stopped within the key may
 /// be given again: after some of these steps, made at that moment, the plan is the rest of them.
-/// The error is want of memory.
+/// The error is out of memory.
 pub fn plan_key(
     alloc: Global,
     rules: &RuleSet,

@@ -36,7 +36,7 @@ module _ (old new : State) (inside : IsTrue old.in_transaction) where
   never_misplaced e (inr (_, name, inl release, _)) = cc
   never_misplaced e (inr (_, name, inr back, _)) = cc
 
-  -- one that is refused is undone, over a store that works for want of memory alone
+  -- one that is refused is undone, over a store that works only where memory runs out
   abbrev Undone : Error → Type 0
   Undone e = IsRolledBack old new × (IsHealthy new → IsMemory e)
 

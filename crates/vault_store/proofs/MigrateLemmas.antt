@@ -10,7 +10,7 @@ use Rattle.vault_base.specs.declared.refusal.Table.{Table}
 use Rattle.vault_core_model.specs.Vault.{Vault}
 use Rattle.vault_audit.specs.Health.{IsHealthy}
 use Rattle.vault_audit.specs.Whole.{IsReported}
-use Rattle.vault_audit_model.specs.declared.schema.Edition.{Edition}
+use Rattle.vault_audit_model.specs.declared.schema.SchemaVersion.{SchemaVersion}
 use Rattle.vault_audit_model.specs.Spells.{AreSound, AreSoundAs}
 use Rattle.vault_store_apply.proofs.ApplyLemmas.{found_again}
 use Rattle.vault_store.specs.Migrated.{IsMigrated}
@@ -22,7 +22,7 @@ tables_from a b c same later was_open is_open =
     (it.0 ∙ same.0.now_is, it.1 ∙ same.0.committed_is)
 
 -- what stands in the copied tables is the vault that was copied
-pub migrated : (n : Edition) (from db : Database) (trees : Trees) → (v : Vault) × AreSoundAs n from v → ((v : Vault) → AreSoundAs n from v → AreSound db v × IsDatabase db) → trees ≡ db.trees → IsMigrated n from trees
+pub migrated : (n : SchemaVersion) (from db : Database) (trees : Trees) → (v : Vault) × AreSoundAs n from v → ((v : Vault) → AreSoundAs n from v → AreSound db v × IsDatabase db) → trees ≡ db.trees → IsMigrated n from trees
 migrated n from db trees (v, is) copied same =
     let it = copied v is in
     (v, is, found_again db v trees it.0.spells.schema it.0 it.1 same)
@@ -34,7 +34,7 @@ pub never_copied : (a b : State) (P : Trees → Type 0) → Survives a b (λ _. 
 never_copied a b P it = survives_weaker a b (λ _. ⊥) P (λ clean trees none. absurd none) it
 
 -- what a crash leaves of a copy that is taken, looked at, and committed
-pub copy_survives : (start taken looked end : State) (n : Edition) (from : Database) (Clean : Type 0) → Survives start taken (λ _. ⊥) → Survives taken looked (λ _. ⊥) → Survives looked end (λ trees. trees ≡ looked.now.trees)
+pub copy_survives : (start taken looked end : State) (n : SchemaVersion) (from : Database) (Clean : Type 0) → Survives start taken (λ _. ⊥) → Survives taken looked (λ _. ⊥) → Survives looked end (λ trees. trees ≡ looked.now.trees)
     → (HasCleanDisk looked → looked.now ≡ taken.now) → (Clean → (v : Vault) × AreSoundAs n from v) → (Clean → HasCleanDisk taken → (v : Vault) → AreSoundAs n from v → AreSound taken.now v × IsDatabase taken.now)
     → Survives start end (λ trees. Clean → IsMigrated n from trees)
 copy_survives start taken looked end n from Clean one two three same spelled copied =

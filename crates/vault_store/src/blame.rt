@@ -48,7 +48,7 @@ impl Blamed {
         self.doubted = false;
     }
 
-    /// Want of memory is reported as such; any other cause is the device's, and is counted. After either the
+    /// Out of memory is reported as such; any other cause is the device's, and is counted. After either the
     /// connection may be shut, so that it is open is doubted.
     pub(crate) fn blame(&mut self, error: Error) -> Fault
         ensures reported { result ≡ fault_of error }

@@ -1,4 +1,4 @@
-//! A vault in tables: the keeper over a `sqlite` connection, vaults of earlier editions copied, and the law of
+//! A vault in tables: the keeper over a `sqlite` connection, vaults of earlier schema versions copied, and the law of
 //! what is found after a crash.
 #![tactic(auto)]
 

@@ -14,7 +14,7 @@ use crate::laws::connection_is_at_rest;
 use sqlite::{Alter, Connection};
 use std::alloc::Global;
 use vault_audit::audit;
-use vault_audit_model::schema::{Edition, NEWEST};
+use vault_audit_model::schema::{SchemaVersion, NEWEST};
 use vault_base::refusal::Refusal;
 
 /// Ends the transaction that is open, if there is one.
@@ -29,29 +29,29 @@ pub(crate) fn end_transaction<S: Alter>(conn: &mut Connection<S>)
     let _ended = conn.execute("ROLLBACK", &[]);
 }
 
-/// Looks at the tables of a connection outside a transaction, which are to be of that edition. It is outside
+/// Looks at the tables of a connection outside a transaction, which are to be of that schema version. It is outside
 /// one after it, and no table is changed.
 ///
 /// The errors are those of `audit`.
 pub(crate) fn look_as<S: Alter>(
     alloc: Global,
     conn: &mut Connection<S>,
-    edition: Edition,
+    schema_version: SchemaVersion,
 ) -> Result<(), Refusal>
     requires { conn.old.in_transaction ≡ false }
-    ensures sound { HasCleanDisk (state S.Store conn.new) → OnOk result ((v : Vault) × AreSoundAs edition (state S.Store conn.new).now v) }
+    ensures sound { HasCleanDisk (state S.Store conn.new) → OnOk result ((v : Vault) × AreSoundAs schema_version (state S.Store conn.new).now v) }
     ensures same { HasCleanDisk (state S.Store conn.new) → OnOk result (IsUnchanged (state S.Store conn.old) (state S.Store conn.new)) }
     ensures rest { OnOk result (IsAtRest (state S.Store conn.new)) }
     ensures settled { OnOk result (conn.new.in_transaction ≡ false) }
     ensures reported { IfErr result IsReported }
     ensures healthy { IfErr result (λ r. IsHealthy (state S.Store conn.new) → r ≢ Refusal.Device) }
-    ensures damaged { IfErr result (λ r. HasCleanDisk (state S.Store conn.new) → (t : Table) → r ≡ Refusal.Damaged t → (v : Vault) → ¬ AreSoundAs edition (state S.Store conn.old).now v) }
+    ensures damaged { IfErr result (λ r. HasCleanDisk (state S.Store conn.new) → (t : Table) → r ≡ Refusal.Damaged t → (v : Vault) → ¬ AreSoundAs schema_version (state S.Store conn.old).now v) }
     ensures mode { OnErr result (HasCleanDisk (state S.Store conn.new) → conn.new.in_transaction ≡ false) }
     ensures tables { OnErr result (HasCleanDisk (state S.Store conn.new) → HasTablesOf (state S.Store conn.old) (state S.Store conn.new)) }
     ensures crash { Survives (state S.Store conn.old) (state S.Store conn.new) (λ _. ⊥) }
 {
     connection_is_at_rest(conn);
-    match audit(alloc, conn, edition) {
+    match audit(alloc, conn, schema_version) {
         Ok(()) => {}
         Err(refusal) => {
             // No clause of the audit says that it leaves none.
@@ -67,7 +67,7 @@ pub(crate) fn look_as<S: Alter>(
     Ok(())
 }
 
-/// The same of the newest edition.
+/// The same of the newest schema version.
 ///
 /// The errors are those of `audit`.
 pub(crate) fn look<S: Alter>(alloc: Global, conn: &mut Connection<S>) -> Result<(), Refusal>

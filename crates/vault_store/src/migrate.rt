@@ -1,4 +1,4 @@
-//! The vault of a file of an earlier edition, copied into an empty store.
+//! The vault of a file of an earlier schema version, copied into an empty store.
 ghost use Rattle.std.specs.Prelude.{◌≡◌, ◌≢◌, ◌↔◌, [], false, IsTrue, IfOk, IfErr, IsErrAnd, OnOk, OnErr};
 ghost use Rattle.sqlite.specs.Effect.{IsDatabase};
 ghost use Rattle.sqlite.specs.Held.{state};
@@ -25,7 +25,7 @@ use std::alloc::Global;
 use vault_audit::audit;
 use vault_audit_laws::connection::tables_obey_their_schema;
 use vault_audit_model::faults::refusal_of;
-use vault_audit_model::schema::{Edition, NEWEST};
+use vault_audit_model::schema::{SchemaVersion, NEWEST};
 use vault_base::refusal::Refusal;
 use vault_store_create::copy::begin::begin_copy;
 
@@ -40,28 +40,28 @@ fn settle<S: Alter>(conn: &mut Connection<S>)
     connection_is_at_rest(conn);
 }
 
-/// Copies the vault of a file of that edition into an empty store, inside a transaction that is left open.
+/// Copies the vault of a file of that schema version into an empty store, inside a transaction that is left open.
 /// Where it is refused, none is.
 ///
 /// The errors are those of `migrate`.
 fn take_copy<O: Alter, S: Alter>(
     alloc: Global,
     old: &mut Connection<O>,
-    edition: Edition,
+    schema_version: SchemaVersion,
     new: &mut Connection<S>,
 ) -> Result<(), Refusal>
     requires old_outside { old.old.in_transaction ≡ false }
     requires outside { new.old.in_transaction ≡ false }
-    ensures spelled { HasCleanDisk (state O.Store old.new) → OnOk result ((v : Vault) × AreSoundAs edition (state O.Store old.old).now v) }
+    ensures spelled { HasCleanDisk (state O.Store old.new) → OnOk result ((v : Vault) × AreSoundAs schema_version (state O.Store old.old).now v) }
     ensures copied { HasCleanDisk (state O.Store old.new) → HasCleanDisk (state S.Store new.new)
-        → OnOk result ((v : Vault) → AreSoundAs edition (state O.Store old.old).now v → AreSound (state S.Store new.new).now v × IsDatabase (state S.Store new.new).now) }
+        → OnOk result ((v : Vault) → AreSoundAs schema_version (state O.Store old.old).now v → AreSound (state S.Store new.new).now v × IsDatabase (state S.Store new.new).now) }
     ensures reported { IfErr result (λ r. r ≢ Refusal.NameTaken → IsReported r) }
-    ensures damaged { IfErr result (λ r. HasCleanDisk (state O.Store old.new) → (t : Table) → r ≡ Refusal.Damaged t → (v : Vault) → ¬ AreSoundAs edition (state O.Store old.old).now v) }
+    ensures damaged { IfErr result (λ r. HasCleanDisk (state O.Store old.new) → (t : Table) → r ≡ Refusal.Damaged t → (v : Vault) → ¬ AreSoundAs schema_version (state O.Store old.old).now v) }
     ensures free { OnOk result ((state S.Store new.old).now.schema ≡ no_schema) }
     ensures taken { IfErr result (λ r. r ≡ Refusal.NameTaken → (state S.Store new.old).now.schema ≢ no_schema) }
     ensures named { (state S.Store new.old).now.schema ≢ no_schema → IfErr result (λ r. IsHealthy (state O.Store old.new) → r ≢ Refusal.Device) }
-    ensures unsound { ((v : Vault) → ¬ AreSoundAs edition (state O.Store old.old).now v) → IfErr result (λ r. IsHealthy (state O.Store old.new) → r ≢ Refusal.Device) }
-    ensures refused { IfErr result (λ r. IsHealthy (state O.Store old.new) → IsHealthy (state S.Store new.new) → r ≡ Refusal.Device → RefusesItsRow edition (state O.Store old.old).now) }
+    ensures unsound { ((v : Vault) → ¬ AreSoundAs schema_version (state O.Store old.old).now v) → IfErr result (λ r. IsHealthy (state O.Store old.new) → r ≢ Refusal.Device) }
+    ensures refused { IfErr result (λ r. IsHealthy (state O.Store old.new) → IsHealthy (state S.Store new.new) → r ≡ Refusal.Device → RefusesItsRow schema_version (state O.Store old.old).now) }
     ensures inside { HasCleanDisk (state O.Store old.new) → HasCleanDisk (state S.Store new.new) → OnOk result (IsTrue new.new.in_transaction) }
     ensures outside { OnErr result (HasCleanDisk (state S.Store new.new) → new.new.in_transaction ≡ false) }
     ensures crash { Survives (state S.Store new.old) (state S.Store new.new) (λ _. ⊥) }
@@ -69,11 +69,11 @@ fn take_copy<O: Alter, S: Alter>(
     ensures old_tables { HasCleanDisk (state O.Store old.new) → HasTablesOf (state O.Store old.old) (state O.Store old.new) }
     ensures old_crash { Survives (state O.Store old.old) (state O.Store old.new) (λ _. ⊥) }
 {
-    match look_as(alloc, old, edition) {
+    match look_as(alloc, old, schema_version) {
         Ok(()) => {}
         Err(refusal) => return Err(refusal),
     }
-    match begin_copy(alloc, old, new, edition) {
+    match begin_copy(alloc, old, new, schema_version) {
         Ok(()) => Ok(()),
         Err(refusal) => {
             // No clause of the copying says that it leaves none.
@@ -153,40 +153,40 @@ fn commit<S: Alter>(conn: &mut Connection<S>) -> Result<(), Refusal>
     Ok(())
 }
 
-/// Copies the vault of a file of that edition into an empty store, by one transaction. Neither connection is
+/// Copies the vault of a file of that schema version into an empty store, by one transaction. Neither connection is
 /// inside one.
 ///
 /// The errors are those of `migrate`.
 fn copy_vault<O: Alter, S: Alter>(
     alloc: Global,
     old: &mut Connection<O>,
-    edition: Edition,
+    schema_version: SchemaVersion,
     new: &mut Connection<S>,
 ) -> Result<(), Refusal>
     requires old_outside { old.old.in_transaction ≡ false }
     requires outside { new.old.in_transaction ≡ false }
-    ensures spelled { HasCleanDisk (state O.Store old.new) → OnOk result ((v : Vault) × AreSoundAs edition (state O.Store old.old).now v) }
+    ensures spelled { HasCleanDisk (state O.Store old.new) → OnOk result ((v : Vault) × AreSoundAs schema_version (state O.Store old.old).now v) }
     ensures copied { HasCleanDisk (state O.Store old.new) → HasCleanDisk (state S.Store new.new)
-        → OnOk result ((v : Vault) → AreSoundAs edition (state O.Store old.old).now v → AreSound (state S.Store new.new).now v) }
+        → OnOk result ((v : Vault) → AreSoundAs schema_version (state O.Store old.old).now v → AreSound (state S.Store new.new).now v) }
     ensures sound { HasCleanDisk (state S.Store new.new) → OnOk result (IsSettled (state S.Store new.new)) }
     ensures settled { OnOk result (new.new.in_transaction ≡ false) }
     ensures alone { HasCleanDisk (state S.Store new.new) → OnOk result ((v : Vault) → AreSound (state S.Store new.new).now v → LeavesAlone (state S.Store new.new) v) }
     ensures reported { IfErr result (λ r. r ≢ Refusal.NameTaken → IsReported r) }
-    ensures damaged { IfErr result (λ r. HasCleanDisk (state O.Store old.new) → (t : Table) → r ≡ Refusal.Damaged t → (v : Vault) → ¬ AreSoundAs edition (state O.Store old.old).now v) }
+    ensures damaged { IfErr result (λ r. HasCleanDisk (state O.Store old.new) → (t : Table) → r ≡ Refusal.Damaged t → (v : Vault) → ¬ AreSoundAs schema_version (state O.Store old.old).now v) }
     ensures free { OnOk result ((state S.Store new.old).now.schema ≡ no_schema) }
     ensures taken { IfErr result (λ r. r ≡ Refusal.NameTaken → (state S.Store new.old).now.schema ≢ no_schema) }
     ensures named { (state S.Store new.old).now.schema ≢ no_schema → IfErr result (λ r. IsHealthy (state O.Store old.new) → r ≢ Refusal.Device) }
-    ensures unsound { ((v : Vault) → ¬ AreSoundAs edition (state O.Store old.old).now v) → IfErr result (λ r. IsHealthy (state O.Store old.new) → r ≢ Refusal.Device) }
-    ensures refused { IfErr result (λ r. IsHealthy (state O.Store old.new) → IsHealthy (state S.Store new.new) → r ≡ Refusal.Device → RefusesItsRow edition (state O.Store old.old).now) }
+    ensures unsound { ((v : Vault) → ¬ AreSoundAs schema_version (state O.Store old.old).now v) → IfErr result (λ r. IsHealthy (state O.Store old.new) → r ≢ Refusal.Device) }
+    ensures refused { IfErr result (λ r. IsHealthy (state O.Store old.new) → IsHealthy (state S.Store new.new) → r ≡ Refusal.Device → RefusesItsRow schema_version (state O.Store old.old).now) }
     ensures outside { OnErr result (HasCleanDisk (state S.Store new.new) → new.new.in_transaction ≡ false) }
     ensures tables { OnErr result (HasCleanDisk (state S.Store new.new) → HasTablesOf (state S.Store new.old) (state S.Store new.new)) }
-    ensures crash { Survives (state S.Store new.old) (state S.Store new.new) (λ trees. HasCleanDisk (state O.Store old.new) → IsMigrated edition (state O.Store old.old).now trees) }
+    ensures crash { Survives (state S.Store new.old) (state S.Store new.new) (λ trees. HasCleanDisk (state O.Store old.new) → IsMigrated schema_version (state O.Store old.old).now trees) }
     ensures old_outside { HasCleanDisk (state O.Store old.new) → old.new.in_transaction ≡ false }
     ensures old_tables { HasCleanDisk (state O.Store old.new) → HasTablesOf (state O.Store old.old) (state O.Store old.new) }
     ensures old_crash { Survives (state O.Store old.old) (state O.Store old.new) (λ _. ⊥) }
 {
     connection_is_at_rest(new);
-    match take_copy(alloc, old, edition, new) {
+    match take_copy(alloc, old, schema_version, new) {
         Ok(()) => {}
         Err(refusal) => {
             connection_is_at_rest(new);
@@ -210,7 +210,7 @@ fn copy_vault<O: Alter, S: Alter>(
 }
 
 impl<S: Alter> SqlKeeper<S> {
-    /// Copies the vault of a file of that edition into an empty store, by one transaction, and looks at
+    /// Copies the vault of a file of that schema version into an empty store, by one transaction, and looks at
     /// the copy before it is committed. No table of the file is changed.
     ///
     /// `Damaged` with the first table of the file that isn't sound. `NameTaken` where the empty store has a
@@ -220,13 +220,13 @@ impl<S: Alter> SqlKeeper<S> {
     pub fn migrate<O: Alter>(
         alloc: Global,
         old: &mut Connection<O>,
-        edition: Edition,
+        schema_version: SchemaVersion,
         mut new: Connection<S>,
     ) -> Result<SqlKeeper<S>, (Refusal, Connection<S>)>
         // The old tables spell a vault, and it is the keeper's,
-        ensures spelled { IfOk result (λ k. HasCleanDisk (state O.Store old.new) → (v : Vault) × AreSoundAs edition (state O.Store old.old).now v) }
+        ensures spelled { IfOk result (λ k. HasCleanDisk (state O.Store old.new) → (v : Vault) × AreSoundAs schema_version (state O.Store old.old).now v) }
         ensures vault { IfOk result (λ k. HasCleanDisk (state O.Store old.new) → HasCleanDisk (state S.Store k.conn)
-            → (v : Vault) → AreSoundAs edition (state O.Store old.old).now v → vault_of S.Store k ≡ v) }
+            → (v : Vault) → AreSoundAs schema_version (state O.Store old.old).now v → vault_of S.Store k ≡ v) }
         // as do the new tables.
         ensures sound { IfOk result (λ k. HasCleanDisk (state S.Store k.conn) → AreSound (state S.Store k.conn).now (vault_of S.Store k)) }
         // A crash leaves that vault after that, and nothing else.
@@ -234,25 +234,25 @@ impl<S: Alter> SqlKeeper<S> {
         ensures counted { IfOk result (λ k. k.blamed.faults ≡ 0) }
         ensures fresh { IfOk result (λ k. k.refused.items ≡ []) }
         ensures reported { IfErr result (λ e. e.0 ≢ Refusal.NameTaken → IsReported e.0) }
-        ensures damaged { IfErr result (λ e. HasCleanDisk (state O.Store old.new) → (t : Table) → e.0 ≡ Refusal.Damaged t → (v : Vault) → ¬ AreSoundAs edition (state O.Store old.old).now v) }
+        ensures damaged { IfErr result (λ e. HasCleanDisk (state O.Store old.new) → (t : Table) → e.0 ≡ Refusal.Damaged t → (v : Vault) → ¬ AreSoundAs schema_version (state O.Store old.old).now v) }
         ensures free { OnOk result ((state S.Store new).now.schema ≡ no_schema) }
         ensures taken { IfErr result (λ e. e.0 ≡ Refusal.NameTaken → (state S.Store new).now.schema ≢ no_schema) }
         // A store with anything in it is never reported as one that failed, while the old one works.
         ensures named { old.old.in_transaction ≡ false → new.in_transaction ≡ false → (state S.Store new).now.schema ≢ no_schema
             → IfErr result (λ e. IsHealthy (state O.Store old.new) → e.0 ≢ Refusal.Device) }
         // Nor is an old file whose tables state no vault.
-        ensures unsound { old.old.in_transaction ≡ false → new.in_transaction ≡ false → ((v : Vault) → ¬ AreSoundAs edition (state O.Store old.old).now v)
+        ensures unsound { old.old.in_transaction ≡ false → new.in_transaction ≡ false → ((v : Vault) → ¬ AreSoundAs schema_version (state O.Store old.old).now v)
             → IfErr result (λ e. IsHealthy (state O.Store old.new) → e.0 ≢ Refusal.Device) }
         // Nor are stores that work, unless the tables of the copy refuse a row of the old vault.
         ensures healthy { old.old.in_transaction ≡ false → new.in_transaction ≡ false
-            → IfErr result (λ e. IsHealthy (state O.Store old.new) → IsHealthy (state S.Store e.1) → e.0 ≡ Refusal.Device → RefusesItsRow edition (state O.Store old.old).now) }
+            → IfErr result (λ e. IsHealthy (state O.Store old.new) → IsHealthy (state S.Store e.1) → e.0 ≡ Refusal.Device → RefusesItsRow schema_version (state O.Store old.old).now) }
         // Inside a transaction it is refused, and that is left as it was; else none is open after it, and no table was changed.
         ensures inside { IsTrue new.in_transaction → IsErrAnd result (λ e. (e.0 ≡ Refusal.Device) × (e.1 ≡ new)) }
         ensures outside { new.in_transaction ≡ false → IfErr result (λ e. HasCleanDisk (state S.Store e.1) → e.1.in_transaction ≡ false) }
         ensures tables { new.in_transaction ≡ false → IfErr result (λ e. HasCleanDisk (state S.Store e.1) → HasTablesOf (state S.Store new) (state S.Store e.1)) }
         // A crash leaves what it could leave before, or the vault of the old tables, if these were read as they stand.
-        ensures crash { IfOk result (λ k. Survives (state S.Store new) (state S.Store k.conn) (λ trees. HasCleanDisk (state O.Store old.new) → IsMigrated edition (state O.Store old.old).now trees)) }
-        ensures harmless { IfErr result (λ e. Survives (state S.Store new) (state S.Store e.1) (λ trees. HasCleanDisk (state O.Store old.new) → IsMigrated edition (state O.Store old.old).now trees)) }
+        ensures crash { IfOk result (λ k. Survives (state S.Store new) (state S.Store k.conn) (λ trees. HasCleanDisk (state O.Store old.new) → IsMigrated schema_version (state O.Store old.old).now trees)) }
+        ensures harmless { IfErr result (λ e. Survives (state S.Store new) (state S.Store e.1) (λ trees. HasCleanDisk (state O.Store old.new) → IsMigrated schema_version (state O.Store old.old).now trees)) }
         // The same of the old connection, of which a crash leaves what it could leave before, and no more.
         ensures old_inside { IsTrue old.old.in_transaction → IsErrAnd result (λ e. (e.0 ≡ Refusal.Device) × (old.new ≡ old.old)) }
         ensures old_outside { old.old.in_transaction ≡ false → HasCleanDisk (state O.Store old.new) → old.new.in_transaction ≡ false }
@@ -262,7 +262,7 @@ impl<S: Alter> SqlKeeper<S> {
         if !old.is_autocommit() || !new.is_autocommit() {
             return Err((Refusal::Device, new));
         }
-        match copy_vault(alloc, old, edition, &mut new) {
+        match copy_vault(alloc, old, schema_version, &mut new) {
             Ok(()) => Ok(SqlKeeper::over(alloc, new)),
             Err(refusal) => Err((refusal, new)),
         }

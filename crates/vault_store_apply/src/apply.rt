@@ -57,7 +57,7 @@ fn make<S: Alter>(
 /// Makes a change at a moment, which becomes the last one; or changes nothing. What is known isn't asked.
 ///
 /// `TooBig` where a number is 2^63 or more, which no column takes, or where a count goes beyond its bits.
-/// Want of memory is `OutOfMemory`.
+/// Out of memory is `OutOfMemory`.
 pub fn apply_change<S: Alter>(
     conn: &mut Connection<S>,
     known: &Known,

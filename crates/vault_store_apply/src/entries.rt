@@ -1,8 +1,8 @@
 //! Changes of entries, and moves of buckets with all that they hold, each made in one transaction.
 
 pub mod admission;
-mod beside;
+mod removal_context;
 pub mod moves;
-mod place;
+mod context;
 pub mod removal;
 pub mod settings;

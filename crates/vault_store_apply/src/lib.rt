@@ -1,6 +1,6 @@
 //! Every change of the vault, made in one transaction, as a whole or not at all.
 //!
-//! An error is want of memory, reported as `ErrorCode::OutOfMemory`, `ErrorCode::TooBig` for a number that a
+//! An error is out of memory, reported as `ErrorCode::OutOfMemory`, `ErrorCode::TooBig` for a number that a
 //! column can't take, or a failure of the store.
 #![tactic(auto)]
 

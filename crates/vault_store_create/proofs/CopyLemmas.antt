@@ -13,7 +13,7 @@ use Rattle.sqlite.specs.State.{State, HasCleanDisk, IsUnchanged, Survives}
 use Rattle.vault_base.specs.declared.refusal.Table.{Table}
 use Rattle.vault_base.specs.declared.refusal.Table.TheVariants as table
 use Rattle.vault_core_model.specs.Vault.{Vault}
-use Rattle.vault_audit_model.specs.declared.schema.Edition.{Edition}
+use Rattle.vault_audit_model.specs.declared.schema.SchemaVersion.{SchemaVersion}
 use Rattle.vault_audit_model.specs.Order.{place_of}
 use Rattle.vault_audit_model.specs.Rows.{department_row, caller_row, bucket_row, rule_row, entry_row, content_row, setting_row, note_row, head_row, tenure_row}
 use Rattle.vault_audit_model.specs.Spells.{AreSoundAs, meta_of, department_in, bucket_of, heads_in}
@@ -158,7 +158,7 @@ module _ (v : Vault) (t : Table) (rows : List Row) (x y : Database) (was : HasFi
   table_more : HasFirstRows v (place_of t + 1) y
   table_more = record { schema = added.schema; rows = rows_more; listed = λ h. listed_more }
 
-pub copies_table : (n : Edition) (from x y : Database) (t : Table) (rows : List Row) → ((v : Vault) → AreSoundAs n from v → IsPermutation (rows_of v t) rows)
+pub copies_table : (n : SchemaVersion) (from x y : Database) (t : Table) (rows : List Row) → ((v : Vault) → AreSoundAs n from v → IsPermutation (rows_of v t) rows)
     → Goes (λ a row b. PutsRow t row a b) x rows y → HasCopied n from (place_of t) x → HasCopied n from (place_of t + 1) y
 copies_table n from x y t rows shown gone was v is =
     let before = was v is in
@@ -166,7 +166,7 @@ copies_table n from x y t rows shown gone was v is =
     table_more v t rows x y before stated (adds t rows x y (rows_stated v t rows stated) gone before.schema)
 
 -- one part of the copy after the other
-pub copies_on : (n : Edition) (from later : Database) (old mid new : State) (From : Database → Type 0) (b c : ℕ) → later ≡ from → Moves old mid From (HasCopied n from b) → Moves mid new (HasCopied n later b) (HasCopied n later c)
+pub copies_on : (n : SchemaVersion) (from later : Database) (old mid new : State) (From : Database → Type 0) (b c : ℕ) → later ≡ from → Moves old mid From (HasCopied n from b) → Moves mid new (HasCopied n later b) (HasCopied n later c)
     → Moves old new From (HasCopied n from c)
 copies_on n from later old mid new From b c same one two = record {
   was_open = one.was_open;
@@ -177,13 +177,13 @@ copies_on n from later old mid new From b c same one two = record {
 }
 
 -- a part of the copy that was made: the old tables are as they were, and more of the new ones have their rows
-pub record Made (n : Edition) (first old start new : State) (b c : ℕ) : Type 0 where
+pub record Made (n : SchemaVersion) (first old start new : State) (b c : ℕ) : Type 0 where
   pub read : HasCleanDisk old → HasCleanDisk first × (old.now ≡ first.now)
   pub written : HasCleanDisk new → HasCleanDisk start
   pub copied : HasCleanDisk old → HasCleanDisk new → IsTrue start.in_transaction → IsTrue start.is_open → Moves start new (HasCopied n first.now b) (HasCopied n first.now c)
 
 -- one after the other
-pub made_then : {n : Edition} {b c d : ℕ} {o0 o1 o2 t0 t1 t2 : State} → Made n o0 o1 t0 t1 b c → Made n o1 o2 t1 t2 c d → Made n o0 o2 t0 t2 b d
+pub made_then : {n : SchemaVersion} {b c d : ℕ} {o0 o1 o2 t0 t1 t2 : State} → Made n o0 o1 t0 t1 b c → Made n o1 o2 t1 t2 c d → Made n o0 o2 t0 t2 b d
 made_then {n} {b} {c} {d} {o0} {o1} {o2} {t0} {t1} {t2} one two = record {
   read = λ clean.
       let it = two.read clean in
@@ -195,7 +195,7 @@ made_then {n} {b} {c} {d} {o0} {o1} {o2} {t0} {t1} {t2} one two = record {
       copies_on n o0.now o1.now t0 t1 t2 (HasCopied n o0.now b) c d (one.read it.0).1 part (two.copied clean after part.inside part.is_open);
 }
 
-module _ (n : Edition) (b c : ℕ) {first old start new : State} where
+module _ (n : SchemaVersion) (b c : ℕ) {first old start new : State} where
   pub made : (HasCleanDisk old → IsUnchanged first old) → Survives first old (λ _. ⊥) → Survives start new (λ _. ⊥)
       → (HasCleanDisk old → HasCleanDisk new → IsTrue start.in_transaction → IsTrue start.is_open → Moves start new (HasCopied n first.now b) (HasCopied n first.now c)) → Made n first old start new b c
   made same read written copied = record {

@@ -7,7 +7,7 @@ use Rattle.sqlite.specs.Effect.{Database, IsDatabase}
 use Rattle.vault_base.specs.declared.refusal.Table.{Table}
 use Rattle.vault_base.specs.declared.refusal.Table.TheVariants as table
 use Rattle.vault_core_model.specs.Vault.{Vault}
-use Rattle.vault_audit_model.specs.declared.schema.Edition.{Edition}
+use Rattle.vault_audit_model.specs.declared.schema.SchemaVersion.{SchemaVersion}
 use Rattle.vault_audit_model.specs.Order.{place_of}
 use Rattle.vault_audit_model.specs.Spells.{AreSound, AreSoundAs}
 use Rattle.vault_store_create.specs.Create.{HasAll}
@@ -21,7 +21,7 @@ none_below : (n : ℕ) → nat_lt n 0 ≡ false
 none_below n = let low : 0 ≤ n = omega arith in grind (arith, nat_tests, low)
 
 -- tables without a row
-pub none_copied : (n : Edition) (from db : Database) → HasAll db → HasCopied n from 0 db
+pub none_copied : (n : SchemaVersion) (from db : Database) → HasAll db → HasCopied n from 0 db
 none_copied n from db made v is = record {
   schema = made.schema;
   rows = λ t.
@@ -45,7 +45,7 @@ all_first v table.Heads = refl
 all_first v table.Tenures = refl
 
 -- tables with all rows are sound for the same vault
-pub all_copied : (n : Edition) (from db : Database) → HasCopied n from 11 db → (v : Vault) → AreSoundAs n from v → AreSound db v × IsDatabase db
+pub all_copied : (n : SchemaVersion) (from db : Database) → HasCopied n from 11 db → (v : Vault) → AreSoundAs n from v → AreSound db v × IsDatabase db
 all_copied n from db copied v is =
     let it = copied v is in
     let same : AreSameRows (rows_of v) (rows_in db) = λ t. subst (λ rows. IsPermutation rows (rows_in db t)) (all_first v t) (it.rows t) in

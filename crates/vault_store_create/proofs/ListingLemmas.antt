@@ -1,4 +1,4 @@
--- What the statements of `Listings` show of the tables of an edition, and what they put in.
+-- What the statements of `Listings` show of the tables of a schema version, and what they put in.
 use Rattle.std.proofs.Common.{◌≡◌, ℕ, pos, negsuc, List, [], ◌∷◌, drop, None, false, codes, refl}
 use Rattle.sqlite_tied.specs.Compute.{everything}
 use Rattle.sqlite_value.specs.declared.value.Value.TheVariants.{Int}
@@ -12,9 +12,9 @@ use Rattle.sqlite.specs.Listing.{understood, reads_listing}
 use Rattle.sqlite.proofs.Callers.{IsPlain, command_of}
 use Rattle.vault_base.specs.declared.refusal.Table.{Table}
 use Rattle.vault_base.specs.declared.refusal.Table.TheVariants as table
-use Rattle.vault_audit_model.specs.declared.schema.Edition.{Edition}
-use Rattle.vault_audit_model.specs.declared.schema.Edition.TheVariants.{First, Second, Third}
-use Rattle.vault_audit_model.specs.Editions.{newest}
+use Rattle.vault_audit_model.specs.declared.schema.SchemaVersion.{SchemaVersion}
+use Rattle.vault_audit_model.specs.declared.schema.SchemaVersion.TheVariants.{First, Second, Third}
+use Rattle.vault_audit_model.specs.SchemaVersions.{newest}
 use Rattle.vault_audit_model.specs.Queries.{table_scan, Selects}
 use Rattle.vault_audit_model.specs.Tables.{schema_of, entries_tree, buckets_tree}
 use Rattle.vault_audit_schema.specs.Selects.{meta_terms, department_terms, rule_terms, table_as}
@@ -25,68 +25,68 @@ use Rattle.vault_store_create.specs.Listings.{listing_of, tenures_listing, first
 -- ---- queries
 
 -- what is shown of each row
-abbrev pub terms_of : Edition → Table → List Term
+abbrev pub terms_of : SchemaVersion → Table → List Term
 terms_of n table.Meta = col 1 0 ∷ lit (Int (pos 3)) ∷ drop 2 (meta_terms n)
 terms_of n table.Departments = department_terms n
 terms_of n table.Rules = rule_terms n
 terms_of n t = all_terms (table_as n t)
 
--- where an edition has no number of moves
-abbrev pub move_names : Edition → List (List ℕ)
+-- where a schema version has no number of moves
+abbrev pub move_names : SchemaVersion → List (List ℕ)
 move_names First = codes "0" ∷ []
 move_names Second = codes "0" ∷ []
 move_names Third = codes "moves" ∷ []
 
-abbrev pub names_of : Edition → Table → List (List ℕ)
+abbrev pub names_of : SchemaVersion → Table → List (List ℕ)
 names_of n table.Meta = codes "one" ∷ codes "3" ∷ codes "last" ∷ codes "next" ∷ move_names n
 names_of n t = all_names (table_as newest t)
 
-abbrev pub Reads : Edition → Table → Type 0
+abbrev pub Reads : SchemaVersion → Table → Type 0
 Reads n t = Selects (schema_of n) (listing_of n t) (table_scan (tree_of t) [] (terms_of n t))
 
-pub reads_meta : (n : Edition) → Reads n table.Meta
+pub reads_meta : (n : SchemaVersion) → Reads n table.Meta
 unfolding understood everything
 reads_meta First = record { names = names_of First table.Meta; is = refl; plain = (refl, refl); unlisted = refl }
 reads_meta Second = record { names = names_of Second table.Meta; is = refl; plain = (refl, refl); unlisted = refl }
 reads_meta Third = record { names = names_of Third table.Meta; is = refl; plain = (refl, refl); unlisted = refl }
 
-pub reads_departments : (n : Edition) → Reads n table.Departments
+pub reads_departments : (n : SchemaVersion) → Reads n table.Departments
 unfolding understood everything
 reads_departments First = record { names = names_of First table.Departments; is = refl; plain = (refl, refl); unlisted = refl }
 reads_departments Second = record { names = names_of Second table.Departments; is = refl; plain = (refl, refl); unlisted = refl }
 reads_departments Third = record { names = names_of Third table.Departments; is = refl; plain = (refl, refl); unlisted = refl }
 
-pub reads_callers : (n : Edition) → Reads n table.Callers
+pub reads_callers : (n : SchemaVersion) → Reads n table.Callers
 unfolding understood everything
 reads_callers n = record { names = names_of n table.Callers; is = refl; plain = (refl, refl); unlisted = refl }
 
-pub reads_buckets : (n : Edition) → Reads n table.Buckets
+pub reads_buckets : (n : SchemaVersion) → Reads n table.Buckets
 unfolding understood everything
 reads_buckets n = record { names = names_of n table.Buckets; is = refl; plain = (refl, refl); unlisted = refl }
 
-pub reads_rules : (n : Edition) → Reads n table.Rules
+pub reads_rules : (n : SchemaVersion) → Reads n table.Rules
 unfolding understood everything
 reads_rules First = record { names = names_of First table.Rules; is = refl; plain = (refl, refl); unlisted = refl }
 reads_rules Second = record { names = names_of Second table.Rules; is = refl; plain = (refl, refl); unlisted = refl }
 reads_rules Third = record { names = names_of Third table.Rules; is = refl; plain = (refl, refl); unlisted = refl }
 
-pub reads_entries : (n : Edition) → Reads n table.Entries
+pub reads_entries : (n : SchemaVersion) → Reads n table.Entries
 unfolding understood everything
 reads_entries n = record { names = names_of n table.Entries; is = refl; plain = (refl, refl); unlisted = refl }
 
-pub reads_contents : (n : Edition) → Reads n table.Contents
+pub reads_contents : (n : SchemaVersion) → Reads n table.Contents
 unfolding understood everything
 reads_contents n = record { names = names_of n table.Contents; is = refl; plain = (refl, refl); unlisted = refl }
 
-pub reads_settings : (n : Edition) → Reads n table.Settings
+pub reads_settings : (n : SchemaVersion) → Reads n table.Settings
 unfolding understood everything
 reads_settings n = record { names = names_of n table.Settings; is = refl; plain = (refl, refl); unlisted = refl }
 
-pub reads_intake : (n : Edition) → Reads n table.Intake
+pub reads_intake : (n : SchemaVersion) → Reads n table.Intake
 unfolding understood everything
 reads_intake n = record { names = names_of n table.Intake; is = refl; plain = (refl, refl); unlisted = refl }
 
-pub reads_heads : (n : Edition) → Reads n table.Heads
+pub reads_heads : (n : SchemaVersion) → Reads n table.Heads
 unfolding understood everything
 reads_heads n = record { names = names_of n table.Heads; is = refl; plain = (refl, refl); unlisted = refl }
 
@@ -94,7 +94,7 @@ pub reads_tenures : Reads Third table.Tenures
 unfolding understood everything
 reads_tenures = record { names = names_of Third table.Tenures; is = refl; plain = (refl, refl); unlisted = refl }
 
--- ---- tenures of an edition that has no table for them
+-- ---- tenures of a schema version that has no table for them
 
 -- each entry beside the bucket of its name, if it is no marker
 abbrev pub pairs : Query
@@ -110,26 +110,26 @@ pairs = record {
   offset = lit (Int (pos 0));
 }
 
-pub pairs_are : (n : Edition) → command_of (understood (schema_of n) first_tenures_listing) ≡ Select (record { lets = []; body = pairs }) (codes "id" ∷ codes "0" ∷ codes "dept" ∷ codes "admitted" ∷ [])
+pub pairs_are : (n : SchemaVersion) → command_of (understood (schema_of n) first_tenures_listing) ≡ Select (record { lets = []; body = pairs }) (codes "id" ∷ codes "0" ∷ codes "dept" ∷ codes "admitted" ∷ [])
 unfolding understood everything
 pairs_are n = refl
 
-pub pairs_unlisted : (n : Edition) → reads_listing (schema_of n) first_tenures_listing ≡ false
+pub pairs_unlisted : (n : SchemaVersion) → reads_listing (schema_of n) first_tenures_listing ≡ false
 unfolding understood everything
 pairs_unlisted n = refl
 
-pub pairs_plain : (n : Edition) → IsPlain (understood (schema_of n) first_tenures_listing)
+pub pairs_plain : (n : SchemaVersion) → IsPlain (understood (schema_of n) first_tenures_listing)
 unfolding understood everything
 pairs_plain n = (refl, refl)
 
-tenures_plain : (n : Edition) → IsPlain (understood (schema_of n) (tenures_listing n))
+tenures_plain : (n : SchemaVersion) → IsPlain (understood (schema_of n) (tenures_listing n))
 tenures_plain First = pairs_plain First
 tenures_plain Second = pairs_plain Second
 tenures_plain Third = reads_tenures.plain
 
 -- ---- no query writes
 
-pub reads_only : (n : Edition) (t : Table) → IsPlain (understood (schema_of n) (listing_of n t))
+pub reads_only : (n : SchemaVersion) (t : Table) → IsPlain (understood (schema_of n) (listing_of n t))
 reads_only n table.Meta = (reads_meta n).plain
 reads_only n table.Departments = (reads_departments n).plain
 reads_only n table.Callers = (reads_callers n).plain

@@ -1,4 +1,4 @@
--- A store that works refuses the statements that put the first rows for want of memory alone.
+-- A store that works refuses the statements that put the first rows only where memory runs out.
 use Rattle.std.proofs.Common.{◌≡◌, ◌≢◌, ◌==◌, ◌&&◌, ◌||◌, inl, inr, ℕ, pos, zero, suc, List, [], ◌∷◌, length, map, drop, codes, not, Bool, true, false, None, Some, Option, Ok, Err, Result, IfErr, IsSome, if◌then◌else◌, lit≤, length-append, refl, sym, ap, subst, ◌∙◌, arith}
 use Rattle.std.specs.List.{AllByRecursion, list_all}
 use Rattle.std.specs.Int.{bit_at}

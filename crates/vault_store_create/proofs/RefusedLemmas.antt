@@ -1,4 +1,4 @@
--- A store that works refuses a statement of a making for want of memory alone.
+-- A store that works refuses a statement of a making only where memory runs out.
 use Rattle.std.proofs.Common.{◌≡◌, ◌≢◌, ◌⊎◌, ◌≤◌, append-nil, inl, inr, ℕ, ◌+◌, List, [], length, Bool, true, false, None, Some, Option, Ok, Err, Result, IfErr, refl, sym, ap, subst, ◌∙◌}
 use Rattle.std.specs.List.{AllByRecursion}
 use Rattle.sqlite_trees.specs.Tree.{Trees}
@@ -32,7 +32,7 @@ pub use Rattle.vault_audit_walk.proofs.CauseLemmas.{by_store}
 
 -- ---- of the store
 
--- want of memory is reported as such
+-- out of memory is reported as such
 pub no_device : (e : Error) → IsMemory e → refusal_of e ≢ Device
 no_device e is stated = absurd (let memory : refusal_of e ≡ Memory = ap refusal_of is in cc (memory, stated))
 
@@ -127,7 +127,7 @@ module _ (text : List ℕ) (params : Row) (old new : State) (well : IsHealthy ne
   refused_as (Err e) (inl (h, left)) = executes e h
   refused_as (Err e) (inr ((c, it, escapes), is, same)) = absurd (let no = unmarked_of c it.is in let is_one = marks_if_escapes old c.command escapes in cc (no, is_one))
 
--- a statement without parameters that the database never refuses is refused for want of memory alone
+-- a statement without parameters that the database never refuses is refused only where memory runs out
 pub refused : (text : List ℕ) (old new : State) → IsHealthy new → (schema : Schema) → old.now.schema ≡ schema → (command : Command) → SaysWith schema text [] command
     → ((stop : Option Error) → ¬ Does old.step_limit (mode_of old) [] old.now (statement_of text (understood schema text)) None command (Err stop))
     → (r : Result ℕ Error) → ExecutesInside 0 text [] old new r → IfErr r IsMemory

@@ -1,4 +1,4 @@
--- A store that works refuses to put a row in for want of memory, or as its database refuses the row.
+-- A store that works refuses to put a row in where memory runs out, or as its database refuses the row.
 use Rattle.std.proofs.Common.{◌≡◌, ◌⊎◌, ℕ, [], map, None, Option, Err, Result, IfErr, refl, sym, subst, ◌∙◌, arith}
 use Rattle.sqlite_tied.specs.Compute.{everything}
 use Rattle.sqlite_value.specs.Order.{Row}
@@ -10,7 +10,7 @@ use Rattle.sqlite.specs.State.{State, ExecutesInside, mode_of}
 use Rattle.sqlite.specs.Values.{bound_value}
 use Rattle.vault_base.specs.declared.refusal.Table.{Table}
 use Rattle.vault_base.specs.declared.refusal.Table.TheVariants as table
-use Rattle.vault_audit_model.specs.Editions.{newest}
+use Rattle.vault_audit_model.specs.SchemaVersions.{newest}
 use Rattle.vault_audit_model.specs.Order.{place_of}
 use Rattle.vault_audit_model.specs.Tables.{vault_schema}
 use Rattle.vault_audit_schema.specs.Selects.{table_as}

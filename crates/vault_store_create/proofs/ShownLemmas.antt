@@ -1,4 +1,4 @@
--- A query shows of an edition's table the rows of the vault that its tables are sound for, as the newest edition has them.
+-- A query shows of a schema version's table the rows of the vault that its tables are sound for, as the newest schema version has them.
 use Rattle.std.proofs.Common.{List, [], ◌∷◌, map, subst}
 use Rattle.std.specs.Prelude.{IsPermutation}
 use Rattle.std.proofs.lemmas.List.Sorted.{IsPermutation-map, IsPermutation-trans}
@@ -9,8 +9,8 @@ use Rattle.sqlite.specs.State.{State, Shown}
 use Rattle.vault_base.specs.declared.refusal.Table.{Table}
 use Rattle.vault_base.specs.declared.refusal.Table.TheVariants as table
 use Rattle.vault_core_model.specs.Vault.{Vault}
-use Rattle.vault_audit_model.specs.declared.schema.Edition.{Edition}
-use Rattle.vault_audit_model.specs.declared.schema.Edition.TheVariants.{First, Second, Third}
+use Rattle.vault_audit_model.specs.declared.schema.SchemaVersion.{SchemaVersion}
+use Rattle.vault_audit_model.specs.declared.schema.SchemaVersion.TheVariants.{First, Second, Third}
 use Rattle.vault_audit_model.specs.Rows.{meta_row, meta_columns_as}
 use Rattle.vault_audit_model.specs.Spells.{AreSoundAs, meta_stated, meta_of}
 use Rattle.vault_audit_model.specs.Tables.{schema_of, meta_tree}
@@ -24,48 +24,48 @@ use Rattle.vault_store_create.specs.Listings.{listing_of, tenures_listing}
 use Rattle.vault_store_create.proofs.TenureLemmas.{first_tenures_shown}
 use Rattle.vault_store_create.proofs.ListingLemmas.{Reads, terms_of, reads_meta, reads_departments, reads_callers, reads_buckets, reads_rules, reads_entries, reads_contents, reads_settings, reads_intake, reads_heads, reads_tenures}
 
--- the row of meta with the number of the newest edition
+-- the row of meta with the number of the newest schema version
 abbrev as_newest : Row → Row
 as_newest m = column m 0 ∷ number 3 ∷ column m 2 ∷ column m 3 ∷ column m 4 ∷ []
 
-abbrev ShowsTable : Edition → Database → Vault → Table → Type 0
+abbrev ShowsTable : SchemaVersion → Database → Vault → Table → Type 0
 ShowsTable n db v t = IsPermutation (rows_of v t) (map (shows (terms_of n t) []) (db.trees (tree_of t)))
 
 module _ (db : Database) (v : Vault) where
-  abbrev MetaStated : Edition → Type 0
+  abbrev MetaStated : SchemaVersion → Type 0
   MetaStated n = IsPermutation (meta_row (meta_of v) ∷ []) (map (λ r. as_newest (meta_columns_as n r)) (db.trees meta_tree))
 
-  meta_numbered : (n : Edition) → AreSoundAs n db v → MetaStated n
+  meta_numbered : (n : SchemaVersion) → AreSoundAs n db v → MetaStated n
   meta_numbered n is =
       subst (IsPermutation (meta_row (meta_of v) ∷ [])) (map-map as_newest (meta_columns_as n) (db.trees meta_tree))
       (IsPermutation-map as_newest (meta_row (meta_stated n v) ∷ []) (map (meta_columns_as n) (db.trees meta_tree)) is.spells.meta)
 
-  meta_shown : (n : Edition) → AreSoundAs n db v → ShowsTable n db v table.Meta
+  meta_shown : (n : SchemaVersion) → AreSoundAs n db v → ShowsTable n db v table.Meta
   meta_shown First is = meta_numbered First is
   meta_shown Second is = meta_numbered Second is
   meta_shown Third is = meta_numbered Third is
 
-  departments_shown : (n : Edition) → AreSoundAs n db v → ShowsTable n db v table.Departments
+  departments_shown : (n : SchemaVersion) → AreSoundAs n db v → ShowsTable n db v table.Departments
   departments_shown First is = is.numbers
   departments_shown Second is = is.numbers
   departments_shown Third is = is.numbers
 
-  rules_shown : (n : Edition) → AreSoundAs n db v → ShowsTable n db v table.Rules
+  rules_shown : (n : SchemaVersion) → AreSoundAs n db v → ShowsTable n db v table.Rules
   rules_shown First is = is.spells.rules
   rules_shown Second is = is.spells.rules
   rules_shown Third is = is.spells.rules
 
-module _ (n : Edition) (old new : State) (v : Vault) (is : AreSoundAs n old.now v) where
+module _ (n : SchemaVersion) (old new : State) (v : Vault) (is : AreSoundAs n old.now v) where
   by_scan : (t : Table) → Reads n t → ShowsTable n old.now v t → (rows : List Row) → Shown (listing_of n t) [] old new rows → IsPermutation (rows_of v t) rows
   by_scan t it stated rows shown =
       IsPermutation-trans _ _ _ stated (scanned (schema_of n) (listing_of n t) (tree_of t) (terms_of n t) it old new is.spells.schema (uncovered old.now.trees (tree_of t)) rows shown)
 
-tenures_shown : (n : Edition) (old new : State) (v : Vault) → AreSoundAs n old.now v → (rows : List Row) → Shown (tenures_listing n) [] old new rows → IsPermutation (rows_of v table.Tenures) rows
+tenures_shown : (n : SchemaVersion) (old new : State) (v : Vault) → AreSoundAs n old.now v → (rows : List Row) → Shown (tenures_listing n) [] old new rows → IsPermutation (rows_of v table.Tenures) rows
 tenures_shown First old new v is = first_tenures_shown First old new v is is.spells.kept.unmoved
 tenures_shown Second old new v is = first_tenures_shown Second old new v is is.spells.kept.unmoved
 tenures_shown Third old new v is = by_scan Third old new v is table.Tenures reads_tenures is.spells.tenures
 
-pub shown_stated : (n : Edition) (t : Table) (old new : State) (v : Vault) → AreSoundAs n old.now v → (rows : List Row) → Shown (listing_of n t) [] old new rows → IsPermutation (rows_of v t) rows
+pub shown_stated : (n : SchemaVersion) (t : Table) (old new : State) (v : Vault) → AreSoundAs n old.now v → (rows : List Row) → Shown (listing_of n t) [] old new rows → IsPermutation (rows_of v t) rows
 shown_stated n table.Meta old new v is = by_scan n old new v is table.Meta (reads_meta n) (meta_shown old.now v n is)
 shown_stated n table.Departments old new v is = by_scan n old new v is table.Departments (reads_departments n) (departments_shown old.now v n is)
 shown_stated n table.Callers old new v is = by_scan n old new v is table.Callers (reads_callers n) is.spells.callers

@@ -18,8 +18,8 @@ use Rattle.vault_base.specs.declared.refusal.Table.TheVariants as table
 use Rattle.vault_base.specs.declared.refusal.Refusal.TheVariants.{Device}
 use Rattle.vault_core_model.specs.Vault.{Vault}
 use Rattle.vault_audit_model.specs.Faults.{refusal_of}
-use Rattle.vault_audit_model.specs.declared.schema.Edition.{Edition}
-use Rattle.vault_audit_model.specs.declared.schema.Edition.TheVariants.{First, Second, Third}
+use Rattle.vault_audit_model.specs.declared.schema.SchemaVersion.{SchemaVersion}
+use Rattle.vault_audit_model.specs.declared.schema.SchemaVersion.TheVariants.{First, Second, Third}
 use Rattle.vault_audit_model.specs.Order.{place_of}
 use Rattle.vault_audit_model.specs.Spells.{AreSoundAs}
 use Rattle.vault_audit_model.specs.Tables.{schema_of, vault_schema}
@@ -67,7 +67,7 @@ stopped t sql first asks x y before row now same begins has gone e put =
 
 -- ---- the queries of a copy
 
-pub asks_for : (n : Edition) (t : Table) → Asks (schema_of n) (listing_of n t)
+pub asks_for : (n : SchemaVersion) (t : Table) → Asks (schema_of n) (listing_of n t)
 unfolding understood everything
 asks_for First table.Meta = record { is = (omega (arith), refl, (refl, refl, refl, refl)); unlisted = refl }
 asks_for Second table.Meta = record { is = (omega (arith), refl, (refl, refl, refl, refl)); unlisted = refl }
@@ -89,10 +89,10 @@ asks_for First table.Tenures = record { is = (omega (arith), refl, (refl, refl, 
 asks_for Second table.Tenures = record { is = (omega (arith), refl, (refl, refl, refl, refl)); unlisted = refl }
 asks_for Third table.Tenures = record { is = (omega (arith), refl, (refl, refl, refl, refl)); unlisted = refl }
 
-abbrev IsQuery : Edition → Table → Type 0
+abbrev IsQuery : SchemaVersion → Table → Type 0
 IsQuery n t = (q : Query) × (names : List (List ℕ)) × (command_of (understood (schema_of n) (listing_of n t)) ≡ Select (record { lets = []; body = q }) names)
 
-query_of : (n : Edition) (t : Table) → IsQuery n t
+query_of : (n : SchemaVersion) (t : Table) → IsQuery n t
 query_of n table.Meta = (_, _, meant (schema_of n) (listing_of n table.Meta) (reads_meta n))
 query_of n table.Departments = (_, _, meant (schema_of n) (listing_of n table.Departments) (reads_departments n))
 query_of n table.Callers = (_, _, meant (schema_of n) (listing_of n table.Callers) (reads_callers n))
@@ -107,7 +107,7 @@ query_of First table.Tenures = (_, _, pairs_are First)
 query_of Second table.Tenures = (_, _, pairs_are Second)
 query_of Third table.Tenures = (_, _, meant (schema_of Third) (listing_of Third table.Tenures) reads_tenures)
 
-module _ (n : Edition) (t : Table) (from : State) (v : Vault) (is : AreSoundAs n from.now v) where
+module _ (n : SchemaVersion) (t : Table) (from : State) (v : Vault) (is : AreSoundAs n from.now v) where
   -- what begins an answer begins the rows of the vault
   goes_on : IsTrue from.is_open → (rows : List Row) → Begins (listing_of n t) [] from rows → (tail : List Row) × IsPermutation (rows_of v t) (rows ++ tail)
   goes_on is_open rows begins =

@@ -19,7 +19,7 @@ use Rattle.vault_core_model.specs.declared.records.Entry.{Entry}
 use Rattle.vault_core_model.specs.declared.records.History.{History}
 use Rattle.vault_core_model.specs.Order.{IsAscending, bucket_cmp}
 use Rattle.vault_core_model.specs.Vault.{Vault, bucket_in}
-use Rattle.vault_audit_model.specs.declared.schema.Edition.{Edition}
+use Rattle.vault_audit_model.specs.declared.schema.SchemaVersion.{SchemaVersion}
 use Rattle.vault_audit_model.specs.Rows.{bucket_row, entry_row, tenure_row, bucket_columns, entry_columns}
 use Rattle.vault_audit_model.specs.Spells.{AreSoundAs, bucket_of, tenure_at, tenures_in}
 use Rattle.vault_audit_model.specs.Tables.{schema_of, buckets_tree, entries_tree}
@@ -143,7 +143,7 @@ module _ (rows : List Row) (bs : List Bucket) (are : IsPermutation (map row_of_b
   all_shown (h ∷ hs) all = IsPermutation-append _ _ _ _ (tenures_shown h all.0) (all_shown hs all.1)
 
 -- the tenures of a vault in which no bucket was moved are those of its entries
-tenures_paired : (n : Edition) (db : Database) (v : Vault) → AreSoundAs n db v → IsUnmoved v
+tenures_paired : (n : SchemaVersion) (db : Database) (v : Vault) → AreSoundAs n db v → IsUnmoved v
     → IsPermutation (map tenure_row (flat_map tenures_in v.histories)) (flat_map (pairs_in (db.trees buckets_tree)) (db.trees entries_tree))
 tenures_paired n db v is unmoved =
     let buckets = map bucket_columns (db.trees buckets_tree) in
@@ -155,7 +155,7 @@ tenures_paired n db v is unmoved =
     subst (IsPermutation (map tenure_row (flat_map tenures_in v.histories))) (sym (all_by_columns (db.trees buckets_tree) (db.trees entries_tree))) (IsPermutation-trans _ _ _ stated both)
 
 -- and the query shows them
-pub first_tenures_shown : (n : Edition) (old new : State) (v : Vault) → AreSoundAs n old.now v → IsUnmoved v → (rows : List Row) → Shown first_tenures_listing [] old new rows
+pub first_tenures_shown : (n : SchemaVersion) (old new : State) (v : Vault) → AreSoundAs n old.now v → IsUnmoved v → (rows : List Row) → Shown first_tenures_listing [] old new rows
     → IsPermutation (map tenure_row (flat_map tenures_in v.histories)) rows
 first_tenures_shown n old new v is unmoved rows shown =
     let read = reads_as first_tenures_listing [] old new (schema_of n) is.spells.schema _ (pairs_are n) (pairs_plain n) (pairs_unlisted n) rows shown in

@@ -1,4 +1,4 @@
--- Tables into which the rows of a vault of an earlier edition are copied, one table after the other.
+-- Tables into which the rows of a vault of an earlier schema version are copied, one table after the other.
 use Rattle.std.specs.Prelude.{◌≡◌, ◌≤◌, ◌⊎◌, ◌++◌, ◌∷◌, ℕ, false, nat_lt, cond, List, [], Option, None, Result, Err, IsTrue, IfErr, IsPermutation}
 use Rattle.std.specs.List.{AllByRecursion}
 use Rattle.sqlite_schema.specs.declared.command.Command.TheVariants.{Insert}
@@ -11,8 +11,8 @@ use Rattle.sqlite.specs.Effect.{Database, IsDatabase}
 use Rattle.sqlite.specs.State.{State, Begins}
 use Rattle.vault_base.specs.declared.refusal.Table.{Table}
 use Rattle.vault_core_model.specs.Vault.{Vault}
-use Rattle.vault_audit_model.specs.declared.schema.Edition.{Edition}
-use Rattle.vault_audit_model.specs.Editions.{newest}
+use Rattle.vault_audit_model.specs.declared.schema.SchemaVersion.{SchemaVersion}
+use Rattle.vault_audit_model.specs.SchemaVersions.{newest}
 use Rattle.vault_audit_model.specs.Order.{place_of}
 use Rattle.vault_audit_model.specs.Tables.{vault_schema}
 use Rattle.vault_audit_model.specs.Spells.{AreSoundAs}
@@ -52,8 +52,8 @@ pub record HasFirstRows (v : Vault) (k : ℕ) (db : Database) : Type 0 where
   pub rows : AreSameRows (first_rows v k) (rows_in db)
   pub listed : 1 ≤ k → IsDatabase db
 
--- the same for each vault that the tables of that edition are sound for
-abbrev pub HasCopied : Edition → Database → ℕ → Database → Type 0
+-- the same for each vault that the tables of that schema version are sound for
+abbrev pub HasCopied : SchemaVersion → Database → ℕ → Database → Type 0
 HasCopied n from k db = (v : Vault) → AreSoundAs n from v → HasFirstRows v k db
 
 -- ---- rows that are refused
@@ -78,7 +78,7 @@ pub record RefusesARow (v : Vault) : Type 0 where
   pub has : AreSameRows (with_rows table (λ _. before) (first_rows v (place_of table))) (rows_in now)
   pub refused : Refuses table row now
 
--- a store that works refuses a part of the copy of this vault for want of memory, or for a row of it
+-- a store that works refuses a part of the copy of this vault where memory runs out, or for a row of it
 abbrev pub IsRefusedFor : Vault → Error → Type 0
 IsRefusedFor v e = IsMemory e ⊎ RefusesARow v
 
@@ -92,7 +92,7 @@ abbrev pub StopsAt : Table → List ℕ → State → Database → Type 0
 StopsAt t sql s first =
     (before : List Row) × (row : Row) × (now : Database) × IsTrue s.is_open × Begins sql [] s (before ++ row ∷ []) × Goes (λ x r y. PutsRow t r x y) first before now × Refuses t row now
 
--- Of tables of that edition that are sound for a vault: two stores that work, of which the second has copied the first n tables inside a transaction, refuse more of the copy for these causes alone.
-abbrev pub FailsForARow : {A : Type 0} → Edition → ℕ → State → State → State → State → Result A Error → Type 0
+-- Of tables of that schema version that are sound for a vault: two stores that work, of which the second has copied the first n tables inside a transaction, refuse more of the copy for these causes alone.
+abbrev pub FailsForARow : {A : Type 0} → SchemaVersion → ℕ → State → State → State → State → Result A Error → Type 0
 FailsForARow n k old later new next result =
     (v : Vault) → AreSoundAs n old.now v → HasCopied n old.now k new.now → IsHealthy later → IsHealthy next → IsTrue new.in_transaction → IsTrue new.is_open → IfErr result (IsRefusedFor v)

@@ -64,6 +64,6 @@ without_tables = Damaged table.Meta
 abbrev pub MovesInside : {S A E : Type 0} → Ghosts S → Held S → Held S → Result A E → (Database → Type 0) → (Database → Type 0) → Type 0
 MovesInside g old new result before after = HasCleanDisk (state g new) → IsTrue old.in_transaction → OnOk result (Moves (state g old) (state g new) before after)
 
--- inside a transaction, with tables of the one kind, a store that works refuses for want of memory alone
+-- inside a transaction, with tables of the one kind, a store that works refuses only where memory runs out
 abbrev pub FailsForMemory : {S A : Type 0} → Ghosts S → Held S → Held S → Result A Error → (Database → Type 0) → Type 0
 FailsForMemory g old new result before = IsHealthy (state g new) → IsTrue old.in_transaction → before (state g old).now → IfErr result IsMemory

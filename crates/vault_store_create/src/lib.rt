@@ -1,5 +1,5 @@
 //! A new vault in a store that is empty: its tables and their first rows, or the rows of the vault of an earlier
-//! edition, copied.
+//! schema version, copied.
 #![tactic(auto)]
 
 pub mod copy;

@@ -10,7 +10,7 @@ use sqlite::{Alter, Error, Transaction};
 use vault_audit_schema::{creation, index_creation};
 use vault_base::refusal::Table;
 
-/// Makes a table of the newest edition, all those before it being there.
+/// Makes a table of the newest schema version, all those before it being there.
 fn make_table<S: Alter>(tx: &mut Transaction<'_, S>, table: Table) -> Result<usize, Error>
     ensures same_reference { tx.new.conn.ghost_name ≡ tx.old.conn.ghost_name }
     ensures made { MovesInside S.Store tx.old.conn.now tx.new.conn.now result (HasFirst (place_of table)) (HasFirst (place_of table + 1)) }

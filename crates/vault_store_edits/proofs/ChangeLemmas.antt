@@ -14,7 +14,7 @@ use Rattle.vault_store_model.specs.Rows.{Rows, AreSameRows, rows_in}
 use Rattle.vault_store_model.specs.Edits.{with_changed, without, IgnoresOrder, Edits}
 use Rattle.vault_store_model.specs.Scans.{passes}
 use Rattle.vault_store_model.proofs.EditLemmas.{with_changed_ignores, without_ignores}
-use Rattle.vault_store_edits.specs.Apart.{IsApart}
+use Rattle.vault_store_edits.specs.UniqueRowids.{HaveUniqueRowids}
 use Rattle.vault_store_edits.specs.Inside.{IsEdit, IsEditOfSound}
 use Rattle.vault_store_edits.specs.Trees.{tree_of}
 use Rattle.vault_store_edits.proofs.QueryLemmas.{survives_more}
@@ -40,7 +40,7 @@ sound_after text params mid new (Ok count) does (h, _, _) = does count h
 
 module _ {S : Type 0} (g : Ghosts S) (old mid new : Held S) (t : Table) (tests : List Term) (params : Row) (text : List ℕ) (r : Result ℕ Error)
     -- the look
-    (apart : HasCleanDisk (state g mid) → (state g old).now.schema ≡ vault_schema → IsUnchanged (state g old) (state g mid) × IsApart (passes tests params) ((state g old).now.trees (tree_of t)))
+    (unique : HasCleanDisk (state g mid) → (state g old).now.schema ≡ vault_schema → IsUnchanged (state g old) (state g mid) × HaveUniqueRowids (passes tests params) ((state g old).now.trees (tree_of t)))
     (kept : HasCleanDisk (state g mid) → IsTrue old.in_transaction → KeepsCommit (state g old) (state g mid))
     (inside : HasCleanDisk (state g mid) → IsTrue old.in_transaction → IsTrue mid.in_transaction)
     (first : Survives (state g old) (state g mid) (λ _. ⊥))
@@ -61,17 +61,17 @@ module _ {S : Type 0} (g : Ghosts S) (old mid new : Held S) (t : Table) (tests :
 
   -- what it does to the tables after the look, it does to those before it
   leaves : (edit : Rows → Rows) → HasCleanDisk (state g new) → (state g old).now.schema ≡ vault_schema
-      → (IsApart (passes tests params) ((state g mid).now.trees (tree_of t)) → (state g mid).now.schema ≡ vault_schema → Leaves (state g mid) (state g new) edit) → Leaves (state g old) (state g new) edit
+      → (HaveUniqueRowids (passes tests params) ((state g mid).now.trees (tree_of t)) → (state g mid).now.schema ≡ vault_schema → Leaves (state g mid) (state g new) edit) → Leaves (state g old) (state g new) edit
   leaves edit clean has does =
-      let look = apart (early clean) has in
+      let look = unique (early clean) has in
       let same : (state g mid).now ≡ (state g old).now = look.0.0.now_is in
-      let it = does (subst (λ (db : Database). IsApart (passes tests params) (db.trees (tree_of t))) (sym same) look.1) (subst (λ (db : Database). db.schema ≡ vault_schema) (sym same) has) in
+      let it = does (subst (λ (db : Database). HaveUniqueRowids (passes tests params) (db.trees (tree_of t))) (sym same) look.1) (subst (λ (db : Database). db.schema ≡ vault_schema) (sym same) has) in
       record { schema = it.schema; rows = subst (λ db. AreSameRows (edit (rows_in db)) (rows_in (state g new).now)) same it.rows; sound = it.sound }
 
-  pub deletes_apart : (test : Row → Bool)
-      → ((count : ℕ) → IsApart (passes tests params) ((state g mid).now.trees (tree_of t)) → (state g mid).now.schema ≡ vault_schema → Executes text params (state g mid) (state g new) (Ok count) → Leaves (state g mid) (state g new) (without t test))
+  pub deletes_by_rowid : (test : Row → Bool)
+      → ((count : ℕ) → HaveUniqueRowids (passes tests params) ((state g mid).now.trees (tree_of t)) → (state g mid).now.schema ≡ vault_schema → Executes text params (state g mid) (state g new) (Ok count) → Leaves (state g mid) (state g new) (without t test))
       → IsEdit g old new r (without t test)
-  deletes_apart test does =
+  deletes_by_rowid test does =
       let left = λ (clean : HasCleanDisk (state g new)) (has : (state g old).now.schema ≡ vault_schema) (count : ℕ) (h : Executes text params (state g mid) (state g new) (Ok count)).
       leaves (without t test) clean has (λ alone known. does count alone known h) in
       record {
@@ -81,12 +81,12 @@ module _ {S : Type 0} (g : Ghosts S) (old mid new : Held S) (t : Table) (tests :
         survives = survives;
       }
 
-  pub updates_apart : (test : Row → Bool) (change : Row → Row)
-      → ((count : ℕ) → IsApart (passes tests params) ((state g mid).now.trees (tree_of t)) → IsDatabase (state g mid).now → (state g mid).now.schema ≡ vault_schema → Executes text params (state g mid) (state g new) (Ok count) → Leaves (state g mid) (state g new) (with_changed t test change))
+  pub updates_by_rowid : (test : Row → Bool) (change : Row → Row)
+      → ((count : ℕ) → HaveUniqueRowids (passes tests params) ((state g mid).now.trees (tree_of t)) → IsDatabase (state g mid).now → (state g mid).now.schema ≡ vault_schema → Executes text params (state g mid) (state g new) (Ok count) → Leaves (state g mid) (state g new) (with_changed t test change))
       → IsEditOfSound g old new r (with_changed t test change)
-  updates_apart test change does =
+  updates_by_rowid test change does =
       let left = λ (clean : HasCleanDisk (state g new)) (live : IsDatabase (state g old).now) (has : (state g old).now.schema ≡ vault_schema) (count : ℕ) (h : Executes text params (state g mid) (state g new) (Ok count)).
-      leaves (with_changed t test change) clean has (λ alone known. does count alone (subst IsDatabase (sym (apart (early clean) has).0.0.now_is) live) known h) in
+      leaves (with_changed t test change) clean has (λ alone known. does count alone (subst IsDatabase (sym (unique (early clean) has).0.0.now_is) live) known h) in
       record {
         edits = λ clean was live. edits_after text params (state g old) (state g mid) (state g new) (with_changed t test change) r (with_changed_ignores t test change) (kept (early clean) was) (λ count has h. left clean live has count h) (ran clean was);
         sound = λ clean was live has. sound_after text params (state g mid) (state g new) r (λ count h. (left clean live has count h).sound) (ran clean was);

@@ -18,7 +18,7 @@ use Rattle.vault_audit_model.specs.Tables.{vault_schema, entries, contents, head
 use Rattle.vault_audit_model.specs.Values.{number}
 use Rattle.vault_store_model.specs.Copies.{with_tenures, is_held_version, moved_row}
 use Rattle.vault_store_model.specs.Edits.{with_changed, without}
-use Rattle.vault_store_edits.specs.Apart.{IsApart}
+use Rattle.vault_store_edits.specs.UniqueRowids.{HaveUniqueRowids}
 use Rattle.vault_store_edits.specs.Trees.{columns_of}
 use Rattle.vault_store_model.specs.Scans.{passes}
 use Rattle.vault_store_model.specs.Tests.{is_text, is_number, is_numbered, is_of_key, removed_row, with_head_columns}
@@ -44,7 +44,7 @@ keyed bucket key rest r = ap₂ ◌&&◌ (text_test bucket (column r 1)) (and_tr
 abbrev pub removal_params : ℕ → Removal → Row
 removal_params id r = number id ∷ removal_at (Some r) ∷ removal_cause (Some r) ∷ removal_by (Some r) ∷ []
 
-pub removes_entry : (id : ℕ) (r : Removal) (old new : State) (count : ℕ) → IsApart (passes by_id (removal_params id r)) (old.now.trees entries_tree) → IsDatabase old.now → old.now.schema ≡ vault_schema
+pub removes_entry : (id : ℕ) (r : Removal) (old new : State) (count : ℕ) → HaveUniqueRowids (passes by_id (removal_params id r)) (old.now.trees entries_tree) → IsDatabase old.now → old.now.schema ≡ vault_schema
     → Executes removed_text (removal_params id r) old new (Ok count) → Leaves old new (with_changed table.Entries (is_numbered id) (removed_row r))
 removes_entry id r =
     updates table.Entries 5 entries removed_text (removal_params id r) by_id (is_numbered id) refl (λ row whole. identified id (removal_at (Some r) ∷ removal_cause (Some r) ∷ removal_by (Some r) ∷ []) row whole)
@@ -64,7 +64,7 @@ removes_entry id r =
 
 -- ---- contents
 
-pub drops_content : (id : ℕ) (old new : State) (count : ℕ) → IsApart (passes by_id (number id ∷ [])) (old.now.trees contents_tree) → old.now.schema ≡ vault_schema → Executes no_content_text (number id ∷ []) old new (Ok count)
+pub drops_content : (id : ℕ) (old new : State) (count : ℕ) → HaveUniqueRowids (passes by_id (number id ∷ [])) (old.now.trees contents_tree) → old.now.schema ≡ vault_schema → Executes no_content_text (number id ∷ []) old new (Ok count)
     → Leaves old new (without table.Contents (is_numbered id))
 drops_content id = deletes table.Contents 6 contents no_content_text (number id ∷ []) by_id (is_numbered id) refl (λ row whole. identified id [] row whole) no_content_is (λ limit mode text db out h. h)
 
@@ -90,7 +90,7 @@ puts_tenures bucket n dept moment =
 abbrev pub head_params : HeadRow → Row
 head_params h = head_row h
 
-pub sets_head : (h : HeadRow) (old new : State) (count : ℕ) → IsApart (passes by_key (head_params h)) (old.now.trees heads_tree) → IsDatabase old.now → old.now.schema ≡ vault_schema → Executes newer_text (head_params h) old new (Ok count)
+pub sets_head : (h : HeadRow) (old new : State) (count : ℕ) → HaveUniqueRowids (passes by_key (head_params h)) (old.now.trees heads_tree) → IsDatabase old.now → old.now.schema ≡ vault_schema → Executes newer_text (head_params h) old new (Ok count)
     → Leaves old new (with_changed table.Heads (is_of_key h.bucket h.key) (with_head_columns h.head))
 sets_head h =
     updates table.Heads 9 heads newer_text (head_params h) by_key (is_of_key h.bucket h.key) refl (λ r whole. keyed h.bucket h.key (number h.head.newest ∷ number h.head.count ∷ []) r)
@@ -100,7 +100,7 @@ sets_head h =
     let key : cast kind.Text (column r 2) ≡ column r 2 = column_taken heads r refl typed 1 _ refl in
     rw (bucket, key, cast_number h.head.newest, cast_number h.head.count) refl)
 
-pub drops_head : (bucket key : List ℕ) (old new : State) (count : ℕ) → IsApart (passes by_key (Text bucket ∷ Text key ∷ [])) (old.now.trees heads_tree) → old.now.schema ≡ vault_schema
+pub drops_head : (bucket key : List ℕ) (old new : State) (count : ℕ) → HaveUniqueRowids (passes by_key (Text bucket ∷ Text key ∷ [])) (old.now.trees heads_tree) → old.now.schema ≡ vault_schema
     → Executes no_head_text (Text bucket ∷ Text key ∷ []) old new (Ok count) → Leaves old new (without table.Heads (is_of_key bucket key))
 drops_head bucket key =
     deletes table.Heads 9 heads no_head_text (Text bucket ∷ Text key ∷ []) by_key (is_of_key bucket key) refl (λ r whole. keyed bucket key [] r) no_head_is (λ limit mode text db out h. h)

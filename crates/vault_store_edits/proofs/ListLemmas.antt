@@ -17,7 +17,7 @@ use Rattle.sqlite_rules.specs.Calls.{ids_of}
 use Rattle.sqlite_rules.specs.Edit.{id_in, put_all, without_all, is_taken, are_fresh}
 use Rattle.sqlite_rules.proofs.ListLemmas.{has_contained, contains_had, has_filtered, has_kept, some_from, some_has}
 use Rattle.sqlite_rules.proofs.ProbeLemmas.{has_mapped, mapped_has}
-use Rattle.vault_store_edits.specs.Apart.{IsApart}
+use Rattle.vault_store_edits.specs.UniqueRowids.{HaveUniqueRowids}
 
 -- a row with a rowid of its own
 pub put_permutes : (new : Row) (rows : List Row) → is_taken rows new ≡ false → IsPermutation (new ∷ rows) (put_row new rows)
@@ -75,11 +75,11 @@ pub own_rowid : (id : ℤ) (r : Row) → rowid r ≡ Int id → has_rowid id r �
 own_rowid id r is = rw is (int_tied id)
 
 -- The rows that are found are taken out, and no others, where each has a number of its own.
-module _ (p : Row → Bool) (xs : List Row) (apart : IsApart p xs) (rows : List Row) (shown : Row → Row) (first : (r : Row) → rowid (shown r) ≡ rowid r)
+module _ (p : Row → Bool) (xs : List Row) (unique : HaveUniqueRowids p xs) (rows : List Row) (shown : Row → Row) (first : (r : Row) → rowid (shown r) ≡ rowid r)
     (found : IsPermutation (map shown (filter p xs)) rows) where
   numbers_of : (r : Row) → Has xs r → p r ≡ true → has_one_of (ids_of rows) r ≡ true
   numbers_of r here passed =
-      let own = apart r here passed in
+      let own = unique r here passed in
       let row : Has rows (shown r) = has_permuted _ rows (shown r) found (mapped_has shown (filter p xs) r (has_kept p xs r here passed)) in
       let listed : Has (ids_of rows) (id_in (rowid (shown r))) = mapped_has (λ x. id_in (rowid x)) rows (shown r) row in
       let id : id_in (rowid (shown r)) ≡ own.0 = ap id_in (first r ∙ own.1) in
@@ -92,7 +92,7 @@ module _ (p : Row → Bool) (xs : List Row) (apart : IsApart p xs) (rows : List 
       let back = has_permuted rows _ row.0 (IsPermutation-sym _ rows found) row.1 in
       let s = has_mapped shown (filter p xs) row.0 back in
       let kept = has_filtered p xs s.0 s.1 in
-      let own = apart s.0 kept.0 kept.1 in
+      let own = unique s.0 kept.0 kept.1 in
       let id : it.0 ≡ own.0 = row.2 ∙ ap (λ x. id_in (rowid x)) s.2 ∙ ap id_in (first s.0 ∙ own.1) in
       let same : r ≡ s.0 = own.2 r here (subst (λ n. has_rowid n r ≡ true) id it.2) in
       rw same kept.1

@@ -14,7 +14,7 @@ use Rattle.vault_audit_model.specs.Tables.{vault_schema, meta, departments, call
 use Rattle.vault_audit_model.specs.Values.{number}
 use Rattle.vault_store_model.specs.Edits.{with_changed, without}
 use Rattle.sqlite_tied.proofs.RuleLemmas.{and_true}
-use Rattle.vault_store_edits.specs.Apart.{IsApart}
+use Rattle.vault_store_edits.specs.UniqueRowids.{HaveUniqueRowids}
 use Rattle.vault_store_model.specs.Scans.{passes}
 use Rattle.vault_store_model.specs.Tests.{is_text, is_named, every, with_last, with_last_and_next, with_last_and_moves, with_sums, closed_row, with_default_columns, with_owner}
 use Rattle.vault_audit_model.proofs.ValueLemmas.{cast_int}
@@ -31,7 +31,7 @@ named name rest r = and_true _ ∙ text_test name (column r 1)
 -- ---- meta
 
 module _ (last : ℕ) where
-  pub sets_last : (old new : State) (count : ℕ) → IsApart (passes [] (number last ∷ [])) (old.now.trees meta_tree) → IsDatabase old.now → old.now.schema ≡ vault_schema
+  pub sets_last : (old new : State) (count : ℕ) → HaveUniqueRowids (passes [] (number last ∷ [])) (old.now.trees meta_tree) → IsDatabase old.now → old.now.schema ≡ vault_schema
       → Executes last_text (number last ∷ []) old new (Ok count) → Leaves old new (with_changed table.Meta every (with_last last))
   sets_last =
       updates table.Meta 0 meta last_text (number last ∷ []) [] every refl (λ r whole. refl) last_project (with_last last) last_is (λ limit mode text db out h. h) (λ db k. k.0)
@@ -42,7 +42,7 @@ module _ (last : ℕ) where
       let moves : cast kind.Integer (column r 5) ≡ column r 5 = column_taken meta r refl typed 4 _ refl in
       rw (one, schema, next, moves, cast_number last) refl)
 
-  pub sets_next : (next : ℕ) (old new : State) (count : ℕ) → IsApart (passes [] (number last ∷ number next ∷ [])) (old.now.trees meta_tree) → IsDatabase old.now → old.now.schema ≡ vault_schema
+  pub sets_next : (next : ℕ) (old new : State) (count : ℕ) → HaveUniqueRowids (passes [] (number last ∷ number next ∷ [])) (old.now.trees meta_tree) → IsDatabase old.now → old.now.schema ≡ vault_schema
       → Executes next_text (number last ∷ number next ∷ []) old new (Ok count) → Leaves old new (with_changed table.Meta every (with_last_and_next last next))
   sets_next next =
       updates table.Meta 0 meta next_text (number last ∷ number next ∷ []) [] every refl (λ r whole. refl) next_project (with_last_and_next last next) next_is (λ limit mode text db out h. h) (λ db k. k.0)
@@ -52,7 +52,7 @@ module _ (last : ℕ) where
       let moves : cast kind.Integer (column r 5) ≡ column r 5 = column_taken meta r refl typed 4 _ refl in
       rw (one, schema, moves, cast_number last, cast_number next) refl)
 
-  pub sets_moves : (moves : ℕ) (old new : State) (count : ℕ) → IsApart (passes [] (number last ∷ number moves ∷ [])) (old.now.trees meta_tree) → IsDatabase old.now → old.now.schema ≡ vault_schema
+  pub sets_moves : (moves : ℕ) (old new : State) (count : ℕ) → HaveUniqueRowids (passes [] (number last ∷ number moves ∷ [])) (old.now.trees meta_tree) → IsDatabase old.now → old.now.schema ≡ vault_schema
       → Executes moves_text (number last ∷ number moves ∷ []) old new (Ok count) → Leaves old new (with_changed table.Meta every (with_last_and_moves last moves))
   sets_moves moves =
       updates table.Meta 0 meta moves_text (number last ∷ number moves ∷ []) [] every refl (λ r whole. refl) moves_project (with_last_and_moves last moves) moves_is (λ limit mode text db out h. h) (λ db k. k.0)
@@ -67,7 +67,7 @@ module _ (last : ℕ) where
 abbrev pub sums_params : List ℕ → Sums → Row
 sums_params name sums = Text name ∷ number sums.admitted ∷ number sums.held ∷ number sums.removed ∷ number sums.weighted ∷ number sums.closed ∷ number sums.received ∷ number sums.handed ∷ []
 
-pub sets_sums : (name : List ℕ) (sums : Sums) (old new : State) (count : ℕ) → IsApart (passes by_name (sums_params name sums)) (old.now.trees departments_tree) → IsDatabase old.now → old.now.schema ≡ vault_schema
+pub sets_sums : (name : List ℕ) (sums : Sums) (old new : State) (count : ℕ) → HaveUniqueRowids (passes by_name (sums_params name sums)) (old.now.trees departments_tree) → IsDatabase old.now → old.now.schema ≡ vault_schema
     → Executes sums_text (sums_params name sums) old new (Ok count) → Leaves old new (with_changed table.Departments (is_named name) (with_sums sums))
 sets_sums name sums =
     updates table.Departments 1 departments sums_text (sums_params name sums) by_name (is_named name) refl (λ r whole. named name (number sums.admitted ∷ number sums.held ∷ number sums.removed ∷ number sums.weighted ∷ number sums.closed ∷ number sums.received ∷ number sums.handed ∷ []) r) sums_project (with_sums sums) sums_is (λ limit mode text db out h. h) (λ db k. k.1.0)
@@ -77,7 +77,7 @@ sets_sums name sums =
 
 -- ---- callers
 
-pub closes_caller : (name : List ℕ) (old new : State) (count : ℕ) → IsApart (passes by_name (Text name ∷ [])) (old.now.trees callers_tree) → IsDatabase old.now → old.now.schema ≡ vault_schema
+pub closes_caller : (name : List ℕ) (old new : State) (count : ℕ) → HaveUniqueRowids (passes by_name (Text name ∷ [])) (old.now.trees callers_tree) → IsDatabase old.now → old.now.schema ≡ vault_schema
     → Executes closed_text (Text name ∷ []) old new (Ok count) → Leaves old new (with_changed table.Callers (is_named name) closed_row)
 closes_caller name =
     updates table.Callers 2 callers closed_text (Text name ∷ []) by_name (is_named name) refl (λ r whole. named name [] r) closed_project closed_row closed_is (λ limit mode text db out h. h) (λ db k. k.1.1.0)
@@ -92,7 +92,7 @@ closes_caller name =
 abbrev pub default_params : List ℕ → Option Default → Row
 default_params name default = Text name ∷ default_mode default ∷ default_days default ∷ default_years default ∷ []
 
-pub sets_default : (name : List ℕ) (default : Option Default) (old new : State) (count : ℕ) → IsApart (passes by_name (default_params name default)) (old.now.trees buckets_tree) → IsDatabase old.now → old.now.schema ≡ vault_schema
+pub sets_default : (name : List ℕ) (default : Option Default) (old new : State) (count : ℕ) → HaveUniqueRowids (passes by_name (default_params name default)) (old.now.trees buckets_tree) → IsDatabase old.now → old.now.schema ≡ vault_schema
     → Executes default_text (default_params name default) old new (Ok count) → Leaves old new (with_changed table.Buckets (is_named name) (with_default_columns default))
 sets_default name default =
     updates table.Buckets 3 buckets default_text (default_params name default) by_name (is_named name) refl (λ r whole. named name (default_mode default ∷ default_days default ∷ default_years default ∷ []) r) default_project (with_default_columns default) default_is (λ limit mode text db out h. h) (λ db k. k.1.1.1.0)
@@ -107,7 +107,7 @@ sets_default name default =
 abbrev pub owner_params : List ℕ → List ℕ → Row
 owner_params name dept = Text name ∷ Text dept ∷ []
 
-pub sets_owner : (name dept : List ℕ) (old new : State) (count : ℕ) → IsApart (passes by_name (owner_params name dept)) (old.now.trees buckets_tree) → IsDatabase old.now → old.now.schema ≡ vault_schema
+pub sets_owner : (name dept : List ℕ) (old new : State) (count : ℕ) → HaveUniqueRowids (passes by_name (owner_params name dept)) (old.now.trees buckets_tree) → IsDatabase old.now → old.now.schema ≡ vault_schema
     → Executes owner_text (owner_params name dept) old new (Ok count) → Leaves old new (with_changed table.Buckets (is_named name) (with_owner dept))
 sets_owner name dept =
     updates table.Buckets 3 buckets owner_text (owner_params name dept) by_name (is_named name) refl (λ r whole. named name (Text dept ∷ []) r) owner_project (with_owner dept) owner_is (λ limit mode text db out h. h) (λ db k. k.1.1.1.0)
@@ -120,6 +120,6 @@ sets_owner name dept =
 
 -- ---- rules
 
-pub drops_rules : (bucket : List ℕ) (old new : State) (count : ℕ) → IsApart (passes by_name (Text bucket ∷ [])) (old.now.trees rules_tree) → old.now.schema ≡ vault_schema → Executes no_rules_text (Text bucket ∷ []) old new (Ok count)
+pub drops_rules : (bucket : List ℕ) (old new : State) (count : ℕ) → HaveUniqueRowids (passes by_name (Text bucket ∷ [])) (old.now.trees rules_tree) → old.now.schema ≡ vault_schema → Executes no_rules_text (Text bucket ∷ []) old new (Ok count)
     → Leaves old new (without table.Rules (is_named bucket))
 drops_rules bucket = deletes table.Rules 4 rules no_rules_text (Text bucket ∷ []) by_name (is_named bucket) refl (λ r whole. named bucket [] r) no_rules_is (λ limit mode text db out h. h)

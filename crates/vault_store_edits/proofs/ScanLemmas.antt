@@ -18,7 +18,7 @@ use Rattle.sqlite.proofs.Callers.{IsPlain, reads_as}
 use Rattle.vault_audit_model.specs.Queries.{Selects}
 use Rattle.vault_audit_model.specs.Tables.{vault_schema}
 use Rattle.vault_audit_model.proofs.CommandLemmas.{meant}
-use Rattle.vault_store_edits.specs.Apart.{IsApart}
+use Rattle.vault_store_edits.specs.UniqueRowids.{HaveUniqueRowids}
 use Rattle.vault_store_model.specs.Scans.{passes, shows}
 use Rattle.vault_store_model.proofs.ScanLemmas.{scanned}
 use Rattle.vault_store_edits.specs.Queries.{by_rowid, rowids_where, Stands}
@@ -63,8 +63,8 @@ one_alone (z ∷ w ∷ zs) x y one h k = absurd (omega (arith, one))
 passes_alone : (id : ℤ) (r : Row) → has_rowid id r ≡ true → passes by_rowid (Int id ∷ []) r ≡ true
 passes_alone id r same = rw (rowid_found id (rowid r) same) refl
 
-pub stand_apart : (test : Row → Bool) (rows shown : List Row) → IsPermutation (map (λ r. rowid r ∷ []) (filter test rows)) shown → AllByRecursion (Stands rows) shown → IsApart test rows
-stand_apart test rows shown same all r here passed =
+pub rowids_are_unique : (test : Row → Bool) (rows shown : List Row) → IsPermutation (map (λ r. rowid r ∷ []) (filter test rows)) shown → AllByRecursion (Stands rows) shown → HaveUniqueRowids test rows
+rowids_are_unique test rows shown same all r here passed =
     let listed : Has shown (rowid r ∷ []) = has_permuted _ shown _ same (mapped_has (λ s. rowid s ∷ []) (filter test rows) r (has_kept test rows r here passed)) in
     let it = all_has (Stands rows) shown (rowid r ∷ []) all listed in
     let own : has_rowid it.0 r ≡ true = own_rowid it.0 r it.1 in

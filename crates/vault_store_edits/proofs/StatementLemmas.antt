@@ -43,7 +43,7 @@ use Rattle.vault_audit_model.specs.Queries.{table_scan}
 use Rattle.vault_store_model.specs.Rows.{Rows, AreSameRows, rows_in}
 use Rattle.vault_store_model.specs.Edits.{with_row, with_changed, changed_if, without, IgnoresOrder, Edits}
 use Rattle.vault_store_edits.specs.Trees.{tree_of, columns_of}
-use Rattle.vault_store_edits.specs.Apart.{IsApart}
+use Rattle.vault_store_edits.specs.UniqueRowids.{HaveUniqueRowids}
 pub use Rattle.vault_store_edits.specs.Inserts.{task_on}
 use Rattle.vault_store_model.specs.Scans.{passes, shows}
 use Rattle.vault_store_edits.proofs.TableLemmas.{edited_alone}
@@ -170,15 +170,15 @@ module _ (limit : Option ℕ) (mode : Mode) (base : Columns) (params : Row) (at 
 module _ (t : Table) (at : ℕ) (base : Columns) (sql : List ℕ) (params : Row) (tests : List Term) (test : Row → Bool) (here : base.tree ≡ tree_of t)
     (agrees : (r : Row) → (passes tests params r ≡ true → (id : ℤ) × (rowid r ≡ Int id)) → passes tests params r ≡ test (columns_of t r)) where
   -- the rows whose rowid is whole where they pass pass both tests or none
-  both_tests : (rows : List Row) → IsApart (passes tests params) rows → (r : Row) → Has rows r → passes tests params r ≡ test (columns_of t r)
-  both_tests rows apart r there = agrees r (λ passed. let it = apart r there passed in (it.0, it.1))
+  both_tests : (rows : List Row) → HaveUniqueRowids (passes tests params) rows → (r : Row) → Has rows r → passes tests params r ≡ test (columns_of t r)
+  both_tests rows unique r there = agrees r (λ passed. let it = unique r there passed in (it.0, it.1))
 
   module _ (is : Means sql (Delete at (record { lets = []; body = table_scan base.tree tests (col 1 0 ∷ []) })))
       (places : (limit : Option ℕ) (mode : Mode) (text : List ℕ) (db : Trees) (out : Result (Tally × Database) (Option Error))
       → Does limit mode params (record { schema = vault_schema; trees = db }) text None (Delete at (record { lets = []; body = table_scan base.tree tests (col 1 0 ∷ []) })) out
       → OnRows (task_on limit mode base params) mode None (Delete at (record { lets = []; body = table_scan base.tree tests (col 1 0 ∷ []) })) db out) where
-    pub deletes : (old new : State) (count : ℕ) → IsApart (passes tests params) (old.now.trees (tree_of t)) → old.now.schema ≡ vault_schema → Executes sql params old new (Ok count) → Leaves old new (without t test)
-    deletes old new count apart_here has h =
+    pub deletes : (old new : State) (count : ℕ) → HaveUniqueRowids (passes tests params) (old.now.trees (tree_of t)) → old.now.schema ≡ vault_schema → Executes sql params old new (Ok count) → Leaves old new (without t test)
+    deletes old new count unique_here has h =
         let q : Program = record { lets = []; body = table_scan base.tree tests (col 1 0 ∷ []) } in
         let command = Delete at q in
         let w = runs_as sql params old new vault_schema has command is.command is.plain count h in
@@ -186,13 +186,13 @@ module _ (t : Table) (at : ℕ) (base : Columns) (sql : List ℕ) (params : Row)
         let did = subst (λ s. Does old.step_limit (mode_of old) params (record old.now { schema = s }) text None command (Ok (w.tally, new.now))) has w.changed in
         let it = deleted old.step_limit (mode_of old) base params at q old.now.trees w.tally new.now (idle base.tree) (places old.step_limit (mode_of old) text old.now.trees _ did) in
         let rows = old.now.trees base.tree in
-        let apart = subst (λ n. IsApart (passes tests params) (old.now.trees n)) (sym here) apart_here in
+        let unique = subst (λ n. HaveUniqueRowids (passes tests params) (old.now.trees n)) (sym here) unique_here in
         let found = scanned (record { schema = vault_schema; trees = old.now.trees }) base.tree tests (col 1 0 ∷ []) params it.0 it.1 in
         let left : new.now.trees base.tree ≡ filter (λ r. not (passes tests params r)) rows =
-        it.2.rows ∙ left_is (passes tests params) rows apart it.0 (shows (col 1 0 ∷ []) params) (λ r. refl) found in
+        it.2.rows ∙ left_is (passes tests params) rows unique it.0 (shows (col 1 0 ∷ []) params) (λ r. refl) found in
         let kept : filter (λ row. not (test row)) (map (columns_of t) rows) ≡ map (columns_of t) (new.now.trees base.tree) =
         filter-map (λ row. not (test row)) (columns_of t) rows
-        ∙ ap (map (columns_of t)) (filter_alike (λ r. not (test (columns_of t r))) (λ r. not (passes tests params r)) rows (λ r there. ap not (sym (both_tests rows apart r there))) ∙ sym left) in
+        ∙ ap (map (columns_of t)) (filter_alike (λ r. not (test (columns_of t r))) (λ r. not (passes tests params r)) rows (λ r there. ap not (sym (both_tests rows unique r there))) ∙ sym left) in
         record {
           schema = it.3;
           rows = edited_alone t (filter (λ row. not (test row))) old.now new.now (subst (λ n. AllByRecursion (λ c. c.tree ≢ n → new.now.trees c.tree ≡ old.now.trees c.tree) vault_schema.tables) here it.2.tables)
@@ -206,9 +206,9 @@ module _ (t : Table) (at : ℕ) (base : Columns) (sql : List ℕ) (params : Row)
       → OnRows (task_on limit mode base params) mode None (Update at (record { lets = []; body = table_scan base.tree tests (col 1 0 ∷ project) })) db out)
       (lists : (db : Trees) → Keeps Datatype vault_schema db → AllByRecursion (λ row. row_passes Datatype vault_schema db base row ≡ true) (db base.tree))
       (reads_so : (r : Row) → are_typed base.key 0 base.columns (drop 1 r) ≡ true → (id : ℤ) → rowid r ≡ Int id → columns_of t (cast_row base (drop 1 (shows (col 1 0 ∷ project) params r))) ≡ change (columns_of t r)) where
-    pub updates : (old new : State) (count : ℕ) → IsApart (passes tests params) (old.now.trees (tree_of t)) → IsDatabase old.now → old.now.schema ≡ vault_schema → Executes sql params old new (Ok count)
+    pub updates : (old new : State) (count : ℕ) → HaveUniqueRowids (passes tests params) (old.now.trees (tree_of t)) → IsDatabase old.now → old.now.schema ≡ vault_schema → Executes sql params old new (Ok count)
         → Leaves old new (with_changed t test change)
-    updates old new count apart_here sound has h =
+    updates old new count unique_here sound has h =
         let q : Program = record { lets = []; body = table_scan base.tree tests (col 1 0 ∷ project) } in
         let command = Update at q in
         let w = runs_as sql params old new vault_schema has command is.command is.plain count h in
@@ -216,11 +216,11 @@ module _ (t : Table) (at : ℕ) (base : Columns) (sql : List ℕ) (params : Row)
         let did = subst (λ s. Does old.step_limit (mode_of old) params (record old.now { schema = s }) text None command (Ok (w.tally, new.now))) has w.changed in
         let it = updated old.step_limit (mode_of old) base params at q old.now.trees w.tally new.now (idle base.tree) (places old.step_limit (mode_of old) text old.now.trees _ did) in
         let rows = old.now.trees base.tree in
-        let apart = subst (λ n. IsApart (passes tests params) (old.now.trees n)) (sym here) apart_here in
+        let unique = subst (λ n. HaveUniqueRowids (passes tests params) (old.now.trees n)) (sym here) unique_here in
         let show = shows (col 1 0 ∷ project) params in
         let renew = λ (s : Row). cast_row base (drop 1 s) in
         let found = scanned (record { schema = vault_schema; trees = old.now.trees }) base.tree tests (col 1 0 ∷ project) params it.0 it.1 in
-        let left : without_all rows (ids_of it.0) ≡ filter (λ r. not (passes tests params r)) rows = left_is (passes tests params) rows apart it.0 show (λ r. refl) found in
+        let left : without_all rows (ids_of it.0) ≡ filter (λ r. not (passes tests params r)) rows = left_is (passes tests params) rows unique it.0 show (λ r. refl) found in
         let typed : AllByRecursion (λ row. row_passes Datatype vault_schema old.now.trees base row ≡ true) rows =
         lists old.now.trees (subst (λ s. Keeps Datatype s old.now.trees) has (sound.obeys.rules Datatype)) in
         let of_old = without_all rows (ids_of it.0) in
@@ -232,19 +232,19 @@ module _ (t : Table) (at : ℕ) (base : Columns) (sql : List ℕ) (params : Row)
         let columns = columns_of t in
         let whole = IsPermutation-map columns _ _ put in
         let changed = changed_if test change in
-        let apart_changed =
+        let unique_changed =
         changed_apart (passes tests params) (λ r. changed (columns r)) (λ r. columns (renew (show r))) columns rows
         (λ r there passes_here.
-        let own = apart r there passes_here in
+        let own = unique r there passes_here in
         let is_typed = (and_parts _ _ (all_has (λ row. row_passes Datatype vault_schema old.now.trees base row ≡ true) rows r typed there)).0 in
-        rw (sym (both_tests rows apart r there) ∙ passes_here) (reads_so r is_typed own.0 own.1))
-        (λ r there fails. rw (sym (both_tests rows apart r there) ∙ fails) refl) in
+        rw (sym (both_tests rows unique r there) ∙ passes_here) (reads_so r is_typed own.0 own.1))
+        (λ r there fails. rw (sym (both_tests rows unique r there) ∙ fails) refl) in
         let first : map changed (map columns rows) ≡ map (λ r. changed (columns r)) rows = map-map changed columns rows in
         let parts : map (λ r. columns (renew (show r))) passed ++ map columns (filter (λ r. not (passes tests params r)) rows) ≡ map columns (map renew (map show passed) ++ of_old) =
         ap (λ l. map (λ r. columns (renew (show r))) passed ++ map columns l) (sym left) ∙ ap (λ l. l ++ map columns of_old) (sym (map-map columns renew (map show passed) ∙ map-map (λ s. columns (renew s)) show passed))
         ∙ sym (map-append columns (map renew (map show passed)) of_old) in
         let same : IsPermutation (map changed (map columns rows)) (map columns (new.now.trees base.tree)) =
-        subst₂ (λ from to. IsPermutation from to) (sym first) (ap (map columns) (sym stored)) (IsPermutation-trans _ _ _ (subst (IsPermutation (map (λ r. changed (columns r)) rows)) parts apart_changed) whole) in
+        subst₂ (λ from to. IsPermutation from to) (sym first) (ap (map columns) (sym stored)) (IsPermutation-trans _ _ _ (subst (IsPermutation (map (λ r. changed (columns r)) rows)) parts unique_changed) whole) in
         record {
           schema = it.3;
           rows = edited_alone t (map changed) old.now new.now (subst (λ n. AllByRecursion (λ c. c.tree ≢ n → new.now.trees c.tree ≡ old.now.trees c.tree) vault_schema.tables) here it.2.tables)

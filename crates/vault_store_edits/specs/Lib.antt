@@ -1,7 +1,7 @@
 pub mod Commits
 pub mod Ready
 pub mod Trees
-pub mod Apart
+pub mod UniqueRowids
 pub mod Queries
 pub mod Author
 pub mod Inside

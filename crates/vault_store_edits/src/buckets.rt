@@ -7,7 +7,7 @@ ghost use Rattle.vault_store_model.specs.Edits.{with_row, with_changed};
 ghost use Rattle.vault_store_model.specs.Tests.{is_named, with_default_columns, with_owner};
 ghost use Rattle.vault_store_edits.specs.Inside.{IsEdit, IsEditOfSound};
 
-use crate::apart::check_apart;
+use crate::rowids::check_rowids;
 use crate::parameters::{default_days, default_mode, default_years};
 use crate::put::{Put, put_row};
 use sqlite::{Alter, Error, Transaction, params};
@@ -74,7 +74,7 @@ pub fn set_default<S: Alter>(
     ensures same_reference { tx.new.conn.ghost_name ≡ tx.old.conn.ghost_name }
     ensures edit { IsEditOfSound S.Store tx.old.conn.now tx.new.conn.now result (with_changed table.Buckets (is_named name.now) (with_default_columns default)) }
 {
-    check_apart(
+    check_rowids(
         tx,
         Table::Buckets,
         "SELECT rowid FROM buckets WHERE name = ?1",
@@ -100,7 +100,7 @@ pub fn set_owner<S: Alter>(
     ensures same_reference { tx.new.conn.ghost_name ≡ tx.old.conn.ghost_name }
     ensures edit { IsEditOfSound S.Store tx.old.conn.now tx.new.conn.now result (with_changed table.Buckets (is_named name.now) (with_owner dept.now)) }
 {
-    check_apart(
+    check_rowids(
         tx,
         Table::Buckets,
         "SELECT rowid FROM buckets WHERE name = ?1",

@@ -7,7 +7,7 @@ ghost use Rattle.vault_store_model.specs.Edits.{with_row, with_changed};
 ghost use Rattle.vault_store_model.specs.Tests.{is_named, closed_row};
 ghost use Rattle.vault_store_edits.specs.Inside.{IsEdit, IsEditOfSound};
 
-use crate::apart::check_apart;
+use crate::rowids::check_rowids;
 use crate::parameters::{dept_text, rights_number};
 use crate::put::{Put, put_row};
 use sqlite::{Alter, Error, Transaction, params};
@@ -60,7 +60,7 @@ pub fn close_caller<S: Alter>(
     ensures same_reference { tx.new.conn.ghost_name ≡ tx.old.conn.ghost_name }
     ensures edit { IsEditOfSound S.Store tx.old.conn.now tx.new.conn.now result (with_changed table.Callers (is_named name.now) closed_row) }
 {
-    check_apart(
+    check_rowids(
         tx,
         Table::Callers,
         "SELECT rowid FROM callers WHERE name = ?1",

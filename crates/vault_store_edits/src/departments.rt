@@ -8,7 +8,7 @@ ghost use Rattle.vault_store_model.specs.Tests.{is_named, with_sums};
 ghost use Rattle.vault_store_edits.specs.Inside.{IsEdit, IsEditOfSound};
 ghost use Rattle.vault_store_edits.specs.NewRows.{new_department};
 
-use crate::apart::check_apart;
+use crate::rowids::check_rowids;
 use crate::parameters::whole;
 use crate::put::{Put, put_row};
 use sqlite::{Alter, Error, Transaction, params};
@@ -74,7 +74,7 @@ pub fn set_sums<S: Alter>(
     let closed = whole(sums.closed)?;
     let received = whole(sums.received)?;
     let handed = whole(sums.handed)?;
-    check_apart(
+    check_rowids(
         tx,
         Table::Departments,
         "SELECT rowid FROM departments WHERE name = ?1",

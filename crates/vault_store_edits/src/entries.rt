@@ -8,7 +8,7 @@ ghost use Rattle.vault_store_model.specs.Tests.{is_numbered, removed_row};
 ghost use Rattle.vault_store_edits.specs.Inside.{IsEdit, IsEditOfSound};
 ghost use Rattle.vault_store_edits.specs.Typed.{IsTypedEntry};
 
-use crate::apart::check_id;
+use crate::rowids::check_id;
 use crate::entry_parameters::{
     author_text, cause_number, cause_text, digest_bytes, is_rule, removal_at, removal_by,
     removal_cause,

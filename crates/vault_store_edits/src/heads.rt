@@ -6,7 +6,7 @@ ghost use Rattle.vault_store_model.specs.Edits.{with_row, with_changed, without}
 ghost use Rattle.vault_store_model.specs.Tests.{is_of_key, with_head_columns};
 ghost use Rattle.vault_store_edits.specs.Inside.{IsEdit, IsEditOfSound};
 
-use crate::apart::check_apart;
+use crate::rowids::check_rowids;
 use crate::parameters::whole;
 use crate::put::{Put, put_row};
 use sqlite::{Alter, Error, Transaction, params};
@@ -75,7 +75,7 @@ pub fn set_head<S: Alter>(
     ensures edit { IsEditOfSound S.Store tx.old.conn.now tx.new.conn.now result (with_changed table.Heads (is_of_key bucket.now key.now) (with_head_columns head.now)) }
 {
     let count = whole(head.count)?;
-    check_apart(
+    check_rowids(
         tx,
         Table::Heads,
         "SELECT rowid FROM heads WHERE bucket = ?1 AND key = ?2",
@@ -96,7 +96,7 @@ pub fn delete_head<S: Alter>(
     ensures same_reference { tx.new.conn.ghost_name ≡ tx.old.conn.ghost_name }
     ensures edit { IsEdit S.Store tx.old.conn.now tx.new.conn.now result (without table.Heads (is_of_key bucket.now key.now)) }
 {
-    check_apart(
+    check_rowids(
         tx,
         Table::Heads,
         "SELECT rowid FROM heads WHERE bucket = ?1 AND key = ?2",

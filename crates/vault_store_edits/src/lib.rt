@@ -1,11 +1,11 @@
 //! Edits of the tables of a vault: the statements, one function for each, and the transaction that makes
 //! them as a whole or not at all.
 //!
-//! An error is want of memory, reported as `ErrorCode::OutOfMemory`, `ErrorCode::TooBig` for a number that a
+//! An error is out of memory, reported as `ErrorCode::OutOfMemory`, `ErrorCode::TooBig` for a number that a
 //! column can't take, or a failure of the store.
 #![tactic(auto)]
 
-pub mod apart;
+pub mod rowids;
 pub mod buckets;
 pub mod callers;
 pub mod contents;

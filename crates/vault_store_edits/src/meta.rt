@@ -6,7 +6,7 @@ ghost use Rattle.vault_store_model.specs.Edits.{with_changed};
 ghost use Rattle.vault_store_model.specs.Tests.{every, with_last, with_last_and_moves, with_last_and_next};
 ghost use Rattle.vault_store_edits.specs.Inside.{IsEditOfSound};
 
-use crate::apart::check_apart;
+use crate::rowids::check_rowids;
 use crate::parameters::{seconds, whole};
 use sqlite::{Alter, Error, Transaction, params};
 use vault_base::moment::Moment;
@@ -18,7 +18,7 @@ pub fn set_last<S: Alter>(tx: &mut Transaction<'_, S>, last: Moment) -> Result<u
     ensures edit { IsEditOfSound S.Store tx.old.conn.now tx.new.conn.now result (with_changed table.Meta every (with_last last)) }
     ensures range { OnOk result (last ≤ last_moment) }
 {
-    check_apart(tx, Table::Meta, "SELECT rowid FROM meta", &[])?;
+    check_rowids(tx, Table::Meta, "SELECT rowid FROM meta", &[])?;
     tx.execute("UPDATE meta SET last = ?1", params![seconds(last)])
 }
 
@@ -33,7 +33,7 @@ pub fn set_last_and_next<S: Alter>(
     ensures range { OnOk result (last ≤ last_moment) }
 {
     let next = whole(next)?;
-    check_apart(tx, Table::Meta, "SELECT rowid FROM meta", &[])?;
+    check_rowids(tx, Table::Meta, "SELECT rowid FROM meta", &[])?;
     tx.execute(
         "UPDATE meta SET last = ?1, next = ?2",
         params![seconds(last), next],
@@ -50,7 +50,7 @@ pub fn set_last_and_moves<S: Alter>(
     ensures edit { IsEditOfSound S.Store tx.old.conn.now tx.new.conn.now result (with_changed table.Meta every (with_last_and_moves last moves)) }
     ensures range { OnOk result (last ≤ last_moment) }
 {
-    check_apart(tx, Table::Meta, "SELECT rowid FROM meta", &[])?;
+    check_rowids(tx, Table::Meta, "SELECT rowid FROM meta", &[])?;
     tx.execute(
         "UPDATE meta SET last = ?1, moves = ?2",
         params![seconds(last), moves],

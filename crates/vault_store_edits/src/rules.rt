@@ -13,7 +13,7 @@ ghost use Rattle.vault_store_model.specs.Tests.{is_named};
 ghost use Rattle.vault_store_edits.specs.Inside.{CommitsNothing, IsEdit};
 ghost use Rattle.vault_store_edits.specs.Typed.{IsTypedRule};
 
-use crate::apart::check_apart;
+use crate::rowids::check_rowids;
 use crate::parameters::{bound, noncurrent_days, noncurrent_newer};
 use crate::put::{Put, put_row};
 use sqlite::{Alter, Error, ErrorCode, Transaction, params};
@@ -30,7 +30,7 @@ pub fn delete_rules<S: Alter>(
     ensures same_reference { tx.new.conn.ghost_name ≡ tx.old.conn.ghost_name }
     ensures edit { IsEdit S.Store tx.old.conn.now tx.new.conn.now result (without table.Rules (is_named bucket.now)) }
 {
-    check_apart(
+    check_rowids(
         tx,
         Table::Rules,
         "SELECT rowid FROM rules WHERE bucket = ?1",

@@ -17,7 +17,7 @@ use Rattle.vault_core_model.specs.Order.{note_cmp, placed_if_given}
 use Rattle.vault_core_model.specs.Sound.{Sound}
 use Rattle.vault_core_model.specs.Totals.{items_of}
 use Rattle.vault_core_model.specs.Vault.{Vault, config_of}
-use Rattle.vault_audit_model.specs.Editions.{number_of, newest}
+use Rattle.vault_audit_model.specs.SchemaVersions.{number_of, newest}
 use Rattle.vault_audit_model.specs.Rows.{meta_row, department_row, entry_row, content_row, setting_row, note_row, tenure_row}
 use Rattle.vault_audit_model.specs.Spells.{contents_in, settings_in, tenures_in, department_in, content_if_given}
 use Rattle.vault_store_model.specs.Rows.{rows_of}

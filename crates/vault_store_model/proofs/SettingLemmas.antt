@@ -17,7 +17,7 @@ use Rattle.vault_core_model.specs.Sound.{Sound, AreIdsFrom}
 use Rattle.vault_core_model.specs.Totals.{items_by, items_of, shares_of}
 use Rattle.vault_core_model.specs.Vault.{Vault, history_of}
 use Rattle.vault_audit_model.specs.declared.rows.SettingRow.{SettingRow}
-use Rattle.vault_audit_model.specs.Editions.{number_of, newest}
+use Rattle.vault_audit_model.specs.SchemaVersions.{number_of, newest}
 use Rattle.vault_audit_model.specs.Rows.{meta_row, entry_row, content_row, setting_row, tenure_row}
 use Rattle.vault_audit_model.specs.Spells.{settings_from, settings_in, contents_in, tenures_in}
 use Rattle.vault_core_laws.proofs.Soundness.{setting_count}

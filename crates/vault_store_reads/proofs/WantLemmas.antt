@@ -1,4 +1,4 @@
--- A store that works refuses a query that it can answer for want of memory alone, whatever the parameters are.
+-- A store that works refuses a query that it can answer only where memory runs out, whatever the parameters are.
 use Rattle.std.proofs.Common.{◌≡◌, inl, inr, ℕ, List, [], true, false, None, Option, Ok, Err, Result, IfErr, IsTrue, append-nil, refl, sym, ap, subst, ◌∙◌}
 use Rattle.sqlite_value.specs.Order.{Row}
 use Rattle.sqlite_schema.specs.declared.command.Command.{Command}

@@ -32,7 +32,7 @@ pub fn query_rows<S: Alter>(
     ensures err { HasCleanDisk (state S.Store conn.new) → IfErr result (FailsToQuery sql.now (bound params.now) (state S.Store conn.old) (state S.Store conn.new)) }
     ensures read { OnlyReads S.Store conn.old conn.new }
     ensures open { IsOpenIfOk S.Store conn.new result }
-    // Over a store that works it fails for want of memory alone.
+    // Over a store that works it fails only where memory runs out.
     ensures memory { IsAskedWith sql.now (bound params.now) → WantsMemoryIfErr S.Store conn.old conn.new result }
 {
     conn.query_all(sql, params)
@@ -41,7 +41,7 @@ pub fn query_rows<S: Alter>(
 /// What is said of a row that says nothing of a vault.
 pub const UNREADABLE: Error = Error::SqliteFailure(ErrorCode::DatabaseCorrupt);
 
-/// What is said of a row that isn't read as a record: want of memory as such, any other cause as a file
+/// What is said of a row that isn't read as a record: out of memory as such, any other cause as a file
 /// that isn't a vault's.
 pub fn unread(misread: Misread) -> Error
     ensures memory { misread ≡ Misread.Memory → result ≡ Error.SqliteFailure ErrorCode.OutOfMemory }

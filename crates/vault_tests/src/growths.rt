@@ -44,7 +44,7 @@ const READS: &str = r#"
 enum Ending {
     /// It was carried out to its end, by that many changes.
     Done(u64),
-    /// Want of memory stopped it after that many.
+    /// Out of memory stopped it after that many.
     StoppedAfter(u64),
     /// There was no memory for its reply, before anything was asked.
     NotAsked,

@@ -32,7 +32,7 @@ pub fn serve<R: Read, W: Write, K: Keeper>(
     serve_one(alloc, reader, writer, keeper, reading)
 }
 
-/// The text that is answered to the next request of a reader. Want of memory is an error here: no request of these tests
+/// The text that is answered to the next request of a reader. Out of memory is an error here: no request of these tests
 /// is to get it as its answer.
 pub fn answer<R: Read, K: Keeper>(
     alloc: Global,

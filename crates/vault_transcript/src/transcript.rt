@@ -27,7 +27,7 @@ pub fn replies<K: Keeper>(alloc: Global, keeper: &mut K, script: &[u8]) -> Resul
     Ok(String::from_utf8(written)?)
 }
 
-/// What is written for lines that a test gives on its own account, as to look at a vault. Want of memory in a reply is an
+/// What is written for lines that a test gives on its own account, as to look at a vault. Out of memory in a reply is an
 /// error here: the test wanted it, and not what it tries.
 pub fn answers<K: Keeper>(alloc: Global, keeper: &mut K, lines: &[u8]) -> Result<String, Fail> {
     let written = replies(alloc, keeper, lines)?;

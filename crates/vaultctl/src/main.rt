@@ -78,7 +78,7 @@ fn answer<A: Start, B: Start, R: Read, W: Write, E: Write>(
     }
 }
 
-/// The same of the program's words. `InvalidData` where one isn't UTF-8; any other error is want of memory.
+/// The same of the program's words. `InvalidData` where one isn't UTF-8; any other error is out of memory.
 fn answer_given_words<A: Start, B: Start, E: Write>(
     machine: &mut FileMachine<'_, A, B>,
     starts: Starts<A, B>,

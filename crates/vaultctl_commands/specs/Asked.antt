@@ -18,12 +18,12 @@ use Rattle.vaultctl_job.specs.declared.job.ReportJob.{ReportJob}
 use Rattle.vaultctl_job.specs.declared.job.RunJob.{RunJob}
 use Rattle.vaultctl_job.specs.declared.job.SealJob.{SealJob}
 use Rattle.vaultctl_commands.specs.Words.{optional_moment, optional_reading, optional_dept, version_named}
-use Rattle.vaultctl_commands.specs.declared.asked.Asked.{Asked}
+use Rattle.vaultctl_commands.specs.declared.asked.AskedCommand.{AskedCommand}
 use Rattle.vaultctl_commands.specs.declared.asked.AskedEvents.{AskedEvents}
 use Rattle.vaultctl_commands.specs.declared.asked.AskedIntake.{AskedIntake}
 use Rattle.vaultctl_commands.specs.declared.asked.AskedSeal.{AskedSeal}
 
-unfoldable pub dept_of : DeptJob → Result Asked Refusal
+unfoldable pub dept_of : DeptJob → Result AskedCommand Refusal
 dept_of job = do
   at ← optional_reading job.asking.at
   who ← asker_named job.asking.who
@@ -46,14 +46,14 @@ closed_caller_of job = do
 abbrev pub caller_command_of : CallerJob → Result Command Refusal
 caller_command_of job = if job.close then closed_caller_of job else new_caller_of job
 
-unfoldable pub caller_of : CallerJob → Result Asked Refusal
+unfoldable pub caller_of : CallerJob → Result AskedCommand Refusal
 caller_of job = do
   at ← optional_reading job.asking.at
   who ← asker_named job.asking.who
   asked ← caller_command_of job
   Ok (record { at = at; who = who; command = asked })
 
-unfoldable pub bucket_of : BucketJob → Result Asked Refusal
+unfoldable pub bucket_of : BucketJob → Result AskedCommand Refusal
 bucket_of job = do
   at ← optional_reading job.asking.at
   who ← asker_named job.asking.who
@@ -61,7 +61,7 @@ bucket_of job = do
   dept ← name_of job.dept
   Ok (record { at = at; who = who; command = command.AddBucket (record { bucket = bucket; dept = dept }) })
 
-unfoldable pub move_bucket_of : MoveJob → Result Asked Refusal
+unfoldable pub move_bucket_of : MoveJob → Result AskedCommand Refusal
 move_bucket_of job = do
   at ← optional_reading job.asking.at
   who ← asker_named job.asking.who
@@ -69,21 +69,21 @@ move_bucket_of job = do
   dept ← name_of job.dept
   Ok (record { at = at; who = who; command = command.MoveBucket (record { bucket = bucket; dept = dept }) })
 
-unfoldable pub run_of : RunJob → Result Asked Refusal
+unfoldable pub run_of : RunJob → Result AskedCommand Refusal
 run_of job = do
   at ← optional_reading job.asking.at
   who ← asker_named job.asking.who
   bucket ← bucket_named job.bucket
   Ok (record { at = at; who = who; command = command.Run (record { bucket = bucket }) })
 
-unfoldable pub report_of : ReportJob → Result Asked Refusal
+unfoldable pub report_of : ReportJob → Result AskedCommand Refusal
 report_of job = do
   at ← optional_reading job.asking.at
   who ← asker_named job.asking.who
   dept ← name_of job.dept
   Ok (record { at = at; who = who; command = command.Report (record { dept = dept }) })
 
-unfoldable pub certificate_of : CertificateJob → Result Asked Refusal
+unfoldable pub certificate_of : CertificateJob → Result AskedCommand Refusal
 certificate_of job = do
   at ← optional_reading job.asking.at
   who ← asker_named job.asking.who

@@ -6,7 +6,7 @@ use Rattle.vault_core_model.specs.declared.reply.Reply.{Reply}
 use Rattle.vault_core_model.specs.declared.reply.Reply.TheVariants.{Done, Refused, Stopped}
 use Rattle.vault_files.specs.Certificate.{certificate_text}
 use Rattle.vault_files.specs.ReportText.{report_text}
-use Rattle.vault_http.specs.ReplyLine.{reply_text}
+use Rattle.vault_lines_reply.specs.ReplyLine.{reply_text}
 use Rattle.vaultctl_commands.specs.declared.outcome.Outcome.{Outcome}
 use Rattle.vaultctl_commands.specs.declared.outcome.Outcome.TheVariants as outcome
 

@@ -15,7 +15,7 @@ use vaultctl_job::job;
 
 /// A command with the caller who asks, and the reading where one is given; else the machine's clock is read.
 #[derive(Drop)]
-pub struct Asked {
+pub struct AskedCommand {
     pub at: Option<Moment>,
     pub who: CallerName,
     pub command: Command,
@@ -44,13 +44,13 @@ pub struct AskedSeal {
 
 /// The department to be added.
 #[tactic(auto, unfolding(crate::specs::Asked::dept_of))]
-pub fn dept(alloc: Global, job: &job::DeptJob) -> Result<Asked, LineFault>
+pub fn dept(alloc: Global, job: &job::DeptJob) -> Result<AskedCommand, LineFault>
     ensures { Gives (λ x. x) result (spec.dept_of job.now) }
 {
     let at = optional_reading(&job.asking.at)?;
     let who = asker_named(alloc, job.asking.who.as_str())?;
     let dept = dept_named(alloc, job.name.as_str())?;
-    Ok(Asked {
+    Ok(AskedCommand {
         at,
         who,
         command: Command::AddDept(AddDept { dept }),
@@ -94,25 +94,25 @@ fn caller_command(alloc: Global, job: &job::CallerJob) -> Result<Command, LineFa
 
 /// The caller to be added, or to be closed.
 #[tactic(auto, unfolding(crate::specs::Asked::caller_of))]
-pub fn caller(alloc: Global, job: &job::CallerJob) -> Result<Asked, LineFault>
+pub fn caller(alloc: Global, job: &job::CallerJob) -> Result<AskedCommand, LineFault>
     ensures { Gives (λ x. x) result (spec.caller_of job.now) }
 {
     let at = optional_reading(&job.asking.at)?;
     let who = asker_named(alloc, job.asking.who.as_str())?;
     let command = caller_command(alloc, job)?;
-    Ok(Asked { at, who, command })
+    Ok(AskedCommand { at, who, command })
 }
 
 /// The bucket to be added.
 #[tactic(auto, unfolding(crate::specs::Asked::bucket_of))]
-pub fn bucket(alloc: Global, job: &job::BucketJob) -> Result<Asked, LineFault>
+pub fn bucket(alloc: Global, job: &job::BucketJob) -> Result<AskedCommand, LineFault>
     ensures { Gives (λ x. x) result (spec.bucket_of job.now) }
 {
     let at = optional_reading(&job.asking.at)?;
     let who = asker_named(alloc, job.asking.who.as_str())?;
     let bucket = bucket_named(alloc, job.name.as_str())?;
     let dept = dept_named(alloc, job.dept.as_str())?;
-    Ok(Asked {
+    Ok(AskedCommand {
         at,
         who,
         command: Command::AddBucket(AddBucket { bucket, dept }),
@@ -121,14 +121,14 @@ pub fn bucket(alloc: Global, job: &job::BucketJob) -> Result<Asked, LineFault>
 
 /// The move of a bucket to another department.
 #[tactic(auto, unfolding(crate::specs::Asked::move_bucket_of))]
-pub fn move_bucket(alloc: Global, job: &job::MoveJob) -> Result<Asked, LineFault>
+pub fn move_bucket(alloc: Global, job: &job::MoveJob) -> Result<AskedCommand, LineFault>
     ensures { Gives (λ x. x) result (spec.move_bucket_of job.now) }
 {
     let at = optional_reading(&job.asking.at)?;
     let who = asker_named(alloc, job.asking.who.as_str())?;
     let bucket = bucket_named(alloc, job.bucket.as_str())?;
     let dept = dept_named(alloc, job.dept.as_str())?;
-    Ok(Asked {
+    Ok(AskedCommand {
         at,
         who,
         command: Command::MoveBucket(MoveBucket { bucket, dept }),
@@ -137,13 +137,13 @@ pub fn move_bucket(alloc: Global, job: &job::MoveJob) -> Result<Asked, LineFault
 
 /// The run of a bucket's rules.
 #[tactic(auto, unfolding(crate::specs::Asked::run_of))]
-pub fn run(alloc: Global, job: &job::RunJob) -> Result<Asked, LineFault>
+pub fn run(alloc: Global, job: &job::RunJob) -> Result<AskedCommand, LineFault>
     ensures { Gives (λ x. x) result (spec.run_of job.now) }
 {
     let at = optional_reading(&job.asking.at)?;
     let who = asker_named(alloc, job.asking.who.as_str())?;
     let bucket = bucket_named(alloc, job.bucket.as_str())?;
-    Ok(Asked {
+    Ok(AskedCommand {
         at,
         who,
         command: Command::Run(Run { bucket }),
@@ -152,13 +152,13 @@ pub fn run(alloc: Global, job: &job::RunJob) -> Result<Asked, LineFault>
 
 /// The report on a department.
 #[tactic(auto, unfolding(crate::specs::Asked::report_of))]
-pub fn report(alloc: Global, job: &job::ReportJob) -> Result<Asked, LineFault>
+pub fn report(alloc: Global, job: &job::ReportJob) -> Result<AskedCommand, LineFault>
     ensures { Gives (λ x. x) result (spec.report_of job.now) }
 {
     let at = optional_reading(&job.asking.at)?;
     let who = asker_named(alloc, job.asking.who.as_str())?;
     let dept = dept_named(alloc, job.dept.as_str())?;
-    Ok(Asked {
+    Ok(AskedCommand {
         at,
         who,
         command: Command::Report(Report { dept }),
@@ -167,14 +167,14 @@ pub fn report(alloc: Global, job: &job::ReportJob) -> Result<Asked, LineFault>
 
 /// The certificate of a removed version.
 #[tactic(auto, unfolding(crate::specs::Asked::certificate_of))]
-pub fn certificate(alloc: Global, job: &job::CertificateJob) -> Result<Asked, LineFault>
+pub fn certificate(alloc: Global, job: &job::CertificateJob) -> Result<AskedCommand, LineFault>
     ensures { Gives (λ x. x) result (spec.certificate_of job.now) }
 {
     let at = optional_reading(&job.asking.at)?;
     let who = asker_named(alloc, job.asking.who.as_str())?;
     let bucket = bucket_named(alloc, job.bucket.as_str())?;
     let id = version_named(&job.version)?;
-    Ok(Asked {
+    Ok(AskedCommand {
         at,
         who,
         command: Command::Certificate(Certificate { bucket, id }),

@@ -10,7 +10,7 @@ ghost use Rattle.vault_core_model.specs.declared.reply.Reply.{Reply as AnyReply}
 ghost use Rattle.vault_core_model.specs.declared.reply.Reply.TheVariants.{Refused};
 ghost use Rattle.vaultctl_commands.specs.Printed as spec;
 
-use crate::asked::Asked;
+use crate::asked::AskedCommand;
 use crate::fault::JobFault;
 use crate::outcome::Outcome;
 use crate::printing::print;
@@ -94,7 +94,7 @@ pub fn carry_out<K: Keeper, W: Write, E: Write>(
     alloc: Global,
     keeper: &mut K,
     at: Moment,
-    asked: &Asked,
+    asked: &AskedCommand,
     out: &mut W,
     err: &mut E,
 ) -> Result<Outcome, JobFault>

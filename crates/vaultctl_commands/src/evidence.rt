@@ -107,7 +107,7 @@ pub fn answer_seal<K: Keeper, W: Write, E: Write>(
     }
 }
 
-/// The line that names an entry and the law that it breaks. The error is want of memory.
+/// The line that names an entry and the law that it breaks. The error is out of memory.
 fn breach_line(alloc: Global, breach: &Breach) -> Result<String, AllocError>
     ensures { IfOk result (λ line. string_bytes line ≡ spec.unlawful_line breach.now) }
 {

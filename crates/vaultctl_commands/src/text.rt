@@ -7,11 +7,11 @@ use std::alloc::{AllocError, Global};
 use vault_core_model::reply::{Answer, Reply};
 use vault_files::certificate::certificate;
 use vault_files::report_text::report_text;
-use vault_http::reply_line::reply_line;
+use vault_lines_reply::reply_line::reply_line;
 
 /// What is printed of a reply: a report and a certificate as text, and any other as its line.
 ///
-/// The error is want of memory.
+/// The error is out of memory.
 pub fn reply_text(alloc: Global, reply: &Reply) -> Result<String, AllocError>
     ensures { IfOk result (λ text. string_bytes text ≡ spec.printed reply.now) }
 {

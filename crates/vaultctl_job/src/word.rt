@@ -18,7 +18,7 @@ impl Model for Word {
 }
 
 impl Word {
-    /// A copy of a text. The error is want of memory.
+    /// A copy of a text. The error is out of memory.
     pub fn of(alloc: Global, text: &str) -> Result<Word, AllocError>
         ensures { IfOk result (λ word. word ≡ text.now) }
     {

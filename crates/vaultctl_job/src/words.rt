@@ -12,7 +12,7 @@ use clap::error::ErrorKind;
 use clap::{ArgMatches, Command, Error};
 use std::alloc::{AllocError, Global};
 
-/// The version of the program, and the edition of the tables that it writes.
+/// The version of the program, and the schema version of the tables that it writes.
 pub const VERSION: &str = "0.9.0 (schema 3)";
 
 fn needs_subcommand<'a>(command: Command<'a>) -> Command<'a>
@@ -69,7 +69,7 @@ fn help_asked(words: &[String]) -> Option<&str> {
     }
 }
 
-/// The text of the help that is asked for. The error is want of memory.
+/// The text of the help that is asked for. The error is out of memory.
 fn help_text(alloc: Global, program: &str, topic: &str) -> Result<String, AllocError> {
     let command = command(alloc)?;
     match command.try_get_matches_from(&[program, topic, "--help"]) {

@@ -6,11 +6,11 @@ use Rattle.serde_json.specs.Data.{Data}
 use Rattle.serde_json.specs.Read.{read}
 use Rattle.serde_json.proofs.OnLiterals.{serde_json_on_literals}
 use Rattle.vault_base.specs.declared.refusal.Refusal.TheVariants.{MalformedBody}
-use Rattle.vault_http_values.specs.Document.{json_of}
-use Rattle.vault_http_lines.specs.Grammar.{HasShape}
-use Rattle.vault_http_lines.specs.ReadLine.{line_of, without_cr}
-use Rattle.vault_http_lines.specs.declared.read_line.Line.TheVariants as line
-use Rattle.vault_http_lines.proofs.LineLemmas.{malformed}
+use Rattle.vault_lines_json.specs.Document.{json_of}
+use Rattle.vault_lines_read.specs.Grammar.{HasShape}
+use Rattle.vault_lines_read.specs.ReadLine.{line_of, without_cr}
+use Rattle.vault_lines_read.specs.declared.read_line.Line.TheVariants as line
+use Rattle.vault_lines_read.proofs.LineLemmas.{malformed}
 use Rattle.vaultctl_journal.specs.Entries.{end_line}
 
 no-json : (b : Bool) → (let found : Option Data = if b then read end_line else None in found) ≡ None

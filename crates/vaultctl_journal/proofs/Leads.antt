@@ -13,13 +13,13 @@ use Rattle.vault_core_model.specs.declared.command.Timed.{Timed}
 use Rattle.vault_core_model.specs.declared.kept.Kept.{Ghosts}
 use Rattle.vault_core_model.specs.declared.reply.Reply.{Reply}
 use Rattle.vault_core_model.specs.declared.reply.Reply.TheVariants as reply
-use Rattle.vault_http.specs.Left.{AtMostOne}
-use Rattle.vault_http.specs.Line.{Line}
-use Rattle.vault_http.specs.Line.TheVariants as line
-use Rattle.vault_http.specs.ReadLine.{line_of}
+use Rattle.vault_core.specs.Hearing.{AtMostOne}
+use Rattle.vault_lines_read.specs.declared.read_line.Line.{Line}
+use Rattle.vault_lines_read.specs.declared.read_line.Line.TheVariants as line
+use Rattle.vault_lines_read.specs.ReadLine.{line_of}
 use Rattle.vaultctl_journal.specs.Changes.{changing, is_change, is_cut}
 use Rattle.vaultctl_journal.specs.Entries.{end_line, is_open}
-use Rattle.vault_http.specs.Hearing.{HearsAll}
+use Rattle.vault_core.specs.Hearing.{HearsAll}
 use Rattle.vaultctl_journal.specs.Journal.{AreRecords, Hears, IsJournal, IsRest, Lacks, LeadTo, Records}
 use Rattle.vaultctl_journal.specs.declared.journal.Journal.{Journal}
 use Rattle.vaultctl_journal.specs.declared.state.JournalState.{JournalState}

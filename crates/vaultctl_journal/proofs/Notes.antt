@@ -10,7 +10,7 @@ use Rattle.vault_core_model.specs.declared.reply.Reply.TheVariants.{Done, Refuse
 use Rattle.vault_core_model.specs.declared.reply.Stop.TheVariants.{Memory, Device, VaultFull}
 use Rattle.vaultctl_journal.specs.Changes.{changing, is_change, is_cut, with_if}
 use Rattle.vaultctl_journal.specs.Entries.{Hearing, IsEntry, IsRecord, Noted, end_line, is_open}
-use Rattle.vault_http.specs.Hearing.{AreHeard}
+use Rattle.vault_core.specs.Hearing.{AreHeard}
 use Rattle.vaultctl_journal.specs.Journal.{AreRecords, Hears, IsJournal, IsRest, Records}
 use Rattle.vaultctl_journal.specs.declared.journal.Journal.{Journal}
 use Rattle.vaultctl_journal.specs.declared.state.JournalState.{JournalState}

@@ -3,9 +3,9 @@ use Rattle.std.specs.Prelude.{◌≡◌, ◌<◌, ◌⊎◌, ℕ, Bool, true, fa
 use Rattle.std.specs.Io.KnownBytes.{Appends, Keeps}
 use Rattle.vault_base.specs.Limits.{longest_line}
 use Rattle.vault_core_model.specs.declared.command.Timed.{Timed}
-use Rattle.vault_http.specs.Line.TheVariants as line
-use Rattle.vault_http.specs.ReadLine.{line_of}
-use Rattle.vault_http_commands.specs.Lines.{SpellsTimed}
+use Rattle.vault_lines_read.specs.declared.read_line.Line.TheVariants as line
+use Rattle.vault_lines_read.specs.ReadLine.{line_of}
+use Rattle.vault_lines_print.specs.Lines.{SpellsTimed}
 use Rattle.vault_io.specs.Begins.{Begins}
 use Rattle.vaultctl_journal.specs.declared.state.JournalState.{JournalState}
 use Rattle.vaultctl_journal.specs.declared.state.JournalState.TheVariants.{Open, Ended, Lost}

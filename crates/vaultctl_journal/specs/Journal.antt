@@ -7,8 +7,8 @@ use Rattle.vault_core_model.specs.Vault.{Vault}
 use Rattle.vault_core_model.specs.declared.command.Timed.{Timed}
 use Rattle.vault_core_model.specs.declared.kept.Kept.{Ghosts}
 use Rattle.vault_core_model.specs.declared.reply.Reply.{Reply}
-use Rattle.vault_http.specs.Left.{AtMostOne}
-use Rattle.vault_http.specs.Line.{Line}
+use Rattle.vault_core.specs.Hearing.{AtMostOne}
+use Rattle.vault_lines_read.specs.declared.read_line.Line.{Line}
 use Rattle.vaultctl_journal.specs.Changes.{changing, is_change, is_cut}
 use Rattle.vaultctl_journal.specs.Entries.{Hearing, IsRecord, end_line, is_open}
 use Rattle.vaultctl_journal.specs.declared.journal.Journal.{Journal}

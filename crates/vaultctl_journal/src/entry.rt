@@ -1,6 +1,6 @@
 //! What is written to a journal of one change.
 ghost use Rattle.std.specs.Prelude.{◌≡◌, IfOk, false, true, string_bytes};
-ghost use Rattle.vault_http_commands.specs.Members.{timed};
+ghost use Rattle.vault_lines_print.specs.Members.{timed};
 ghost use Rattle.vaultctl_journal.specs.Changes as changes;
 ghost use Rattle.vaultctl_journal.specs.Entries.{IsEntry, IsTooLong, Noted, Wrote, end_line};
 ghost use Rattle.vaultctl_replay.specs.Lines.{ended};
@@ -14,7 +14,7 @@ use vault_base::moment::Moment;
 use vault_base::name::CallerName;
 use vault_core_model::command::Command;
 use vault_core_model::reply::Reply;
-use vault_http_commands::command_line::command_line;
+use vault_lines_print::command_line::command_line;
 use vault_io::writing::write_bytes;
 
 /// The last line of a journal whose next change no line makes again. `replay` refuses it.

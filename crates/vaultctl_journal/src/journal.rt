@@ -8,8 +8,8 @@ use vault_base::moment::Moment;
 use vault_base::name::CallerName;
 use vault_core_model::command::Command;
 use vault_core_model::reply::Reply;
-use vault_http::Hears;
-use vault_http::read_line::Line;
+use vault_core::hearing::Hears;
+use vault_lines_read::read_line::Line;
 use vaultctl_replay::observer::Observer;
 
 /// A journal of the commands that changed a vault, which goes to a writer.

@@ -9,7 +9,7 @@ pub enum JournalState {
     Open,
     /// Its last line says that no line makes the last change again.
     Ended,
-    /// The last change couldn't be written, for the writer or for want of memory: at most a beginning of its line is.
+    /// The last change couldn't be written, for the writer or where memory runs out: at most a beginning of its line is.
     Lost,
 }
 

@@ -7,7 +7,7 @@ use Rattle.std.specs.Str.Lossy.{utf8_lossy}
 use Rattle.serde_json.specs.Data.{Data}
 use Rattle.serde_json.specs.Find.{as_str, get}
 use Rattle.vault_base.specs.declared.refusal.Refusal.{Refusal}
-use Rattle.vault_http_values.specs.Document.{document_of}
+use Rattle.vault_lines_json.specs.Document.{document_of}
 use Rattle.vaultctl_log.specs.Members.{named, text_member}
 
 -- ---- a refusal

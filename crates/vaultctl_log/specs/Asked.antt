@@ -8,7 +8,7 @@ use Rattle.serde_json.specs.Data.{Data}
 use Rattle.serde_json.specs.Find.{as_number, as_str, as_u64, get}
 use Rattle.vault_base.specs.declared.refusal.Refusal.{Refusal}
 use Rattle.vault_http_target.specs.Fields.{Fields, value_of}
-use Rattle.vault_http_values.specs.Document.{document_of}
+use Rattle.vault_lines_json.specs.Document.{document_of}
 use Rattle.vaultctl_log.specs.Members.{number_member, text_member}
 
 -- ---- a line

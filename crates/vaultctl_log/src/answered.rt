@@ -5,20 +5,20 @@ ghost use Rattle.std.specs.Char.{is_ascii_digit};
 ghost use Rattle.std.specs.List.{list_all, position};
 ghost use Rattle.std.specs.Option.{option_copied};
 ghost use Rattle.serde_json.specs.View.{view};
-ghost use Rattle.vault_http_values.specs.Document.{document_of};
+ghost use Rattle.vault_lines_json.specs.Document.{document_of};
 ghost use Rattle.vaultctl_log.specs.Answered as spec;
 ghost use Rattle.vaultctl_log.specs.Members.{named};
 
 use crate::members::{push_name, push_text};
 use serde_json::Value;
 use std::alloc::{AllocError, Global};
-use vault_http_values::document::document;
+use vault_lines_json::document::document;
 use vault_values::fault::LineFault;
 
 /// What comes before an answer where a client waits to go on.
 const GO_ON: &[u8] = b"HTTP/1.1 100 Continue\r\n\r\n";
 
-/// Appends the code of a refusal, or that there is one. The error is want of memory.
+/// Appends the code of a refusal, or that there is one. The error is out of memory.
 fn push_code(alloc: Global, out: &mut String, code: Option<&str>) -> Result<(), AllocError>
     ensures { OnOk result (string_bytes out.new ≡ string_bytes out.old ++ spec.code_member (option_copied code.entry)) }
 {
@@ -28,7 +28,7 @@ fn push_code(alloc: Global, out: &mut String, code: Option<&str>) -> Result<(), 
     }
 }
 
-/// Appends the reason of a refusal, if it has one. The error is want of memory.
+/// Appends the reason of a refusal, if it has one. The error is out of memory.
 fn push_reason(alloc: Global, out: &mut String, reason: Option<&str>) -> Result<(), AllocError>
     ensures { OnOk result (string_bytes out.new ≡ string_bytes out.old ++ spec.reason_member (option_copied reason.entry)) }
 {
@@ -45,7 +45,7 @@ fn text_in<'v>(name: &str, value: &'v Value) -> Option<&'v str>
     value.get(name).and_then(Value::as_str)
 }
 
-/// Appends the code of a refusal and its reason. The error is want of memory.
+/// Appends the code of a refusal and its reason. The error is out of memory.
 fn push_refusal(alloc: Global, out: &mut String, refusal: &Value) -> Result<(), AllocError>
     ensures { OnOk result (string_bytes out.new ≡ string_bytes out.old ++ spec.refusal_members (view refusal.now)) }
 {
@@ -53,7 +53,7 @@ fn push_refusal(alloc: Global, out: &mut String, refusal: &Value) -> Result<(), 
     push_reason(alloc, out, text_in("reason", refusal))
 }
 
-/// Appends the same of a text that has to be one. The error is want of memory.
+/// Appends the same of a text that has to be one. The error is out of memory.
 fn push_stated(alloc: Global, out: &mut String, text: &[u8]) -> Result<(), AllocError>
     ensures { OnOk result (string_bytes out.new ≡ string_bytes out.old ++ spec.stated_members (document_of text.now)) }
 {
@@ -137,7 +137,7 @@ fn is_refusal(digits: &[u8]) -> bool
     }
 }
 
-/// Appends what is answered beside a status of these digits. The error is want of memory.
+/// Appends what is answered beside a status of these digits. The error is out of memory.
 fn push_outcome(
     alloc: Global,
     out: &mut String,
@@ -153,7 +153,7 @@ fn push_outcome(
     }
 }
 
-/// Appends a status. The error is want of memory.
+/// Appends a status. The error is out of memory.
 fn push_digits(alloc: Global, out: &mut String, digits: &[u8]) -> Result<(), AllocError>
     ensures { OnOk result (string_bytes out.new ≡ string_bytes out.old ++ (named (codes "status") ++ utf8_lossy digits.now)) }
 {
@@ -163,7 +163,7 @@ fn push_digits(alloc: Global, out: &mut String, digits: &[u8]) -> Result<(), All
 }
 
 /// Appends what is answered to a request: its status, and `ok` or the code of a refusal; `refused` where that has no
-/// body, as to HEAD; `nothing` where nothing was written. The error is want of memory.
+/// body, as to HEAD; `nothing` where nothing was written. The error is out of memory.
 pub(crate) fn push_answer(alloc: Global, out: &mut String, answer: &[u8]) -> Result<(), AllocError>
     ensures { OnOk result (string_bytes out.new ≡ string_bytes out.old ++ spec.answer_members answer.now) }
 {
@@ -174,7 +174,7 @@ pub(crate) fn push_answer(alloc: Global, out: &mut String, answer: &[u8]) -> Res
     push_outcome(alloc, out, answer, digits)
 }
 
-/// Appends the refusal that is the value of a member, where it is there. The error is want of memory.
+/// Appends the refusal that is the value of a member, where it is there. The error is out of memory.
 fn push_refused(alloc: Global, out: &mut String, refusal: Option<&Value>) -> Result<(), AllocError>
     ensures { OnOk result (string_bytes out.new ≡ string_bytes out.old ++ spec.refused_members (option_map (λ v. view v.now) refusal.entry)) }
 {
@@ -184,7 +184,7 @@ fn push_refused(alloc: Global, out: &mut String, refusal: Option<&Value>) -> Res
     }
 }
 
-/// Appends the refusal that a reply is. The error is want of memory.
+/// Appends the refusal that a reply is. The error is out of memory.
 fn push_error(alloc: Global, out: &mut String, reply: &[u8]) -> Result<(), AllocError>
     ensures { OnOk result (string_bytes out.new ≡ string_bytes out.old ++ spec.error_members (document_of reply.now)) }
 {
@@ -211,7 +211,7 @@ fn word_of(reply: &[u8]) -> Option<&'static str>
 }
 
 /// Appends what a reply says: `ok`, the code of a refusal, or `stopped`; `nothing` where nothing was written. The error
-/// is want of memory.
+/// is out of memory.
 pub(crate) fn push_reply(alloc: Global, out: &mut String, reply: &[u8]) -> Result<(), AllocError>
     ensures { OnOk result (string_bytes out.new ≡ string_bytes out.old ++ spec.reply_members reply.now) }
 {

@@ -12,13 +12,13 @@ use httparse::spans::{EMPTY_HEADER_SPAN, HeaderSpan, RequestSpans, parse_request
 use serde_json::Value;
 use std::alloc::{AllocError, Global};
 use vault_http_target::fields::value_of;
-use vault_http_values::document::document;
+use vault_lines_json::document::document;
 use vault_values::fault::LineFault;
 
 /// The longest text of a line's member that is shown.
 const LONGEST: usize = 1_024;
 
-/// Appends a member of a line that is a whole number, or a text that isn't long. The error is want of memory.
+/// Appends a member of a line that is a whole number, or a text that isn't long. The error is out of memory.
 fn push_value(alloc: Global, out: &mut String, name: &str, value: &Value) -> Result<(), AllocError>
     ensures { OnOk result (string_bytes out.new ≡ string_bytes out.old ++ spec.found_member name.now (Some (view value.now))) }
 {
@@ -31,7 +31,7 @@ fn push_value(alloc: Global, out: &mut String, name: &str, value: &Value) -> Res
     }
 }
 
-/// Appends the member of that name, where it is there. The error is want of memory.
+/// Appends the member of that name, where it is there. The error is out of memory.
 fn push_member(
     alloc: Global,
     out: &mut String,
@@ -58,7 +58,7 @@ fn push_asker(alloc: Global, out: &mut String, object: &Value) -> Result<(), All
     push_member(alloc, out, object, "caller")
 }
 
-/// Appends those that say of which entries. The error is want of memory.
+/// Appends those that say of which entries. The error is out of memory.
 #[tactic(auto, unfolding(crate::specs::Asked::place_members))]
 fn push_place(alloc: Global, out: &mut String, object: &Value) -> Result<(), AllocError>
     ensures { OnOk result (string_bytes out.new ≡ string_bytes out.old ++ spec.place_members (view object.now)) }
@@ -69,7 +69,7 @@ fn push_place(alloc: Global, out: &mut String, object: &Value) -> Result<(), All
     push_member(alloc, out, object, "batch")
 }
 
-/// Appends the members of a line that name what is asked for, and by whom. The error is want of memory.
+/// Appends the members of a line that name what is asked for, and by whom. The error is out of memory.
 fn push_object(alloc: Global, out: &mut String, object: &Value) -> Result<(), AllocError>
     ensures { OnOk result (string_bytes out.new ≡ string_bytes out.old ++ spec.object_members (view object.now)) }
 {
@@ -78,7 +78,7 @@ fn push_object(alloc: Global, out: &mut String, object: &Value) -> Result<(), Al
 }
 
 /// Appends the members of a line that name what is asked for, and by whom; nothing where the line isn't JSON. The error
-/// is want of memory.
+/// is out of memory.
 pub(crate) fn push_line(alloc: Global, out: &mut String, line: &[u8]) -> Result<(), AllocError>
     ensures { OnOk result (string_bytes out.new ≡ string_bytes out.old ++ spec.line_members line.now) }
 {
@@ -116,7 +116,7 @@ fn shown_target(is_understood: bool, target: &[u8]) -> &[u8]
     }
 }
 
-/// Appends who asks, if the head says it. The error is want of memory.
+/// Appends who asks, if the head says it. The error is out of memory.
 fn push_caller(alloc: Global, out: &mut String, caller: Option<&[u8]>) -> Result<(), AllocError>
     ensures { OnOk result (string_bytes out.new ≡ string_bytes out.old ++ spec.caller_member (option_copied caller.entry)) }
 {
@@ -126,7 +126,7 @@ fn push_caller(alloc: Global, out: &mut String, caller: Option<&[u8]>) -> Result
     }
 }
 
-/// Appends the caller, the method and the target of a head, where they lie in its bytes. The error is want of memory.
+/// Appends the caller, the method and the target of a head, where they lie in its bytes. The error is out of memory.
 #[tactic(auto, unfolding(crate::specs::Asked::request_members))]
 fn push_head(
     alloc: Global,
@@ -151,7 +151,7 @@ fn push_head(
 /// don't.
 ///
 /// The query is shown where the request was understood: another one may have what is nobody's business, as a signature.
-/// The error is want of memory.
+/// The error is out of memory.
 pub(crate) fn push_request(
     alloc: Global,
     out: &mut String,

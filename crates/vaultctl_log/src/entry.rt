@@ -90,7 +90,7 @@ fn trouble_name(trouble: Trouble) -> &'static str
     }
 }
 
-/// Appends when it was taken, where the clock showed a moment. The error is want of memory.
+/// Appends when it was taken, where the clock showed a moment. The error is out of memory.
 fn push_moment(alloc: Global, out: &mut String, moment: Option<Moment>) -> Result<(), AllocError>
     ensures { OnOk result (string_bytes out.new ≡ string_bytes out.old ++ spec.moment_member moment) }
 {
@@ -101,7 +101,7 @@ fn push_moment(alloc: Global, out: &mut String, moment: Option<Moment>) -> Resul
     push_text(alloc, out, "at", text.as_str())
 }
 
-/// The beginning of a line: by which door it came, and when. The error is want of memory.
+/// The beginning of a line: by which door it came, and when. The error is out of memory.
 #[tactic(auto, unfolding(crate::specs::Line::begun))]
 fn begun(alloc: Global, facts: &Facts) -> Result<String, AllocError>
     ensures { IfOk result (λ text. string_bytes text ≡ spec.begun facts.now) }
@@ -123,7 +123,7 @@ fn is_understood(digits: Option<&[u8]>) -> bool
     }
 }
 
-/// Appends what is shown of what was asked. The error is want of memory.
+/// Appends what is shown of what was asked. The error is out of memory.
 fn push_asked(
     alloc: Global,
     out: &mut String,
@@ -139,7 +139,7 @@ fn push_asked(
     }
 }
 
-/// Appends what was answered. The error is want of memory.
+/// Appends what was answered. The error is out of memory.
 fn push_answered(
     alloc: Global,
     out: &mut String,
@@ -184,7 +184,7 @@ fn trouble_of(entry: &Entry<'_>) -> Option<Trouble>
     }
 }
 
-/// Appends what kept it from its end, or else what was answered. The error is want of memory.
+/// Appends what kept it from its end, or else what was answered. The error is out of memory.
 fn push_result(
     alloc: Global,
     out: &mut String,
@@ -200,7 +200,7 @@ fn push_result(
     }
 }
 
-/// Appends how many bytes came and went and how long it took, and ends the line. The error is want of memory.
+/// Appends how many bytes came and went and how long it took, and ends the line. The error is out of memory.
 #[tactic(auto, unfolding(crate::specs::Line::counted))]
 fn push_counted(alloc: Global, out: &mut String, facts: &Facts) -> Result<(), AllocError>
     ensures { OnOk result (string_bytes out.new ≡ string_bytes out.old ++ spec.counted facts.now) }
@@ -211,7 +211,7 @@ fn push_counted(alloc: Global, out: &mut String, facts: &Facts) -> Result<(), Al
     out.push_str("}\n")
 }
 
-/// The line of an entry: an object of JSON, in whose texts no byte ends a line. The error is want of memory.
+/// The line of an entry: an object of JSON, in whose texts no byte ends a line. The error is out of memory.
 pub fn line_of(alloc: Global, entry: &Entry<'_>) -> Result<String, AllocError>
     ensures { IfOk result (λ text. spec.IsLine entry.now.facts entry.now.asked.now entry.now.answered.now (string_bytes text)) }
 {

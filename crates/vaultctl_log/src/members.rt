@@ -6,7 +6,7 @@ ghost use Rattle.vaultctl_log.specs.Members as spec;
 use serde_json::json;
 use std::alloc::{AllocError, Global};
 
-/// A text as JSON has it, in quotes. The error is want of memory.
+/// A text as JSON has it, in quotes. The error is out of memory.
 #[tactic(auto, unfolding(crate::specs::Members::quoted))]
 pub(crate) fn quoted(alloc: Global, text: &str) -> Result<String, AllocError>
     ensures { IfOk result (λ made. string_bytes made ≡ spec.quoted text.now) }
@@ -15,7 +15,7 @@ pub(crate) fn quoted(alloc: Global, text: &str) -> Result<String, AllocError>
     value.to_string(alloc)
 }
 
-/// Appends a comma, the name of a member, and a colon. The error is want of memory.
+/// Appends a comma, the name of a member, and a colon. The error is out of memory.
 pub(crate) fn push_name(out: &mut String, name: &str) -> Result<(), AllocError>
     ensures { OnOk result (string_bytes out.new ≡ string_bytes out.old ++ spec.named name.now) }
 {
@@ -24,7 +24,7 @@ pub(crate) fn push_name(out: &mut String, name: &str) -> Result<(), AllocError>
     out.push_str("\":")
 }
 
-/// Appends a member that is a text. The error is want of memory.
+/// Appends a member that is a text. The error is out of memory.
 #[tactic(auto, unfolding(crate::specs::Members::text_member))]
 pub(crate) fn push_text(
     alloc: Global,
@@ -39,7 +39,7 @@ pub(crate) fn push_text(
     out.push_str(value.as_str())
 }
 
-/// Appends a member that is a text of these bytes, those of which that are none replaced. The error is want of memory.
+/// Appends a member that is a text of these bytes, those of which that are none replaced. The error is out of memory.
 pub(crate) fn push_bytes(
     alloc: Global,
     out: &mut String,
@@ -52,7 +52,7 @@ pub(crate) fn push_bytes(
     push_text(alloc, out, name, text.as_str())
 }
 
-/// Appends a member that is a number. The error is want of memory.
+/// Appends a member that is a number. The error is out of memory.
 #[tactic(auto, unfolding(crate::specs::Members::number_member))]
 pub(crate) fn push_number(
     alloc: Global,

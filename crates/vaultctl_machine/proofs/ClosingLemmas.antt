@@ -12,7 +12,7 @@ use Rattle.sqlite.specs.Files.{HoldsDatabase, file_state, over_files}
 use Rattle.sqlite.specs.Held.{Held}
 use Rattle.sqlite.specs.State.{HasCleanDisk}
 use Rattle.vault_core_model.specs.Vault.{Vault}
-use Rattle.vault_audit_model.specs.Editions.{newest}
+use Rattle.vault_audit_model.specs.SchemaVersions.{newest}
 use Rattle.vault_audit_model.specs.Spells.{AreSoundAs}
 use Rattle.vault_store.specs.Kept.{StandsFor}
 use Rattle.vault_store.specs.VaultOf.{vault_of}

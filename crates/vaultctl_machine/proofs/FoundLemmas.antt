@@ -10,9 +10,9 @@ use Rattle.sqlite_value.specs.Order.{column}
 use Rattle.sqlite_wal.specs.Recovery.{Image}
 use Rattle.vault_core_model.specs.Vault.{Vault}
 use Rattle.vault_audit_laws.proofs.Uniqueness.{same_vault_as}
-use Rattle.vault_audit_model.specs.declared.schema.Edition.{Edition}
-use Rattle.vault_audit_model.specs.declared.schema.Edition.TheVariants.{First, Second, Third}
-use Rattle.vault_audit_model.specs.Editions.{number_of}
+use Rattle.vault_audit_model.specs.declared.schema.SchemaVersion.{SchemaVersion}
+use Rattle.vault_audit_model.specs.declared.schema.SchemaVersion.TheVariants.{First, Second, Third}
+use Rattle.vault_audit_model.specs.SchemaVersions.{number_of}
 use Rattle.vault_audit_model.specs.Rows.{meta_columns_as}
 use Rattle.vault_audit_model.specs.Spells.{AreSoundAs}
 use Rattle.vault_audit_model.specs.Tables.{meta_tree}
@@ -24,31 +24,31 @@ pub was_clean : (old new : State) (Commits : Trees → Type 0) → Survives old 
 was_clean old new Commits is clean = omega (arith, is.clean, clean)
 
 -- tables that were only read were sound before
-pub was_sound : (n : Edition) (old new : State) (v : Vault) → IsUnchanged old new → AreSoundAs n new.now v → AreSoundAs n old.now v
+pub was_sound : (n : SchemaVersion) (old new : State) (v : Vault) → IsUnchanged old new → AreSoundAs n new.now v → AreSoundAs n old.now v
 was_sound n old new v same sound = subst (λ db. AreSoundAs n db v) same.0.now_is sound
 
--- ---- tables are of one edition, by its number
+-- ---- tables are of one schema version, by its number
 
-abbrev edition_at : ℕ → Edition
-edition_at n = get_or (First ∷ First ∷ Second ∷ Third ∷ []) n Third
+abbrev schema_version_at : ℕ → SchemaVersion
+schema_version_at n = get_or (First ∷ First ∷ Second ∷ Third ∷ []) n Third
 
-numbered_back : (n : Edition) → edition_at (number_of n) ≡ n
+numbered_back : (n : SchemaVersion) → schema_version_at (number_of n) ≡ n
 numbered_back First = refl
 numbered_back Second = refl
 numbered_back Third = refl
 
-number_stated : (n : Edition) (trees : Trees) (v : Vault) → AreTreesAs n v trees → map (λ r. column r 2) (trees meta_tree) ≡ number (number_of n) ∷ []
+number_stated : (n : SchemaVersion) (trees : Trees) (v : Vault) → AreTreesAs n v trees → map (λ r. column r 2) (trees meta_tree) ≡ number (number_of n) ∷ []
 number_stated n trees v is =
     one_permutation (number (number_of n)) _
     (subst (IsPermutation (number (number_of n) ∷ [])) (map-map (λ row. column row 1) (meta_columns_as n) (trees meta_tree)) (IsPermutation-map (λ row. column row 1) _ _ is.spells.meta))
 
-one_edition : (n m : Edition) (trees : Trees) (v w : Vault) → AreTreesAs n v trees → AreTreesAs m w trees → n ≡ m
-one_edition n m trees v w first second =
+one_schema_version : (n m : SchemaVersion) (trees : Trees) (v w : Vault) → AreTreesAs n v trees → AreTreesAs m w trees → n ≡ m
+one_schema_version n m trees v w first second =
     let stated = sym (number_stated n trees v first) ∙ number_stated m trees w second in
     let same : number_of n ≡ number_of m = cc stated in
-    sym (numbered_back n) ∙ ap edition_at same ∙ numbered_back m
+    sym (numbered_back n) ∙ ap schema_version_at same ∙ numbered_back m
 
-module _ (n : Edition) (image : Image) (s : State) (v : Vault) (opens : Opens s) (found : FindsIn image s) (sound : AreSoundAs n s.now v) where
+module _ (n : SchemaVersion) (image : Image) (s : State) (v : Vault) (opens : Opens s) (found : FindsIn image s) (sound : AreSoundAs n s.now v) where
   -- the tables that were found are those that were looked at
   spelled : AreTreesAs n v s.committed.trees
   spelled =
@@ -62,21 +62,21 @@ module _ (n : Edition) (image : Image) (s : State) (v : Vault) (opens : Opens s)
   found_earlier (inl is) = inl (subst (λ m. IsFoundAs m image v) is found_in_files)
   found_earlier (inr is) = inr (subst (λ m. IsFoundAs m image v) is found_in_files)
 
-  pub held_in_files : (m : Edition) (w : Vault) → IsHeldAs m image w → v ≡ w
+  pub held_in_files : (m : SchemaVersion) (w : Vault) → IsHeldAs m image w → v ≡ w
   held_in_files m w held =
       let trees = s.committed.trees in
       let is : AreTreesAs m w trees = subst (AreTreesAs m w) (sym (found.holds held.0 held.1)) held.2 in
-      let same = one_edition n m trees v w spelled is in
+      let same = one_schema_version n m trees v w spelled is in
       let there : AreTreesAs n w trees = subst (λ k. AreTreesAs k w trees) (sym same) is in
       same_vault_as n _ v w spelled.spells there.spells
 
--- ---- the same of tables of one of the two earlier editions
+-- ---- the same of tables of one of the two earlier schema versions
 
 module _ (image : Image) (s : State) (v : Vault) (opens : Opens s) (found : FindsIn image s) where
   pub found_of_earlier : AreSoundEarlier s.now v → IsFoundEarlier image v
   found_of_earlier (inl sound) = found_earlier First image s v opens found sound (inl refl)
   found_of_earlier (inr sound) = found_earlier Second image s v opens found sound (inr refl)
 
-  pub held_of_earlier : AreSoundEarlier s.now v → (m : Edition) (w : Vault) → IsHeldAs m image w → v ≡ w
+  pub held_of_earlier : AreSoundEarlier s.now v → (m : SchemaVersion) (w : Vault) → IsHeldAs m image w → v ≡ w
   held_of_earlier (inl sound) = held_in_files First image s v opens found sound
   held_of_earlier (inr sound) = held_in_files Second image s v opens found sound

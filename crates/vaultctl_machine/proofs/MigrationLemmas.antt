@@ -8,8 +8,8 @@ use Rattle.vault_base.specs.declared.refusal.Refusal.{Refusal}
 use Rattle.vault_base.specs.declared.refusal.Refusal.TheVariants.{Damaged, Device}
 use Rattle.vault_base.specs.declared.refusal.Table.{Table}
 use Rattle.vault_core_model.specs.Vault.{Vault}
-use Rattle.vault_audit_model.specs.declared.schema.Edition.{Edition}
-use Rattle.vault_audit_model.specs.declared.schema.Edition.TheVariants.{First, Second}
+use Rattle.vault_audit_model.specs.declared.schema.SchemaVersion.{SchemaVersion}
+use Rattle.vault_audit_model.specs.declared.schema.SchemaVersion.TheVariants.{First, Second}
 use Rattle.vault_audit_model.specs.Spells.{AreSoundAs}
 use Rattle.vault_audit_model.specs.Tables.{schema_of}
 use Rattle.vault_store.specs.Migrated.{RefusesItsRow}
@@ -31,14 +31,14 @@ pub new_was_clean : {K C : Type 0} (r : Result K (Refusal × C)) (old : State) (
 new_was_clean (Ok k) old new Commits is = tt
 new_was_clean (Err e) old new Commits is = was_clean old (new e.1) Commits is
 
--- ---- of which edition tables are reported to be
+-- ---- of which schema version tables are reported to be
 
-module _ (n : Edition) (db : Database) where
+module _ (n : SchemaVersion) (db : Database) where
   sound_as : (v : Vault) → (n ≡ First) ⊎ (n ≡ Second) → AreSoundAs n db v → AreSoundEarlier db v
   sound_as v (inl is) sound = inl (subst (λ m. AreSoundAs m db v) is sound)
   sound_as v (inr is) sound = inr (subst (λ m. AreSoundAs m db v) is sound)
 
-  -- where tables are sound as those of that edition, they are as those of an earlier one
+  -- where tables are sound as those of that schema version, they are as those of an earlier one
   pub kept_is_earlier : {K E : Type 0} (Clean : Type 0) (IsClean : K → Type 0) (kept : K → Vault) (r : Result K E) → (n ≡ First) ⊎ (n ≡ Second)
       → IfOk r (λ k. Clean → IsClean k → AreSoundAs n db (kept k)) → IfOk r (λ k. Clean → IsClean k → AreSoundEarlier db (kept k))
   kept_is_earlier Clean IsClean kept (Ok k) earlier is = λ old new. sound_as (kept k) earlier (is old new)
@@ -52,13 +52,13 @@ module _ (n : Edition) (db : Database) where
       let it = is one two stated in
       (it.0, sound_as it.0 earlier it.1, it.2)
 
--- where the edition is reported by the schema, tables that are sound as those of an earlier one are sound as those of that one
-pub sound_as_stated : (n : Edition) (db : Database) (v : Vault) → (db.schema ≡ schema_of First → n ≡ First) → (db.schema ≡ schema_of Second → n ≡ Second) → AreSoundEarlier db v → AreSoundAs n db v
+-- where the schema version is reported by the schema, tables that are sound as those of an earlier one are sound as those of that one
+pub sound_as_stated : (n : SchemaVersion) (db : Database) (v : Vault) → (db.schema ≡ schema_of First → n ≡ First) → (db.schema ≡ schema_of Second → n ≡ Second) → AreSoundEarlier db v → AreSoundAs n db v
 sound_as_stated n db v first second (inl sound) = subst (λ m. AreSoundAs m db v) (sym (first sound.spells.schema)) sound
 sound_as_stated n db v first second (inr sound) = subst (λ m. AreSoundAs m db v) (sym (second sound.spells.schema)) sound
 
 -- so none of them is reported as damaged
-pub never_damaged : {K C : Type 0} (n : Edition) (db : Database) (Clean : Type 0) (v : Vault) (r : Result K (Refusal × C)) → AreSoundAs n db v
+pub never_damaged : {K C : Type 0} (n : SchemaVersion) (db : Database) (Clean : Type 0) (v : Vault) (r : Result K (Refusal × C)) → AreSoundAs n db v
     → IfErr r (λ e. Clean → (t : Table) → e.0 ≡ Damaged t → (w : Vault) → ¬ AreSoundAs n db w) → IfErr r (λ e. Clean → (t : Table) → ¬ (e.0 ≡ Damaged t))
 never_damaged n db Clean v (Ok k) sound is = tt
 never_damaged n db Clean v (Err e) sound is = λ clean t same. is clean t same v sound

@@ -8,9 +8,9 @@ use Rattle.sqlite.specs.Effect.{Database, IsDatabase}
 use Rattle.sqlite.specs.Start.{FindsIn}
 use Rattle.sqlite.specs.State.{State, HasCleanDisk, IsLive, Opens, Survives}
 use Rattle.vault_audit.specs.Health.{IsHealthy}
-use Rattle.vault_audit_model.specs.declared.schema.Edition.{Edition}
-use Rattle.vault_audit_model.specs.declared.schema.Edition.TheVariants.{First, Second}
-use Rattle.vault_audit_model.specs.Editions.{newest}
+use Rattle.vault_audit_model.specs.declared.schema.SchemaVersion.{SchemaVersion}
+use Rattle.vault_audit_model.specs.declared.schema.SchemaVersion.TheVariants.{First, Second}
+use Rattle.vault_audit_model.specs.SchemaVersions.{newest}
 use Rattle.vault_audit_model.specs.Spells.{AreSound, AreSoundAs}
 use Rattle.vault_audit_model.specs.Tables.{no_schema, schema_of}
 use Rattle.vault_base.specs.declared.refusal.Refusal.{Refusal}
@@ -57,7 +57,7 @@ both_close_as old new none uncopied source target P x r is closed closed_new hol
 
 module _ (image : Image) (s : State) (opens : Opens s) (live : IsLive s) (finds : FindsIn image s) where
   -- the database of files has one schema, which it lists
-  pub whole_is_sound : (n : Edition) (v : Vault) → IsWholeAs n image v → AreSoundAs n s.now v
+  pub whole_is_sound : (n : SchemaVersion) (v : Vault) → IsWholeAs n image v → AreSoundAs n s.now v
   whole_is_sound n v whole =
       let trees = s.committed.trees in
       let it : AreTreesAs n v trees × IsDatabase (record { schema = schema_of n; trees = trees }) =
@@ -75,7 +75,7 @@ module _ (image : Image) (old new : State) (r : Refusal) (opened : HasCleanDisk 
         damaged clean t is v (whole_is_sound image old it.0 it.1 (finds before) newest v whole);
   }
 
-  -- the same of tables of an earlier edition
+  -- the same of tables of an earlier schema version
   earlier_is_sound : HasCleanDisk old → (v : Vault) → IsWholeAs First image v ⊎ IsWholeAs Second image v → AreSoundEarlier old.now v
   earlier_is_sound clean v (inl whole) = inl (whole_is_sound image old (opened clean).0 (opened clean).1 (finds clean) First v whole)
   earlier_is_sound clean v (inr whole) = inr (whole_is_sound image old (opened clean).0 (opened clean).1 (finds clean) Second v whole)

@@ -37,7 +37,7 @@ pub record IsCarriedOn (image : Image) (s : State) (Does : Vault → Vault → T
 abbrev pub Carries : {D : Type 0} {g : Ghosts D} → Image → List (Held (FileStore D g) × Bool) → List (Held (FileStore D g) × Bool) → (Vault → Vault → Type 0) → Type 0
 Carries image old new Does = Closes old new (λ conn. HasCleanDisk (file_state conn) → IsCarriedOn image (file_state conn) Does)
 
--- The vault of an earlier edition that was found in files that held this image was copied: both connections were closed, and the second one stood for that vault; if both disks returned what was written.
+-- The vault of an earlier schema version that was found in files that held this image was copied: both connections were closed, and the second one stood for that vault; if both disks returned what was written.
 abbrev pub Copies : {D E : Type 0} {g : Ghosts D} {h : Ghosts E} → Image → List (Held (FileStore D g) × Bool) → List (Held (FileStore D g) × Bool)
     → List (Held (FileStore E h) × Bool) → List (Held (FileStore E h) × Bool) → Type 0
 Copies image old new none copies =

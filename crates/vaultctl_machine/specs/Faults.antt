@@ -40,7 +40,7 @@ is_failure Full = true
 is_failure Failed = true
 is_failure _ = false
 
--- a failure of the disk that is seen is reported as one, and never as want of memory or a damage
+-- a failure of the disk that is seen is reported as one, and never as out of memory or a damage
 abbrev pub ReportsFailure : OpenError → Type 0
 ReportsFailure (Seen seen refusal) = IsTrue (is_failure seen) → refusal ≡ Device
 ReportsFailure _ = ⊤

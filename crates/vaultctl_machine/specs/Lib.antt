@@ -1,7 +1,7 @@
 pub mod Closings
-pub mod Editions
+pub mod SchemaVersions
 pub mod Files
-pub mod Given
+pub mod VaultCounts
 pub mod Openings
 pub mod Places
 pub mod Refusals

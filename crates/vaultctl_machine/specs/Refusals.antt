@@ -9,8 +9,8 @@ use Rattle.vault_base.specs.declared.refusal.Table.{Table}
 use Rattle.vault_core_model.specs.Vault.{Vault}
 use Rattle.vault_audit.specs.Health.{IsHealthy}
 use Rattle.vault_audit.specs.Whole.{IsReported}
-use Rattle.vault_audit_model.specs.declared.schema.Edition.TheVariants.{First, Second}
-use Rattle.vault_audit_model.specs.Editions.{newest}
+use Rattle.vault_audit_model.specs.declared.schema.SchemaVersion.TheVariants.{First, Second}
+use Rattle.vault_audit_model.specs.SchemaVersions.{newest}
 use Rattle.vault_audit_model.specs.Tables.{no_schema}
 use Rattle.vault_store.specs.Copied.{RefusesARow}
 use Rattle.vault_store.specs.Create.{IsFault}
@@ -19,7 +19,7 @@ use Rattle.vaultctl_machine.specs.Faults.{ReportsFailure, refusal_of}
 use Rattle.vaultctl_machine.specs.Files.{AreSoundEarlier, IsFoundEarlier, IsWholeAs}
 use Rattle.vaultctl_machine.specs.declared.open_error.OpenError.{OpenError}
 
--- a making is refused where something is there already, or for want of memory, or by the device
+-- a making is refused where something is there already, or where memory runs out, or by the device
 abbrev pub IsUnmade : Refusal → Type 0
 IsUnmade r = r ≢ NameTaken → IsFault r
 
@@ -47,11 +47,11 @@ pub record IsRefusedOver (image : Image) (s : State) (r : Refusal) : Type 0 wher
   -- nor are files that hold a sound vault reported as damaged
   pub damaged : HasCleanDisk s → (t : Table) → r ≡ Damaged t → (v : Vault) → ¬ IsWholeAs newest image v
 
--- a vault of an earlier edition was looked at in files that held this, and wasn't copied: it isn't reported as damaged where it is sound
+-- a vault of an earlier schema version was looked at in files that held this, and wasn't copied: it isn't reported as damaged where it is sound
 pub record IsUncopiedFrom (image : Image) (s : State) (r : Refusal) : Type 0 where
   pub damaged : HasCleanDisk s → (t : Table) → r ≡ Damaged t → (v : Vault) → ¬ (IsWholeAs First image v ⊎ IsWholeAs Second image v)
 
--- tables of an earlier edition are sound for a vault, of which a copy is refused for one of its rows
+-- tables of an earlier schema version are sound for a vault, of which a copy is refused for one of its rows
 abbrev pub RefusesItsRowEarlier : Database → Type 0
 RefusesItsRowEarlier db = (v : Vault) × AreSoundEarlier db v × RefusesARow v
 

@@ -2,8 +2,8 @@
 #![tactic(auto)]
 
 pub mod crashes;
-mod editions;
-pub mod given;
+mod schema_versions;
+pub mod vault_counts;
 mod looks;
 pub mod migration;
 pub mod open_error;

@@ -1,4 +1,4 @@
-//! Vaults of an earlier edition, copied into new files.
+//! Vaults of an earlier schema version, copied into new files.
 ghost use Rattle.std.specs.Prelude.{◌≡◌, ◌≢◌, ◌∷◌, ◌++◌, [], true, false, IfOk, IfErr, OnOk, OnErr};
 ghost use Rattle.sqlite.specs.Files.{file_state, over_files, IsOpened};
 ghost use Rattle.sqlite.specs.Held.{state};
@@ -6,7 +6,7 @@ ghost use Rattle.sqlite.specs.Start.{FindsIn};
 ghost use Rattle.sqlite.specs.State.{HasCleanDisk};
 ghost use Rattle.sqlite_wal.specs.Files.{image_at};
 ghost use Rattle.vault_audit.specs.Health.{IsHealthy};
-ghost use Rattle.vault_audit_model.specs.declared.schema.Edition.{Edition};
+ghost use Rattle.vault_audit_model.specs.declared.schema.SchemaVersion.{SchemaVersion};
 ghost use Rattle.vault_audit_model.specs.Spells.{AreSound, AreSoundAs};
 ghost use Rattle.vault_base.specs.declared.refusal.Table.{Table};
 ghost use Rattle.vault_core_model.specs.Vault.{Vault};
@@ -16,11 +16,11 @@ ghost use Rattle.vault_store.specs.VaultOf.{vault_of};
 ghost use Rattle.vaultctl_machine.specs.Closings.{Closes};
 ghost use Rattle.vaultctl_machine.specs.Faults.{ReportsFailure, refusal_of};
 ghost use Rattle.vaultctl_machine.specs.Files.{AreSoundEarlier, IsFoundEarlier, IsHeldAs};
-ghost use Rattle.vaultctl_machine.specs.Given.{with_copied};
+ghost use Rattle.vaultctl_machine.specs.VaultCounts.{with_copied};
 ghost use Rattle.vaultctl_machine.specs.Places.{after_a_look};
 ghost use Rattle.vaultctl_machine.specs.Refusals.{FailsForItsRow, IsUncopied, IsUncopiedFrom, LetsBothGo, LetsGo, RefusesItsRowEarlier, Reports};
 
-use crate::editions::{edition_of, why_uncopied};
+use crate::schema_versions::{schema_version_of, why_uncopied};
 use crate::looks::{is_one_file, looked_at};
 use crate::open_error::OpenError;
 use crate::starts::Starts;
@@ -31,7 +31,7 @@ use crate::vaults::{
 use http_server::Log;
 use sqlite::{Alter, Connection, Start};
 use std::alloc::Global;
-use vault_audit_model::schema::Edition;
+use vault_audit_model::schema::SchemaVersion;
 use vault_base::refusal::Refusal;
 use vault_store::sql_keeper::SqlKeeper;
 use vaultctl_machine_places::cause::Cause;
@@ -50,13 +50,13 @@ struct Copied<O: Alter, S: Alter> {
     outcome: Result<SqlKeeper<S>, (Refusal, Connection<S>)>,
 }
 
-/// Copies the vault of one connection, whose tables are of that edition, into another, over any stores.
+/// Copies the vault of one connection, whose tables are of that schema version, into another, over any stores.
 ///
 /// The errors are those of `SqlKeeper::migrate`.
 fn copy<O: Alter, S: Alter>(
     alloc: Global,
     source: Connection<O>,
-    edition: Edition,
+    schema_version: SchemaVersion,
     new: Connection<S>,
 ) -> Copied<O, S>
     ensures clean { HasCleanDisk (state O.Store result.source) → HasCleanDisk (state O.Store source) }
@@ -64,19 +64,19 @@ fn copy<O: Alter, S: Alter>(
     ensures reported { IfErr result.outcome (λ e. IsUncopied e.0) }
     // The tables that were found spell the vault of the keeper, and so do the new ones.
     ensures found { IfOk result.outcome (λ k. HasCleanDisk (state O.Store result.source) → HasCleanDisk (state S.Store k.conn)
-        → AreSoundAs edition (state O.Store source).now (vault_of S.Store k)) }
+        → AreSoundAs schema_version (state O.Store source).now (vault_of S.Store k)) }
     ensures sound { IfOk result.outcome (λ k. HasCleanDisk (state S.Store k.conn) → AreSound (state S.Store k.conn).now (vault_of S.Store k)) }
-    ensures damaged { IfErr result.outcome (λ e. HasCleanDisk (state O.Store result.source) → (t : Table) → e.0 ≡ Refusal.Damaged t → (v : Vault) → ¬ AreSoundAs edition (state O.Store source).now v) }
+    ensures damaged { IfErr result.outcome (λ e. HasCleanDisk (state O.Store result.source) → (t : Table) → e.0 ≡ Refusal.Damaged t → (v : Vault) → ¬ AreSoundAs schema_version (state O.Store source).now v) }
     // Two stores that work are reported as failed only where the tables of the copy refuse a row.
     ensures refused { source.in_transaction ≡ false → new.in_transaction ≡ false
-        → IfErr result.outcome (λ e. IsHealthy (state O.Store result.source) → IsHealthy (state S.Store e.1) → e.0 ≡ Refusal.Device → RefusesItsRow edition (state O.Store source).now) }
+        → IfErr result.outcome (λ e. IsHealthy (state O.Store result.source) → IsHealthy (state S.Store e.1) → e.0 ≡ Refusal.Device → RefusesItsRow schema_version (state O.Store source).now) }
 {
     let mut source = source;
-    let outcome = SqlKeeper::migrate(alloc, &mut source, edition, new);
+    let outcome = SqlKeeper::migrate(alloc, &mut source, schema_version, new);
     Copied { source, outcome }
 }
 
-/// The same of tables of one of the two earlier editions, which their columns say.
+/// The same of tables of one of the two earlier schema versions, which their columns say.
 fn copy_earlier<O: Alter, S: Alter>(
     alloc: Global,
     source: Connection<O>,
@@ -94,8 +94,8 @@ fn copy_earlier<O: Alter, S: Alter>(
     ensures refused { source.in_transaction ≡ false → new.in_transaction ≡ false
         → IfErr result.outcome (λ e. IsHealthy (state O.Store result.source) → IsHealthy (state S.Store e.1) → e.0 ≡ Refusal.Device → RefusesItsRowEarlier (state O.Store source).now) }
 {
-    let edition = edition_of(source.schema());
-    copy(alloc, source, edition, new)
+    let schema_version = schema_version_of(source.schema());
+    copy(alloc, source, schema_version, new)
 }
 
 /// The same into a file. Each function names one store of files alone: to name both at once takes more steps than the
@@ -157,7 +157,7 @@ fn copy_into<A: Start, B: Start>(
     ensures sound { IfOk result (λ m. HasCleanDisk (file_state m.vault.conn) → AreSound (file_state m.vault.conn).now (vault_of over_files m.vault)) }
     ensures found { IfOk result (λ m. HasCleanDisk (file_state m.source) → HasCleanDisk (file_state m.vault.conn)
         → IsFoundEarlier (image_at A.Start) (vault_of over_files m.vault)) }
-    ensures held { (n : Edition) (v : Vault) → IsHeldAs n (image_at A.Start) v → IfOk result (λ m. HasCleanDisk (file_state m.source) → HasCleanDisk (file_state m.vault.conn)
+    ensures held { (n : SchemaVersion) (v : Vault) → IsHeldAs n (image_at A.Start) v → IfOk result (λ m. HasCleanDisk (file_state m.source) → HasCleanDisk (file_state m.vault.conn)
         → vault_of over_files m.vault ≡ v) }
     ensures reported { IfErr result (Reports IsUncopied) }
     ensures lost { IfErr result (λ e. Closes lost.old.items lost.new.items (λ conn. IsUncopiedFrom (image_at A.Start) (file_state conn) (refusal_of e))) }
@@ -216,7 +216,7 @@ fn copy_at<A: Start, B: Start>(
     ensures sound { IfOk result (λ m. HasCleanDisk (file_state m.vault.conn) → AreSound (file_state m.vault.conn).now (vault_of over_files m.vault)) }
     ensures found { IfOk result (λ m. HasCleanDisk (file_state m.source) → HasCleanDisk (file_state m.vault.conn)
         → IsFoundEarlier (image_at A.Start) (vault_of over_files m.vault)) }
-    ensures held { (n : Edition) (v : Vault) → IsHeldAs n (image_at A.Start) v → IfOk result (λ m. HasCleanDisk (file_state m.source) → HasCleanDisk (file_state m.vault.conn)
+    ensures held { (n : SchemaVersion) (v : Vault) → IsHeldAs n (image_at A.Start) v → IfOk result (λ m. HasCleanDisk (file_state m.source) → HasCleanDisk (file_state m.vault.conn)
         → vault_of over_files m.vault ≡ v) }
     ensures reported { IfErr result (Reports IsUncopied) }
     ensures lost { IfErr result (λ e. LetsGo lost.old.items lost.new.items (λ conn. IsUncopiedFrom (image_at A.Start) (file_state conn) (refusal_of e))) }
@@ -252,11 +252,11 @@ fn copy_at<A: Start, B: Start>(
 }
 
 impl<'a, A: Start, B: Start> Machine<'a, VaultStore<A>, VaultStore<B>> {
-    /// Copies the vault in a file of the first or the second edition, at `old`, into a file at `new` that isn't there, is
+    /// Copies the vault in a file of the first or the second schema version, at `old`, into a file at `new` that isn't there, is
     /// empty, or is a store without a table. `starts` is what the two files and their logs hold.
     ///
     /// `Damaged` with the first table at `old` that isn't sound; with `meta` where no file is there, or where it is empty, of the
-    /// newest edition, or no store of tables whose rows keep its own schema. `NameTaken` where something is in the file at
+    /// newest schema version, or no store of tables whose rows keep its own schema. `NameTaken` where something is in the file at
     /// `new`, or changes may be in the log beside it. `Memory` where memory was refused. `InUse` where another program has
     /// the file at `old`. `Device` where a file can't be read or made, where somebody has the one at `new`, and where
     /// both are one file. With each of the errors the files are as they were, but for an
@@ -276,11 +276,11 @@ impl<'a, A: Start, B: Start> Machine<'a, VaultStore<A>, VaultStore<B>> {
         ensures found { IfOk result (λ m. HasCleanDisk (file_state m.source) → HasCleanDisk (file_state m.vault.conn)
             → IsFoundEarlier (image_at A.Start) (vault_of over_files m.vault)) }
         // Where these held a vault, it is that one.
-        ensures held { (n : Edition) (v : Vault) → IsHeldAs n (image_at A.Start) v → IfOk result (λ m. HasCleanDisk (file_state m.source) → HasCleanDisk (file_state m.vault.conn)
+        ensures held { (n : SchemaVersion) (v : Vault) → IsHeldAs n (image_at A.Start) v → IfOk result (λ m. HasCleanDisk (file_state m.source) → HasCleanDisk (file_state m.vault.conn)
             → vault_of over_files m.vault ≡ v) }
         // A failure of the disk that is seen is reported as one.
         ensures reported { IfErr result (Reports IsUncopied) }
-        // Files that hold a sound vault of an earlier edition aren't reported as damaged.
+        // Files that hold a sound vault of an earlier schema version aren't reported as damaged.
         ensures refused { IfErr result (λ e. LetsGo self.old.refused.items self.new.refused.items (λ conn. IsUncopiedFrom (image_at A.Start) (file_state conn) (refusal_of e))) }
         // Two stores that work are reported as a failed device only where the tables of the copy refuse a row of the vault.
         ensures healthy { IfErr result (λ e. LetsBothGo self.old.refused.items self.new.refused.items self.old.uncopied.items self.new.uncopied.items

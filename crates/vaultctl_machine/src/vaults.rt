@@ -23,13 +23,13 @@ ghost use Rattle.vaultctl_machine.specs.Closings.{Closes, HoldVault};
 ghost use Rattle.vaultctl_machine.specs.Faults as spec;
 ghost use Rattle.vaultctl_machine.specs.Faults.{ReportsFailure, refusal_of};
 ghost use Rattle.vaultctl_machine.specs.Files.{IsFoundIn, IsHeldIn};
-ghost use Rattle.vaultctl_machine.specs.Given.{with_made, with_opened};
+ghost use Rattle.vaultctl_machine.specs.VaultCounts.{with_made, with_opened};
 ghost use Rattle.vaultctl_machine.specs.Openings.{IsOpenedFrom};
 ghost use Rattle.vaultctl_machine.specs.Places.{after_a_look};
 ghost use Rattle.vaultctl_machine.specs.Refusals.{IsRefusedOver, IsUnmade, IsUnmadeOver, LetsGo, Reports};
 
-use crate::editions::why_unsound;
-use crate::given::Given;
+use crate::schema_versions::why_unsound;
+use crate::vault_counts::VaultCounts;
 use crate::looks::{cause_of_kind, looked_at};
 use crate::open_error::{OpenError, with_cause};
 use http_server::Log;
@@ -62,7 +62,7 @@ pub type FileVault<S> = SqlKeeper<VaultStore<S>>;
 pub struct Machine<'a, S: Alter, T: Alter> {
     pub(crate) rt: &'a HostRuntime,
     pub(crate) looked: u64,
-    pub(crate) given: Given,
+    pub(crate) given: VaultCounts,
     /// Those of the first vault, or of the one that was copied.
     pub(crate) closed: Log<Connection<S>, bool>,
     /// Those of the copies.
@@ -439,7 +439,7 @@ impl<'a, A: Start, B: Start> Machine<'a, VaultStore<A>, VaultStore<B>> {
         Machine {
             rt,
             looked: 0,
-            given: Given::none(),
+            given: VaultCounts::none(),
             closed: Log::new(),
             copies: Log::new(),
             refused: Log::new(),

@@ -119,7 +119,7 @@ fn begins_as_read(read: io::Result<usize>, first: &[u8]) -> io::Result<bool>
     }
 }
 
-/// Whether what a reader gives begins as a file that holds tables. The error is that it can't be read, or want of memory.
+/// Whether what a reader gives begins as a file that holds tables. The error is that it can't be read, or out of memory.
 fn begins_as_tables<R: Read + Drop>(alloc: Global, reader: R) -> io::Result<bool>
     ensures { IfOk result (λ begins. IfSome (R.remaining reader) (λ bytes. begins ≡ bytes_eq (take 16 bytes) spec.first_bytes)) }
 {
@@ -128,7 +128,7 @@ fn begins_as_tables<R: Read + Drop>(alloc: Global, reader: R) -> io::Result<bool
     begins_as_read(read, first.as_slice())
 }
 
-/// Whether a file begins as one that holds tables. The error is that it can't be read, or want of memory.
+/// Whether a file begins as one that holds tables. The error is that it can't be read, or out of memory.
 fn begins_well(rt: &HostRuntime, file: &str) -> io::Result<bool> {
     begins_as_tables(rt.alloc(), fs::open(rt, file)?)
 }

@@ -70,7 +70,7 @@ fn put_back<D: Disk>(file: &mut D, bytes: &[u8]) -> io::Result<()>
 }
 
 impl Before {
-    /// What two files hold, which are only read. The error is that one can't be read, or want of memory.
+    /// What two files hold, which are only read. The error is that one can't be read, or out of memory.
     pub fn of<D: Disk>(alloc: Global, files: &mut Files<D>) -> io::Result<Before>
         requires log { IsTrue (D.Disk.is_usable files.old.log) }
         requires db { IsTrue (D.Disk.is_usable files.old.db) }

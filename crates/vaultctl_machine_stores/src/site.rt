@@ -37,7 +37,7 @@ pub fn is_no_path(path: &str) -> bool
     path == ":memory:" || path.as_bytes().starts_with(b"file:")
 }
 
-/// The name of the log of a file. The error is want of memory.
+/// The name of the log of a file. The error is out of memory.
 fn log_of(rt: &HostRuntime, file: &str) -> io::Result<String> {
     Ok(format!(in rt.alloc(); "{file}-wal")?)
 }
@@ -84,7 +84,7 @@ impl<'a> Site<'a> {
         }
     }
 
-    /// What the file and its log are called. The error is that the file isn't there, or want of memory.
+    /// What the file and its log are called. The error is that the file isn't there, or out of memory.
     fn names(&self) -> io::Result<Names> {
         let file = fs::canonicalize(self.rt, self.path)?;
         let log = log_of(self.rt, file.as_str())?;

@@ -10,24 +10,24 @@ use Rattle.vault_base.specs.declared.refusal.Refusal.{Refusal}
 use Rattle.vault_core_model.specs.Vault.{Vault, opening}
 use Rattle.vault_store.specs.Kept.{StandsFor}
 use Rattle.vaultctl_commands.specs.Asked.{dept_of, caller_of, bucket_of, move_bucket_of, intake_of, run_of, report_of, certificate_of, events_of, seal_of}
-use Rattle.vaultctl_commands.specs.declared.asked.Asked.{Asked}
+use Rattle.vaultctl_commands.specs.declared.asked.AskedCommand.{AskedCommand}
 use Rattle.vaultctl_commands.specs.declared.outcome.Outcome.TheVariants.{Done}
 use Rattle.vaultctl_job.specs.declared.job.Job.{Job}
 use Rattle.vaultctl_job.specs.declared.job.Job.TheVariants as job
 use Rattle.vaultctl_machine.specs.Closings.{Carries, Closes, Copies}
-use Rattle.vaultctl_machine.specs.Given.{with_copied, with_made, with_opened}
-use Rattle.vaultctl_machine.specs.declared.given.Given.{Given}
+use Rattle.vaultctl_machine.specs.VaultCounts.{with_copied, with_made, with_opened}
+use Rattle.vaultctl_machine.specs.declared.vault_counts.VaultCounts.{VaultCounts}
 use Rattle.vaultctl_work.specs.Done.{IsAnswered, IsIntakeDone, IsJudgedDone, IsSealDone, IsServed, IsStepDone}
 use Rattle.vaultctl_work.specs.Scene.{scene}
 use Rattle.vaultctl_perform.specs.Replay.{AnswersFromNew}
 
 -- a script without a file has a vault in memory
-abbrev pub given_for : Option (List ℕ) → Given → Given
+abbrev pub given_for : Option (List ℕ) → VaultCounts → VaultCounts
 given_for None given = given
 given_for (Some file) given = with_opened given
 
 -- how many vaults were given out after the job
-abbrev pub given_by : Job → Given → Given
+abbrev pub given_by : Job → VaultCounts → VaultCounts
 given_by (job.Init j) given = with_made given
 given_by (job.Migrate j) given = with_copied given
 given_by (job.Replay j) given = given_for j.file given
@@ -35,7 +35,7 @@ given_by _ given = with_opened given
 
 module _ {D : Type 0} {g : Ghosts D} (image : Image) where
   -- what is asked was done with the vault that was found in the file
-  abbrev pub IsAskedDone : Result Asked Refusal → List (Held (FileStore D g) × Bool) → List (Held (FileStore D g) × Bool) → Option (List ℕ) → Option (List ℕ) → Type 0
+  abbrev pub IsAskedDone : Result AskedCommand Refusal → List (Held (FileStore D g) × Bool) → List (Held (FileStore D g) × Bool) → Option (List ℕ) → Option (List ℕ) → Type 0
   IsAskedDone said old new before after = IsOkAnd said (λ asked. Carries image old new (λ v w. IsStepDone asked Done v w before after))
 
   -- a script without a file is answered from a new vault on

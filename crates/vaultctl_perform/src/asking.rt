@@ -5,10 +5,10 @@ ghost use Rattle.vault_base.specs.declared.refusal.Refusal.{Refusal as AnyRefusa
 ghost use Rattle.vault_values.specs.Fault.{Gives};
 ghost use Rattle.vaultctl_commands.specs.Printed.{PrintsReply};
 ghost use Rattle.vaultctl_commands.specs.PrintedIntake.{PrintsIntake};
-ghost use Rattle.vaultctl_commands.specs.declared.asked.Asked.{Asked as AskedOf};
+ghost use Rattle.vaultctl_commands.specs.declared.asked.AskedCommand.{AskedCommand as AskedOf};
 ghost use Rattle.vaultctl_commands.specs.declared.asked.AskedIntake.{AskedIntake as IntakeOf};
 ghost use Rattle.vaultctl_machine.specs.Closings.{Carries};
-ghost use Rattle.vaultctl_machine.specs.Given.{with_opened};
+ghost use Rattle.vaultctl_machine.specs.VaultCounts.{with_opened};
 ghost use Rattle.vaultctl_work.specs.Done.{IsIntakeDone, IsStepDone};
 ghost use Rattle.vaultctl_work.specs.Scene.{scene};
 
@@ -18,7 +18,7 @@ use crate::vaults::in_vault;
 use sqlite::Start;
 use std::io::{self, Write};
 use vault_values::fault::LineFault;
-use vaultctl_commands::asked::Asked;
+use vaultctl_commands::asked::AskedCommand;
 use vaultctl_commands::fault::JobFault;
 use vaultctl_commands::outcome::Outcome;
 use vaultctl_machine::vaults::FileMachine;
@@ -62,7 +62,7 @@ pub fn ask<A: Start, B: Start, W: Write, E: Write>(
     machine: &mut FileMachine<'_, A, B>,
     call: Call<'_>,
     start: A,
-    asked: Result<Asked, LineFault>,
+    asked: Result<AskedCommand, LineFault>,
     out: &mut W,
     err: &mut E,
 ) -> u8

@@ -6,7 +6,7 @@ ghost use Rattle.vault_core_model.specs.Vault.{opening};
 ghost use Rattle.vault_store.specs.Kept.{StandsFor};
 ghost use Rattle.vault_store.specs.VaultOf.{vault_of};
 ghost use Rattle.vaultctl_machine.specs.Closings.{Closes};
-ghost use Rattle.vaultctl_machine.specs.Given.{with_made};
+ghost use Rattle.vaultctl_machine.specs.VaultCounts.{with_made};
 ghost use Rattle.vaultctl_perform.specs.Status as spec;
 
 use crate::messages::print_cause;

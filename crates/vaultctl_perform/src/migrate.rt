@@ -3,7 +3,7 @@ ghost use Rattle.std.specs.Prelude.{◌≡◌, ◌≢◌, IfOk, OnOk, Ok};
 ghost use Rattle.std.specs.Io.KnownBytes.{Appends};
 ghost use Rattle.sqlite_wal.specs.Files.{image_at};
 ghost use Rattle.vaultctl_machine.specs.Closings.{Copies};
-ghost use Rattle.vaultctl_machine.specs.Given.{with_copied};
+ghost use Rattle.vaultctl_machine.specs.VaultCounts.{with_copied};
 ghost use Rattle.vaultctl_machine.specs.Places.{after_a_look};
 ghost use Rattle.vaultctl_perform.specs.Printed as spec;
 

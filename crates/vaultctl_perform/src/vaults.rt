@@ -6,7 +6,7 @@ ghost use Rattle.sqlite_wal.specs.Files.{image_at};
 ghost use Rattle.vault_store.specs.VaultOf.{vault_of};
 ghost use Rattle.vaultctl_machine.specs.Closings.{Carries};
 ghost use Rattle.vaultctl_machine.specs.Files.{IsFoundIn};
-ghost use Rattle.vaultctl_machine.specs.Given.{with_opened};
+ghost use Rattle.vaultctl_machine.specs.VaultCounts.{with_opened};
 ghost use Rattle.vaultctl_work.specs.Scene.{scene};
 
 use crate::call::Task;

@@ -7,7 +7,7 @@ ghost use Rattle.sqlite_wal.specs.Files.{image_at};
 ghost use Rattle.vault_store.specs.VaultOf.{vault_of};
 ghost use Rattle.vaultctl_machine.specs.Closings.{Carries};
 ghost use Rattle.vaultctl_machine.specs.Files.{IsFoundIn};
-ghost use Rattle.vaultctl_machine.specs.Given.{with_opened};
+ghost use Rattle.vaultctl_machine.specs.VaultCounts.{with_opened};
 ghost use Rattle.vaultctl_perform.specs.Printed as spec;
 
 use crate::messages::{print_cause, print_words, status};
@@ -21,7 +21,7 @@ use vaultctl_commands::printing::print;
 use vaultctl_machine::open_error::OpenError;
 use vaultctl_machine::vaults::{FileMachine, FileVault};
 
-/// The line that names a table which isn't sound. The error is want of memory.
+/// The line that names a table which isn't sound. The error is out of memory.
 fn damaged_line(alloc: Global, table: Table) -> Result<String, AllocError>
     ensures { IfOk result (λ line. string_bytes line ≡ spec.damaged_line table) }
 {

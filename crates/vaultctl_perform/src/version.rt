@@ -10,7 +10,7 @@ use vaultctl_commands::fault::JobFault;
 use vaultctl_commands::outcome::Outcome;
 use vaultctl_commands::printing::print;
 
-/// The line of a version, with the commit if there is one. The error is want of memory.
+/// The line of a version, with the commit if there is one. The error is out of memory.
 fn version_line(alloc: Global, version: &str, commit: &str) -> Result<String, AllocError>
     ensures { IfOk result (λ line. string_bytes line ≡ spec.version_line version.now commit.now) }
 {

@@ -8,8 +8,9 @@ use vault_base::moment::Moment;
 use vault_base::name::CallerName;
 use vault_core_model::command::Command;
 use vault_core_model::reply::Reply;
-use vault_http::read_line::Line;
-use vault_http::{Hears, explain_line};
+use vault_lines_read::read_line::Line;
+use vault_core::hearing::Hears;
+use vault_lines_why::explain_line;
 use vaultctl_replay::observer::Observer;
 
 /// Writes one line of words for each line that is refused, as it is read or by the vault, and for each run that stops, as

@@ -108,7 +108,7 @@ fn first_of_caller(alloc: Global, job: &CallerJob) -> Result<Option<Value<'_>>, 
     first_of_new(alloc, job)
 }
 
-/// The first value of an intake's words that isn't allowed. The error is want of memory.
+/// The first value of an intake's words that isn't allowed. The error is out of memory.
 pub fn first_slip_of_intake(
     alloc: Global,
     job: &IntakeJob,
@@ -119,7 +119,7 @@ pub fn first_slip_of_intake(
 }
 
 /// The first value of a job's words that isn't allowed, in the order in which they are read; none of a job whose words
-/// spell no values. The error is want of memory.
+/// spell no values. The error is out of memory.
 pub fn first_slip(alloc: Global, job: &Job) -> Result<Option<Value<'_>>, AllocError> {
     match job {
         Job::Dept(job) => {

@@ -8,8 +8,8 @@ use Rattle.std.proofs.lemmas.Bool.{lt-ltb, ltb-true, ltb-false}
 use Rattle.std.specs.List.{flat_map}
 use Rattle.vaultctl_replay.specs.Lines.{HasNoLf, ended, Splits, AskFor, EndedAskFor, last_of, unended_of, advance, asked_in}
 use Rattle.vault_base.specs.Limits.{longest_line}
-use Rattle.vault_http.specs.Line.{Line}
-use Rattle.vault_http.specs.ReadLine.{line_of}
+use Rattle.vault_lines_read.specs.declared.read_line.Line.{Line}
+use Rattle.vault_lines_read.specs.ReadLine.{line_of}
 
 -- bytes after bytes
 pub advance-append : (most : ℕ) (part xs ys : List ℕ) → advance most part (xs ++ ys) ≡ ((advance most part xs).0 ++ (advance most (advance most part xs).1 ys).0, (advance most (advance most part xs).1 ys).1)

@@ -16,9 +16,9 @@ use Rattle.vault_core_model.specs.Vault.{Vault, opening}
 use Rattle.vault_core_model.specs.declared.command.Timed.{Timed}
 use Rattle.vault_core_model.specs.declared.reply.Reply.{Reply}
 use Rattle.vault_core_model.specs.declared.reply.Reply.TheVariants as reply
-use Rattle.vault_http.specs.ReplyLine.{reply_text}
-use Rattle.vault_http.specs.Line.TheVariants.{Command, Refused, Skip}
-use Rattle.vault_http.specs.Line.{Line}
+use Rattle.vault_lines_reply.specs.ReplyLine.{reply_text}
+use Rattle.vault_lines_read.specs.declared.read_line.Line.TheVariants.{Command, Refused, Skip}
+use Rattle.vault_lines_read.specs.declared.read_line.Line.{Line}
 use Rattle.vault_io.specs.Begins.{Begins}
 use Rattle.vaultctl_replay.specs.Lines.{advance, asked_in, last_of, AskSoFar}
 use Rattle.vaultctl_replay.specs.Runs.{lines_of, Answers, Replied, Runs, Finished, Began, Unwritten, AnswersAll, AnswersEnded, AnswersSome, Steady}

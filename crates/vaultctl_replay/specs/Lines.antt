@@ -2,9 +2,9 @@
 use Rattle.std.specs.Prelude.{◌≡◌, ◌≢◌, ◌==◌, ◌&&◌, ◌⊎◌, ℕ, Bool, List, [], ◌∷◌, ◌++◌, length, map, slice_index, take, All, if◌then◌else◌}
 use Rattle.std.specs.List.{flat_map}
 use Rattle.vault_base.specs.declared.refusal.Refusal.TheVariants.{MalformedBody}
-use Rattle.vault_http.specs.ReadLine.{line_of}
-use Rattle.vault_http.specs.Line.{Line}
-use Rattle.vault_http.specs.Line.TheVariants as line
+use Rattle.vault_lines_read.specs.ReadLine.{line_of}
+use Rattle.vault_lines_read.specs.declared.read_line.Line.{Line}
+use Rattle.vault_lines_read.specs.declared.read_line.Line.TheVariants as line
 
 -- no byte is an LF
 abbrev pub HasNoLf : List ℕ → Type 0

@@ -11,9 +11,9 @@ use Rattle.vault_core_model.specs.declared.command.Timed.{Timed}
 use Rattle.vault_core_model.specs.declared.kept.Kept.{Ghosts}
 use Rattle.vault_core_model.specs.declared.reply.Reply.{Reply}
 use Rattle.vault_core_model.specs.declared.reply.Reply.TheVariants as reply
-use Rattle.vault_http.specs.ReplyLine.{reply_text}
-use Rattle.vault_http.specs.Line.{Line}
-use Rattle.vault_http.specs.Line.TheVariants.{Skip, Command, Refused}
+use Rattle.vault_lines_reply.specs.ReplyLine.{reply_text}
+use Rattle.vault_lines_read.specs.declared.read_line.Line.{Line}
+use Rattle.vault_lines_read.specs.declared.read_line.Line.TheVariants.{Skip, Command, Refused}
 use Rattle.vault_io.specs.Begins.{Begins}
 use Rattle.vaultctl_replay.specs.Lines.{AskFor, AskSoFar, EndedAskFor}
 

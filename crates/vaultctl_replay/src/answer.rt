@@ -1,9 +1,9 @@
 //! One line: what it asks for is carried out, and its reply written.
 ghost use Rattle.std.specs.Prelude.{◌≡◌, [], ◌∷◌, IfOk, OnOk, OnErr, string_bytes};
 ghost use Rattle.vault_core_model.specs.LeavesMany.{LeavesNoLess};
-ghost use Rattle.vault_http.specs.ReadLine.{line_of};
-ghost use Rattle.vault_http.specs.ReplyLine.{reply_text};
-ghost use Rattle.vault_http.specs.Line.TheVariants.{Command};
+ghost use Rattle.vault_lines_read.specs.ReadLine.{line_of};
+ghost use Rattle.vault_lines_reply.specs.ReplyLine.{reply_text};
+ghost use Rattle.vault_lines_read.specs.declared.read_line.Line.TheVariants.{Command};
 ghost use Rattle.vaultctl_replay.specs.Lines.{unended_of};
 ghost use Rattle.vaultctl_replay.specs.Runs.{BeganBy, FinishedBy, HearsLine, RepliedBy, UnwrittenBy};
 
@@ -17,9 +17,9 @@ use vault_core::step::step;
 use vault_core_model::command::Timed;
 use vault_core_model::keeper::Keeper;
 use vault_core_model::reply::Reply;
-use vault_http::Hears;
-use vault_http::read_line::{Line, read_line};
-use vault_http::reply_line::reply_line;
+use vault_core::hearing::Hears;
+use vault_lines_read::read_line::{Line, read_line};
+use vault_lines_reply::reply_line::reply_line;
 
 /// The line of a reply, which is dropped.
 fn stated(alloc: Global, reply: Reply) -> Result<String, AllocError>

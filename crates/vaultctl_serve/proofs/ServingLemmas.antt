@@ -6,8 +6,8 @@ use Rattle.vault_core_model.specs.Vault.{Vault}
 use Rattle.vault_core_model.specs.declared.command.Timed.{Timed}
 use Rattle.vault_core_model.specs.declared.reply.Reply.{Reply}
 use Rattle.vault_core_laws.proofs.Runs.{IsRun-append}
-use Rattle.vault_http.specs.Hearing.{AreHeard, HearsAll, HearsOnce, HearsSome}
-use Rattle.vault_http.specs.Left.{AtMostOne}
+use Rattle.vault_core.specs.Hearing.{AreHeard, HearsAll, HearsOnce, HearsSome}
+use Rattle.vault_core.specs.Hearing.{AtMostOne}
 use Rattle.vaultctl_serve.specs.Serving.{Missed, Next, ReadsAs, Stepped, SteppedAt, SteppedOnTime, SteppedWhile, Taken, Tries, Try}
 
 -- ---- steps

@@ -1,7 +1,7 @@
 -- What the log says of a request or a line.
 use Rattle.std.specs.Prelude.{ℕ, ◌≡◌, ◌≤◌, Bool, true, List, [], ◌∷◌, length, Option, Some, None, Result, Ok, Err}
 use Rattle.vault_core_model.specs.Vault.{Vault}
-use Rattle.vault_http.specs.Left.{AtMostOne}
+use Rattle.vault_core.specs.Hearing.{AtMostOne}
 use Rattle.vault_http.specs.declared.fault.ServeFault.{ServeFault}
 use Rattle.vault_http.specs.declared.fault.ServeFault.TheVariants as faults
 use Rattle.vaultctl_log.specs.declared.entry.Door.{Door}

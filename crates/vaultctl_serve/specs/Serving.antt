@@ -4,7 +4,7 @@ use Rattle.vault_core_model.specs.declared.command.Timed.{Timed}
 use Rattle.vault_core_model.specs.declared.reply.Reply.{Reply}
 use Rattle.vault_core_model.specs.Step.{IsRun}
 use Rattle.vault_core_model.specs.Vault.{Vault}
-use Rattle.vault_http.specs.Left.{AtMostOne}
+use Rattle.vault_core.specs.Hearing.{AtMostOne}
 
 -- a run of at most n commands leads from the one vault to the other
 abbrev pub Stepped : ℕ → Vault → Vault → Type 0

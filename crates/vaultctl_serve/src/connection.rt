@@ -4,7 +4,7 @@ ghost use Rattle.std.specs.Io.KnownBytes.{Appends};
 ghost use Rattle.vault_core_model.specs.Leaves.{RoseOrIsFull};
 ghost use Rattle.vault_http.specs.Calls.{LeavesBy};
 ghost use Rattle.vault_http.specs.Exchange.{Answered};
-ghost use Rattle.vault_http.specs.Hearing.{HearsOnce};
+ghost use Rattle.vault_core.specs.Hearing.{HearsOnce};
 ghost use Rattle.vault_core_model.specs.LeavesMany.{LeavesNoLess};
 ghost use Rattle.vault_http.specs.Left.{AtMostOne, Unanswered};
 ghost use Rattle.vault_http.specs.declared.fault.ServeFault.TheVariants as faults;
@@ -22,7 +22,8 @@ use std::alloc::Global;
 use std::io::{BufReader, Write};
 use std::time::{Clock, Duration, Instant};
 use vault_core_model::keeper::Keeper;
-use vault_http::{Hears, Occasion, ServeFault, serve_for};
+use vault_core::hearing::Hears;
+use vault_http::{Occasion, ServeFault, serve_for};
 
 /// Serves the one request of a connection, which has to be for one of the hosts: what is answered is what comes in time,
 /// as if nothing came after it.

@@ -3,9 +3,9 @@ ghost use Rattle.std.specs.Prelude.{◌≡◌, ◌≢◌, ℕ, Bool, List, OnOk,
 ghost use Rattle.std.specs.Io.KnownBytes.{Keeps};
 ghost use Rattle.vault_base.specs.Days.{moment_at};
 ghost use Rattle.vault_core_model.specs.Step.{Reached};
-ghost use Rattle.vault_http.specs.Hearing.{HearsAll, HearsOnce, HearsSome};
+ghost use Rattle.vault_core.specs.Hearing.{HearsAll, HearsOnce, HearsSome};
 ghost use Rattle.vault_core_model.specs.LeavesMany.{LeavesNoLess};
-ghost use Rattle.vault_http.specs.Left.{AtMostOne};
+ghost use Rattle.vault_core.specs.Hearing.{AtMostOne};
 ghost use Rattle.vaultctl_log.specs.declared.entry.Facts.{Facts};
 ghost use Rattle.vaultctl_serve.specs.Account.{IsAccounted, IsMissLogged, LogsOne, LogsWhile, trouble_of as trouble_in};
 ghost use Rattle.vaultctl_serve.specs.Serving.{ReadsAs, ReportsOnce, Stepped, SteppedOnTime, SteppedWhile};
@@ -22,7 +22,8 @@ use std::net::{Ipv4Addr, Net, TcpListener, TcpStream};
 use std::time::Clock;
 use vault_base::moment::Moment;
 use vault_core_model::keeper::Keeper;
-use vault_http::{Hears, Hosts, Occasion, ServeFault};
+use vault_core::hearing::Hears;
+use vault_http::{Hosts, Occasion, ServeFault};
 use vaultctl_log::entry::{Door, Trouble};
 
 /// The clock by which a server waits, and where memory is taken from.

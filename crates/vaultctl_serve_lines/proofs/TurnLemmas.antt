@@ -2,7 +2,7 @@
 use Rattle.std.proofs.Common.{◌≡◌, ◌+◌, ◌≤◌, ℕ, List, [], ◌∷◌, ◌++◌, length, Option, None, Some, Result, Ok, Err, refl, subst, arith}
 use Rattle.std.proofs.lemmas.List.{length-append}
 use Rattle.vault_core_model.specs.Vault.{Vault}
-use Rattle.vault_http.specs.Left.{AtMostOne}
+use Rattle.vault_core.specs.Hearing.{AtMostOne}
 use Rattle.vaultctl_serve.specs.Serving.{Missed, Next, ReadsAs, Stepped, SteppedAt, Taken, Tries, Try}
 use Rattle.vaultctl_serve.proofs.ServingLemmas.{OnTime-none, Stepped-append, Stepped-more, Stepped-none, Stepped-one, SteppedAt-append}
 use Rattle.vaultctl_replay.specs.declared.fault.ReplayFault.{ReplayFault}

@@ -5,7 +5,7 @@ use Rattle.vaultctl_log.specs.declared.entry.Trouble.{Trouble}
 use Rattle.vaultctl_log.specs.declared.entry.Trouble.TheVariants as trouble
 use Rattle.vaultctl_replay.specs.declared.fault.ReplayFault.{ReplayFault}
 use Rattle.vaultctl_replay.specs.declared.fault.ReplayFault.TheVariants as faults
-use Rattle.vault_http.specs.Left.{AtMostOne}
+use Rattle.vault_core.specs.Hearing.{AtMostOne}
 use Rattle.vaultctl_serve.specs.Serving.{Missed, ReadsAs, SteppedAt, Taken, Tries, Try}
 use Rattle.vaultctl_serve_lines.specs.declared.doors.Arrived.{Arrived}
 use Rattle.vaultctl_serve_lines.specs.declared.doors.Arrived.TheVariants as arrived

@@ -1,7 +1,7 @@
 //! A server with two doors: requests at a port, and lines at another or at a path.
 ghost use Rattle.std.specs.Prelude.{◌≡◌, IfOk, OnErr, OnOk};
 ghost use Rattle.vault_core_model.specs.Step.{Reached};
-ghost use Rattle.vault_http.specs.Hearing.{HearsAll};
+ghost use Rattle.vault_core.specs.Hearing.{HearsAll};
 ghost use Rattle.vault_core_model.specs.LeavesMany.{LeavesNoLess};
 ghost use Rattle.vaultctl_serve.specs.Serving.{ReportsOnce, Stepped};
 ghost use Rattle.vaultctl_serve_lines_answers.specs.Closing.{IsEnded};
@@ -18,7 +18,8 @@ use std::io::{self, Stderr};
 use std::net::{Ipv4Addr, Net, TcpListener, TcpStream};
 use std::time::Clock;
 use vault_core_model::keeper::Keeper;
-use vault_http::{Hears, Hosts};
+use vault_core::hearing::Hears;
+use vault_http::Hosts;
 use vaultctl_serve::clock::now;
 use vaultctl_serve_lines_answers::line::Next;
 use vaultctl_serve_lines_answers::service::Service;

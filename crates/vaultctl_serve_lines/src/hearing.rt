@@ -63,7 +63,7 @@ fn news_in(bytes: &[u8]) -> News
 
 /// Reads what has come of a line, or waits for it in the time that is left from its first byte, which came at `begun`.
 ///
-/// The bytes are put to those that have come. What is late is an error, as is want of memory; then none is put there.
+/// The bytes are put to those that have come. What is late is an error, as is out of memory; then none is put there.
 pub fn hear<I: Inbound>(inbound: &mut I, part: &mut Vec<u8>, begun: Duration) -> io::Result<News>
     // What is new of a line came in time.
     ensures heard { IfOk result (λ news. (given : List ℕ) × (part.new.items ≡ part.old.items ++ given) × (news ≡ news_of given)
@@ -87,7 +87,7 @@ pub fn cut(part: &mut Vec<u8>)
 
 /// Takes the first line, if it has its LF; what comes after it stays.
 ///
-/// Without an LF all stays. The error is want of memory.
+/// Without an LF all stays. The error is out of memory.
 pub fn take_line(alloc: Global, part: &mut Vec<u8>) -> Result<Option<Heard>, AllocError>
     ensures ok { IfOk result (λ found. Cuts part.old.items found part.new.items) }
     ensures err { OnErr result (part.new.items ≡ part.old.items) }

@@ -10,23 +10,23 @@ use Rattle.vault_core_model.specs.Vault.{Vault}
 use Rattle.vault_core_model.specs.declared.command.Timed.{Timed}
 use Rattle.vault_core_model.specs.declared.records.Caller.{Caller}
 use Rattle.vault_core_model.specs.declared.reply.Reply.{Reply}
-use Rattle.vault_http.specs.Hearing.{HearsOnce}
-use Rattle.vault_http.specs.Left.{AtMostOne}
-use Rattle.vault_http.specs.Line.{Line}
-use Rattle.vault_http.specs.Line.TheVariants as line
-use Rattle.vault_http.specs.Stamped.{closer_of}
+use Rattle.vault_core.specs.Hearing.{HearsOnce}
+use Rattle.vault_core.specs.Hearing.{AtMostOne}
+use Rattle.vault_lines_read.specs.declared.read_line.Line.{Line}
+use Rattle.vault_lines_read.specs.declared.read_line.Line.TheVariants as line
+use Rattle.vault_lines_read.specs.Stamped.{closer_of}
 use Rattle.vault_files_events.specs.Page.{page_of}
 use Rattle.vault_files_events.specs.declared.page.TextPage.{TextPage}
-use Rattle.vault_http_door.specs.Inquiry.{inquiry_of}
-use Rattle.vault_http_door.specs.declared.inquiry.About.TheVariants as about
-use Rattle.vault_http_door.specs.declared.inquiry.Inquiry.{Inquiry}
+use Rattle.vault_lines_door.specs.Inquiry.{inquiry_of}
+use Rattle.vault_lines_door.specs.declared.inquiry.About.TheVariants as about
+use Rattle.vault_lines_door.specs.declared.inquiry.Inquiry.{Inquiry}
 use Rattle.vaultctl_replay.proofs.RunLemmas.{kept}
 use Rattle.vaultctl_replay.specs.Runs.{HearsLine}
 use Rattle.vaultctl_serve_lines_answers.specs.Answered.{Answered, AnswersOne, Left, LeavesOne, LineAnswered, LineLeft}
 use Rattle.vaultctl_serve_lines_answers.specs.Asked.{about_or_refused, door_line_of, end_or_about, heard_of, is_malformed, unlike_command}
 use Rattle.vaultctl_serve_lines_answers.specs.Asking.{found_of, is_end, judged, stated_text, StatedAs}
 use Rattle.vaultctl_serve_lines_answers.specs.Closing.{closing, MayEnd}
-use Rattle.vaultctl_serve_lines_answers.specs.declared.asked.Asked.{Asked}
+use Rattle.vaultctl_serve_lines_answers.specs.declared.asked.DoorRequest.{DoorRequest}
 use Rattle.vaultctl_serve_lines_answers.specs.declared.asked.DoorLine.{DoorLine}
 use Rattle.vaultctl_serve_lines_answers.specs.declared.asked.DoorLine.TheVariants as door
 use Rattle.vaultctl_serve_lines_answers.specs.declared.asked.Wanted.{Wanted}
@@ -48,7 +48,7 @@ line-left-none service heard moment s w = left-none service _ s w
 
 -- ---- what a line asks for that isn't the line of a command
 
-same-asked : (a b : Asked) → door.Asked a ≡ door.Asked b → a ≡ b
+same-asked : (a b : DoorRequest) → door.Asked a ≡ door.Asked b → a ≡ b
 same-asked a b e = cc
 
 no-inquiry : (asked : Result Inquiry Refusal) (t : Timed) → about_or_refused asked ≡ door.Line (line.Command t) → ⊥
@@ -65,18 +65,18 @@ commands true asked moment bytes t e = absurd (no-command (closer_of bytes) mome
 commands false asked moment bytes t e = cc
 
 -- the end is asked for by the line that does
-no-end : (found : Result Inquiry Refusal) (asked : Asked) → about_or_refused found ≡ door.Asked asked → asked.what ≡ wanted.End → ⊥
+no-end : (found : Result Inquiry Refusal) (asked : DoorRequest) → about_or_refused found ≡ door.Asked asked → asked.what ≡ wanted.End → ⊥
 no-end (Ok inquiry) asked e what =
-    let clash : wanted.About inquiry.about ≡ wanted.End = ap (λ (a : Asked). a.what) (same-asked _ asked e) ∙ what in cc
+    let clash : wanted.About inquiry.about ≡ wanted.End = ap (λ (a : DoorRequest). a.what) (same-asked _ asked e) ∙ what in cc
 no-end (Err r) asked e what = cc
 
-ends : (closer : Option (List ℕ)) (moment : Option ℕ) (bytes : List ℕ) (asked : Asked) → end_or_about closer moment bytes ≡ door.Asked asked → asked.what ≡ wanted.End → (closer ≡ Some asked.who) × (moment ≡ Some asked.at)
+ends : (closer : Option (List ℕ)) (moment : Option ℕ) (bytes : List ℕ) (asked : DoorRequest) → end_or_about closer moment bytes ≡ door.Asked asked → asked.what ≡ wanted.End → (closer ≡ Some asked.who) × (moment ≡ Some asked.at)
 ends (Some who) None bytes asked e what = absurd cc
 ends (Some who) (Some at) bytes asked e what =
-    let same = same-asked _ asked e in (ap (λ (a : Asked). Some a.who) same, ap (λ (a : Asked). Some a.at) same)
+    let same = same-asked _ asked e in (ap (λ (a : DoorRequest). Some a.who) same, ap (λ (a : DoorRequest). Some a.at) same)
 ends None moment bytes asked e what = absurd (no-end (inquiry_of moment bytes) asked e what)
 
-closes : (malformed : Bool) (line : Line) (moment : Option ℕ) (bytes : List ℕ) (asked : Asked) → (if malformed then unlike_command moment bytes else door.Line line) ≡ door.Asked asked → asked.what ≡ wanted.End → (closer_of bytes ≡ Some asked.who) × (moment ≡ Some asked.at)
+closes : (malformed : Bool) (line : Line) (moment : Option ℕ) (bytes : List ℕ) (asked : DoorRequest) → (if malformed then unlike_command moment bytes else door.Line line) ≡ door.Asked asked → asked.what ≡ wanted.End → (closer_of bytes ≡ Some asked.who) × (moment ≡ Some asked.at)
 closes true line moment bytes asked e what = ends (closer_of bytes) moment bytes asked e what
 closes false line moment bytes asked e what = absurd cc
 
@@ -95,7 +95,7 @@ ended-by v failures since (Ok c) (wanted.About (about.Register after)) e = absur
 ended-by v failures since (Ok c) (wanted.About (about.Lawful after)) e = absurd cc
 ended-by v failures since (Err r) what e = absurd cc
 
-pub ended : (v : Vault) (failures : ℕ) (since : Option ℕ) (asked : Asked) (stated : Result Found Refusal) → is_end stated ≡ true → StatedAs stated (judged v failures since asked) → (asked.what ≡ wanted.End) × IsOk (administrator v asked.at asked.who)
+pub ended : (v : Vault) (failures : ℕ) (since : Option ℕ) (asked : DoorRequest) (stated : Result Found Refusal) → is_end stated ≡ true → StatedAs stated (judged v failures since asked) → (asked.what ≡ wanted.End) × IsOk (administrator v asked.at asked.who)
 ended v failures since asked (Ok found.End) e is = ended-by v failures since (administrator v asked.at asked.who) asked.what is
 ended v failures since asked (Ok (found.Status status)) e is = absurd cc
 ended v failures since asked (Ok (found.Buckets page)) e is = absurd cc
@@ -129,7 +129,7 @@ module _ (heard : Heard) (moment : Option ℕ) where
   asked-heard hears before after asked is old new h = line-heard hears moment before after asked (door-at asked is) old new h
 
   -- who may end it is the caller of the line
-  pub may-end : (asked : Asked) (v : Vault) → door.Asked asked ≡ door_line_of heard.is_ended moment heard.bytes.items → (asked.what ≡ wanted.End) × IsOk (administrator v asked.at asked.who) → MayEnd v moment heard.bytes.items
+  pub may-end : (asked : DoorRequest) (v : Vault) → door.Asked asked ≡ door_line_of heard.is_ended moment heard.bytes.items → (asked.what ≡ wanted.End) × IsOk (administrator v asked.at asked.who) → MayEnd v moment heard.bytes.items
   may-end asked v is end =
       let read = heard_of heard.is_ended moment heard.bytes.items in
       let both = closes (is_malformed read) read moment heard.bytes.items asked (sym is) end.0 in

@@ -5,12 +5,12 @@ use Rattle.vault_base.specs.declared.refusal.Refusal.TheVariants.{MalformedBody}
 use Rattle.vault_core_model.specs.Vault.{Vault}
 use Rattle.vault_core_model.specs.declared.command.Timed.{Timed}
 use Rattle.vault_core_model.specs.declared.reply.Reply.{Reply}
-use Rattle.vault_http.specs.Hearing.{HearsOnce}
-use Rattle.vault_http.specs.Left.{AtMostOne}
-use Rattle.vault_http.specs.Line.{Line}
-use Rattle.vault_http.specs.Line.TheVariants as line
-use Rattle.vault_http.specs.Stamped.{stamped_line_of}
-use Rattle.vault_http.proofs.StampedAt.{stamped-at}
+use Rattle.vault_core.specs.Hearing.{HearsOnce}
+use Rattle.vault_core.specs.Hearing.{AtMostOne}
+use Rattle.vault_lines_read.specs.declared.read_line.Line.{Line}
+use Rattle.vault_lines_read.specs.declared.read_line.Line.TheVariants as line
+use Rattle.vault_lines_read.specs.Stamped.{stamped_line_of}
+use Rattle.vault_lines_read.proofs.StampedAt.{stamped-at}
 use Rattle.vaultctl_replay.specs.Lines.{is_cr}
 use Rattle.vaultctl_replay.specs.Runs.{Answers, Began, Finished, HearsLine, Runs}
 use Rattle.vaultctl_serve_lines_answers.specs.Asked.{heard_of}

@@ -1,7 +1,7 @@
 -- What a line of the second door is answered by: what is left of a keeper and what is written, beside what was before.
 use Rattle.std.specs.Prelude.{ℕ, List, [], ◌∷◌, Option}
 use Rattle.vault_core_model.specs.Leaves.{Standing}
-use Rattle.vault_http.specs.Line.{Line}
+use Rattle.vault_lines_read.specs.declared.read_line.Line.{Line}
 use Rattle.vault_io.specs.Begins.{Begins}
 use Rattle.vaultctl_replay.specs.Runs.{Began, Finished}
 use Rattle.vaultctl_serve_lines_answers.specs.Asked.{door_line_of}

@@ -2,11 +2,11 @@
 use Rattle.std.specs.Prelude.{ℕ, Bool, true, false, List, Option, Some, None, Result, Ok, Err, if◌then◌else◌}
 use Rattle.vault_base.specs.declared.refusal.Refusal.{Refusal}
 use Rattle.vault_base.specs.declared.refusal.Refusal.TheVariants.{ClockOutOfRange, MalformedBody}
-use Rattle.vault_http.specs.Line.{Line}
-use Rattle.vault_http.specs.Line.TheVariants as line
-use Rattle.vault_http.specs.Stamped.{closer_of, stamped_line_of}
-use Rattle.vault_http_door.specs.Inquiry.{inquiry_of}
-use Rattle.vault_http_door.specs.declared.inquiry.Inquiry.{Inquiry}
+use Rattle.vault_lines_read.specs.declared.read_line.Line.{Line}
+use Rattle.vault_lines_read.specs.declared.read_line.Line.TheVariants as line
+use Rattle.vault_lines_read.specs.Stamped.{closer_of, stamped_line_of}
+use Rattle.vault_lines_door.specs.Inquiry.{inquiry_of}
+use Rattle.vault_lines_door.specs.declared.inquiry.Inquiry.{Inquiry}
 use Rattle.vaultctl_replay.specs.Lines.{is_cr}
 use Rattle.vaultctl_serve_lines_answers.specs.declared.asked.DoorLine.{DoorLine}
 use Rattle.vaultctl_serve_lines_answers.specs.declared.asked.DoorLine.TheVariants as door

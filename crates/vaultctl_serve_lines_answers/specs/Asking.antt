@@ -11,22 +11,22 @@ use Rattle.vault_core_model.specs.Step.{is_fault}
 use Rattle.vault_core_model.specs.Vault.{Vault, next_id}
 use Rattle.vault_core_model.specs.declared.reply.Answer.TheVariants.{Nothing as NothingMore}
 use Rattle.vault_core_model.specs.declared.reply.Reply.TheVariants as reply
-use Rattle.vault_http.specs.ReplyLine.{reply_text}
+use Rattle.vault_lines_reply.specs.ReplyLine.{reply_text}
 use Rattle.vault_core_evidence.specs.declared.breach.Breach.{Breach}
 use Rattle.vault_core_evidence.specs.Breaches.{law_name}
 use Rattle.vault_core_evidence.specs.Parts.{judged_part}
 use Rattle.vault_files_events.specs.Page.{page_of}
 use Rattle.vault_files_events.specs.RegisterPage.{page_of as register_page_of}
-use Rattle.vault_http_door.specs.BucketsLine.{buckets_text}
-use Rattle.vault_http_door.specs.LawfulLine.{breach_text, clean_text}
-use Rattle.vault_http_door.specs.PageLine.{page_line_text}
-use Rattle.vault_http_door.specs.StatusLine.{status_text}
-use Rattle.vault_http_door.specs.declared.buckets_line.BucketsPage.{BucketsPage}
-use Rattle.vault_http_door.specs.declared.inquiry.About.TheVariants as about
-use Rattle.vault_http_door.specs.declared.inquiry.Part.{Part}
-use Rattle.vault_http_door.specs.declared.status_line.Status.{Status}
+use Rattle.vault_lines_door.specs.BucketsLine.{buckets_text}
+use Rattle.vault_lines_door.specs.LawfulLine.{breach_text, clean_text}
+use Rattle.vault_lines_door.specs.PageLine.{page_line_text}
+use Rattle.vault_lines_door.specs.StatusLine.{status_text}
+use Rattle.vault_lines_door.specs.declared.buckets_line.BucketsPage.{BucketsPage}
+use Rattle.vault_lines_door.specs.declared.inquiry.About.TheVariants as about
+use Rattle.vault_lines_door.specs.declared.inquiry.Part.{Part}
+use Rattle.vault_lines_door.specs.declared.status_line.Status.{Status}
 use Rattle.vault_io.specs.Begins.{Begins}
-use Rattle.vaultctl_serve_lines_answers.specs.declared.asked.Asked.{Asked}
+use Rattle.vaultctl_serve_lines_answers.specs.declared.asked.DoorRequest.{DoorRequest}
 use Rattle.vaultctl_serve_lines_answers.specs.declared.asked.Wanted.{Wanted}
 use Rattle.vaultctl_serve_lines_answers.specs.declared.asked.Wanted.TheVariants as wanted
 use Rattle.vaultctl_serve_lines_answers.specs.declared.asking.Found.{Found}
@@ -60,7 +60,7 @@ found_of v failures since (wanted.About (about.Register after)) = Ok (found.Page
 found_of v failures since (wanted.About (about.Lawful after)) = Ok (found.Judged (judged_part after v))
 
 -- the clock, and a caller with the right to administer; then what is asked for
-abbrev pub judged : Vault → ℕ → Option ℕ → Asked → Result Found Refusal
+abbrev pub judged : Vault → ℕ → Option ℕ → DoorRequest → Result Found Refusal
 judged v failures since asked = do
   _ ← administrator v asked.at asked.who
   found_of v failures since asked.what
@@ -104,7 +104,7 @@ Written next.On w w' text = Appends w w' text
 Written next.End w w' text = Begins w w' text
 
 -- Somebody asked for what only this door has: the vault stays, and this much of the answer is written.
-abbrev pub Given : (List ℕ → Type 0) → Standing → Standing → Service → Asked → Type 0
+abbrev pub Given : (List ℕ → Type 0) → Standing → Standing → Service → DoorRequest → Type 0
 Given Sent old new service asked =
     (new.vault ≡ old.vault)
     × ((stated : Result Found Refusal) × (new.is_honest → StatedAs stated (judged old.vault old.count service.since asked))

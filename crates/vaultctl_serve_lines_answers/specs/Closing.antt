@@ -4,7 +4,7 @@ use Rattle.vault_base.specs.declared.refusal.Refusal.{Refusal}
 use Rattle.vault_core_model.specs.Checks.{◌>>=◌, administrator}
 use Rattle.vault_core_model.specs.Vault.{Vault}
 use Rattle.vault_core_model.specs.declared.records.Caller.{Caller}
-use Rattle.vault_http.specs.Stamped.{clock_of, closer_of}
+use Rattle.vault_lines_read.specs.Stamped.{clock_of, closer_of}
 
 -- how the line that asks for the end is judged: by the clock, and then by the caller's right to administer
 abbrev pub closing : Vault → Option ℕ → List ℕ → Result Caller Refusal

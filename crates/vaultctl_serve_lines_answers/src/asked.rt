@@ -7,9 +7,9 @@ use std::alloc::{AllocError, Global};
 use vault_base::moment::Moment;
 use vault_base::name::CallerName;
 use vault_base::refusal::Refusal;
-use vault_http::read_line::Line;
-use vault_http::stamped::{closer, stamp_line};
-use vault_http_door::inquiry::{About, Inquiry, read_inquiry};
+use vault_lines_read::read_line::Line;
+use vault_lines_read::stamped::{closer, stamp_line};
+use vault_lines_door::inquiry::{About, Inquiry, read_inquiry};
 use vault_values::fault::LineFault;
 
 /// What a line of the second door asks for.
@@ -18,12 +18,12 @@ pub enum DoorLine {
     /// A command, or nothing; or it is refused.
     Line(Line),
     /// What only this door has.
-    Asked(Asked),
+    Asked(DoorRequest),
 }
 
 /// What is asked for that only this door has, by whom, and at which reading.
 #[derive(Drop)]
-pub struct Asked {
+pub struct DoorRequest {
     pub at: Moment,
     pub who: CallerName,
     pub what: Wanted,
@@ -38,7 +38,7 @@ pub enum Wanted {
     About(About),
 }
 
-/// What a line asks for as one of a command, at the moment that the clock shows. The error is want of memory.
+/// What a line asks for as one of a command, at the moment that the clock shows. The error is out of memory.
 fn heard(alloc: Global, heard: &Heard, moment: &Option<Moment>) -> Result<Line, AllocError>
     ensures { IfOk result (λ read. read ≡ spec.heard_of heard.now.is_ended moment.now heard.now.bytes.items) }
 {
@@ -74,7 +74,7 @@ fn end_at(moment: &Option<Moment>, who: CallerName) -> DoorLine
     ensures { result ≡ spec.end_at moment.now who }
 {
     match moment {
-        Some(at) => DoorLine::Asked(Asked {
+        Some(at) => DoorLine::Asked(DoorRequest {
             at: *at,
             who,
             what: Wanted::End,
@@ -90,14 +90,14 @@ fn about(inquiry: Inquiry) -> DoorLine
     ensures { result ≡ spec.about inquiry }
 {
     let Inquiry { at, who, about } = inquiry;
-    DoorLine::Asked(Asked {
+    DoorLine::Asked(DoorRequest {
         at,
         who,
         what: Wanted::About(about),
     })
 }
 
-/// What a line asks for that isn't the line of a command. The error is want of memory.
+/// What a line asks for that isn't the line of a command. The error is out of memory.
 fn unlike_command(
     alloc: Global,
     line: &[u8],
@@ -115,7 +115,7 @@ fn unlike_command(
     }
 }
 
-/// What a line asks for, at the moment that the clock shows. The error is want of memory.
+/// What a line asks for, at the moment that the clock shows. The error is out of memory.
 pub fn door_line(
     alloc: Global,
     line: &Heard,

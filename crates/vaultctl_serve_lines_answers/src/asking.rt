@@ -7,14 +7,14 @@ ghost use Rattle.vault_core_model.specs.Halts.{ChecksAs, is_device};
 ghost use Rattle.vault_core_model.specs.Leaves.{LeavesSame, standing};
 ghost use Rattle.vault_core_model.specs.declared.reply.Reply.TheVariants.{Refused};
 ghost use Rattle.vault_core_model.specs.LeavesMany.{LeavesNoLess};
-ghost use Rattle.vault_http.specs.ReplyLine.{reply_text};
-ghost use Rattle.vault_http_door.specs.PageLine.{page_line_text};
+ghost use Rattle.vault_lines_reply.specs.ReplyLine.{reply_text};
+ghost use Rattle.vault_lines_door.specs.PageLine.{page_line_text};
 ghost use Rattle.vault_io.specs.Begins.{Begins};
 ghost use Rattle.vaultctl_serve_lines_answers.specs.Asking as spec;
 ghost use Rattle.vaultctl_serve_lines_answers.specs.Asking.{buckets_page, Given, stated_text, status_of, Written};
 ghost use Rattle.vaultctl_serve_lines_answers.specs.declared.asking.Found.{Found as AnyFound};
 
-use crate::asked::{Asked, Wanted};
+use crate::asked::{DoorRequest, Wanted};
 use crate::line::Next;
 use crate::service::Service;
 use std::alloc::{AllocError, Global};
@@ -29,12 +29,12 @@ use vault_core_model::keeper::Keeper;
 use vault_core_model::reply::{Answer, Reply};
 use vault_files_events::page::{TextPage, events_page};
 use vault_files_events::register_page::register_page;
-use vault_http::reply_line::reply_line;
-use vault_http_door::buckets_line::{BucketNames, BucketsPage, buckets_line};
-use vault_http_door::inquiry::{About, After};
-use vault_http_door::lawful_line::{breach_line, clean_line};
-use vault_http_door::page_line::page_line;
-use vault_http_door::status_line::{Status, status_line};
+use vault_lines_reply::reply_line::reply_line;
+use vault_lines_door::buckets_line::{BucketNames, BucketsPage, buckets_line};
+use vault_lines_door::inquiry::{About, After};
+use vault_lines_door::lawful_line::{breach_line, clean_line};
+use vault_lines_door::page_line::page_line;
+use vault_lines_door::status_line::{Status, status_line};
 use vault_io::writing::write_bytes;
 use vaultctl_replay::ReplayFault;
 
@@ -108,7 +108,7 @@ fn find<K: Keeper>(
     alloc: Global,
     keeper: &mut K,
     since: Option<Moment>,
-    asked: &Asked,
+    asked: &DoorRequest,
 ) -> Result<Found, Halt>
     ensures found { K.is_honest keeper.new → ChecksAs result (spec.judged (K.vault keeper.old) (K.count keeper.old) since asked.now) }
     ensures leaves { LeavesSame K.Kept keeper.old keeper.new (is_device result) }
@@ -145,7 +145,7 @@ fn stated(found: Result<Found, Halt>) -> Result<Found, Refusal>
     }
 }
 
-/// The line of a reply. The error is want of memory.
+/// The line of a reply. The error is out of memory.
 fn line_of(alloc: Global, reply: Reply) -> Result<String, AllocError>
     ensures { IfOk result (λ text. string_bytes text ≡ reply_text reply) }
 {
@@ -154,7 +154,7 @@ fn line_of(alloc: Global, reply: Reply) -> Result<String, AllocError>
     line
 }
 
-/// The line of a part of a text, which is text throughout. The error is want of memory.
+/// The line of a part of a text, which is text throughout. The error is out of memory.
 fn text_line(alloc: Global, page: &TextPage) -> Result<String, AllocError>
     ensures { IfOk result (λ line. string_bytes line ≡ page_line_text page.now.text page.now.next) }
 {
@@ -164,7 +164,7 @@ fn text_line(alloc: Global, page: &TextPage) -> Result<String, AllocError>
     }
 }
 
-/// The line of a judgement. The error is want of memory.
+/// The line of a judgement. The error is out of memory.
 fn judged_line(alloc: Global, part: &JudgedPart) -> Result<String, AllocError>
     ensures { IfOk result (λ line. string_bytes line ≡ spec.judged_text part.now.breach part.now.next) }
 {
@@ -174,7 +174,7 @@ fn judged_line(alloc: Global, part: &JudgedPart) -> Result<String, AllocError>
     }
 }
 
-/// The line of what is answered. The error is want of memory.
+/// The line of what is answered. The error is out of memory.
 fn stated_line(
     alloc: Global,
     version: &str,
@@ -231,7 +231,7 @@ pub fn give<W: Write, K: Keeper>(
     service: &Service,
     writer: &mut W,
     keeper: &mut K,
-    asked: &Asked,
+    asked: &DoorRequest,
 ) -> Result<Next, ReplayFault>
     ensures ok { IfOk result (λ next. Given (Written next (W.contents writer.old) (W.contents writer.new)) (standing K.Kept keeper.old) (standing K.Kept keeper.new) service.now asked.now) }
     ensures err { OnErr result (Given (Begins (W.contents writer.old) (W.contents writer.new)) (standing K.Kept keeper.old) (standing K.Kept keeper.new) service.now asked.now) }

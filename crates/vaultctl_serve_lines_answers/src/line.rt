@@ -2,9 +2,9 @@
 ghost use Rattle.std.specs.Prelude.{◌≡◌, IfOk, OnErr, OnOk, Ok};
 ghost use Rattle.vault_base.specs.Days.{moment_at};
 ghost use Rattle.vault_core_model.specs.Leaves.{standing};
-ghost use Rattle.vault_http.specs.Hearing.{HearsOnce};
+ghost use Rattle.vault_core.specs.Hearing.{HearsOnce};
 ghost use Rattle.vault_core_model.specs.LeavesMany.{LeavesNoLess};
-ghost use Rattle.vault_http.specs.Left.{AtMostOne};
+ghost use Rattle.vault_core.specs.Hearing.{AtMostOne};
 ghost use Rattle.vaultctl_replay.specs.Runs.{HearsLine};
 ghost use Rattle.vaultctl_serve_lines_answers.specs.Answered.{AnswersOne, LeavesOne, LineAnswered, LineLeft};
 ghost use Rattle.vaultctl_serve_lines_answers.specs.Closing.{MayEnd};
@@ -17,8 +17,8 @@ use std::alloc::Global;
 use std::io::Write;
 use vault_base::moment::Moment;
 use vault_core_model::keeper::Keeper;
-use vault_http::Hears;
-use vault_http::read_line::Line;
+use vault_core::hearing::Hears;
+use vault_lines_read::read_line::Line;
 use vaultctl_replay::ReplayFault;
 use vaultctl_replay::answer::answer;
 

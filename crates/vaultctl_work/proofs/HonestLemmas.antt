@@ -2,8 +2,8 @@
 use Rattle.std.proofs.Common.{ℕ, List, [], ◌∷◌, Option}
 use Rattle.vault_core_model.specs.Vault.{Vault}
 use Rattle.vault_core_model.specs.declared.reply.Reply.{Reply}
-use Rattle.vault_http.specs.Line.TheVariants.{Command, Refused, Skip}
-use Rattle.vault_http.specs.Line.{Line}
+use Rattle.vault_lines_read.specs.declared.read_line.Line.TheVariants.{Command, Refused, Skip}
+use Rattle.vault_lines_read.specs.declared.read_line.Line.{Line}
 use Rattle.vaultctl_replay.specs.Runs.{Answers, Runs, Finished, AnswersAll}
 
 answers_of : (H : Type 0) (h : H) (v v' : Vault) (n n' : ℕ) (asked : Line) (out : List Reply) → Answers H v n asked out v' n' → Answers (Unit {0}) v n asked out v' n'

@@ -12,10 +12,10 @@ use Rattle.vaultctl_commands.specs.Printed.{outcome_of, printed}
 use Rattle.vaultctl_commands.specs.declared.fault.JobFault.{JobFault}
 use Rattle.vaultctl_commands.specs.declared.outcome.Outcome.{Outcome}
 use Rattle.vaultctl_commands.specs.declared.outcome.Outcome.TheVariants as outcome
-use Rattle.vaultctl_commands.specs.declared.asked.Asked.{Asked}
+use Rattle.vaultctl_commands.specs.declared.asked.AskedCommand.{AskedCommand}
 
 -- It was done by one step at that reading, and the reply to it is printed. That the device failed is reported only where it did.
-abbrev pub IsDone : Type 0 → ℕ → Asked → Vault → Vault → Outcome → Option (List ℕ) → Option (List ℕ) → Type 0
+abbrev pub IsDone : Type 0 → ℕ → AskedCommand → Vault → Vault → Outcome → Option (List ℕ) → Option (List ℕ) → Type 0
 IsDone Failed at asked v v' stated before after =
     (reply : Reply) × IsStep v at asked.who asked.command reply v' × (stated ≡ outcome_of reply) × Appends before after (printed reply) × (IsTrue (is_device_reply reply) → Failed)
 
@@ -24,12 +24,12 @@ abbrev pub IsUnread : Vault → Vault → Outcome → Option (List ℕ) → Opti
 IsUnread v v' stated before after = (v' ≡ v) × (stated ≡ outcome.Refused) × Appends before after (printed (Refused ClockOutOfRange))
 
 -- at the reading that is given, or else at one of the clock's
-abbrev pub IsDoneAt : Type 0 → Option ℕ → Asked → Vault → Vault → Outcome → Option (List ℕ) → Option (List ℕ) → Type 0
+abbrev pub IsDoneAt : Type 0 → Option ℕ → AskedCommand → Vault → Vault → Outcome → Option (List ℕ) → Option (List ℕ) → Type 0
 IsDoneAt Failed (Some at) asked v v' stated before after = IsDone Failed at asked v v' stated before after
 IsDoneAt Failed None asked v v' stated before after = ((at : ℕ) × IsDone Failed at asked v v' stated before after) ⊎ IsUnread v v' stated before after
 
 -- One step was made at that reading, and its reply is printed where anything is. The count of failures is one more, up to its greatest value, exactly where the reply reports that the device failed. Honest says that the device has returned what was written.
-abbrev pub IsSteady : Type 0 → ℕ → Asked → Vault → Vault → ℕ → ℕ → Result Outcome JobFault → Option (List ℕ) → Option (List ℕ) → Type 0
+abbrev pub IsSteady : Type 0 → ℕ → AskedCommand → Vault → Vault → ℕ → ℕ → Result Outcome JobFault → Option (List ℕ) → Option (List ℕ) → Type 0
 IsSteady Honest at asked v v' n n' result before after =
     (reply : Reply) × (Honest → IsStep v at asked.who asked.command reply v') × IfOk result (λ stated. (stated ≡ outcome_of reply) × Appends before after (printed reply))
     × (n' ≡ count_after n (is_device_reply reply))
@@ -39,6 +39,6 @@ abbrev pub IsUnreadSteady : Vault → Vault → ℕ → ℕ → Result Outcome J
 IsUnreadSteady v v' n n' result before after = (n' ≡ n) × IfOk result (λ stated. IsUnread v v' stated before after)
 
 -- the same at the reading that is given, or else at one of the clock's
-abbrev pub IsSteadyAt : Type 0 → Option ℕ → Asked → Vault → Vault → ℕ → ℕ → Result Outcome JobFault → Option (List ℕ) → Option (List ℕ) → Type 0
+abbrev pub IsSteadyAt : Type 0 → Option ℕ → AskedCommand → Vault → Vault → ℕ → ℕ → Result Outcome JobFault → Option (List ℕ) → Option (List ℕ) → Type 0
 IsSteadyAt Honest (Some at) asked v v' n n' result before after = IsSteady Honest at asked v v' n n' result before after
 IsSteadyAt Honest None asked v v' n n' result before after = ((at : ℕ) × IsSteady Honest at asked v v' n n' result before after) ⊎ IsUnreadSteady v v' n n' result before after

@@ -6,7 +6,7 @@ use Rattle.vault_core_model.specs.Vault.{Vault}
 use Rattle.vault_files.specs.File.{File}
 use Rattle.vaultctl_commands.specs.Evidence.{IsJudged, IsSealed}
 use Rattle.vaultctl_commands.specs.PrintedIntake.{IntakePrinted}
-use Rattle.vaultctl_commands.specs.declared.asked.Asked.{Asked}
+use Rattle.vaultctl_commands.specs.declared.asked.AskedCommand.{AskedCommand}
 use Rattle.vaultctl_commands.specs.declared.asked.AskedIntake.{AskedIntake}
 use Rattle.vaultctl_commands.specs.declared.asked.AskedSeal.{AskedSeal}
 use Rattle.vaultctl_commands.specs.declared.outcome.Outcome.{Outcome}
@@ -18,7 +18,7 @@ use Rattle.vaultctl_work.specs.Asked.{IsDoneAt}
 use Rattle.vaultctl_work.specs.Scene.{Scene}
 
 -- one step by the caller who asks, at the reading that is given or else at one of the clock's, and its reply printed; or, without a reading, that reported
-abbrev pub IsStepDone : Asked → Outcome → Vault → Vault → Option (List ℕ) → Option (List ℕ) → Type 0
+abbrev pub IsStepDone : AskedCommand → Outcome → Vault → Vault → Option (List ℕ) → Option (List ℕ) → Type 0
 IsStepDone asked stated v v' before after = IsDoneAt ⊤ asked.at asked v v' stated before after
 
 -- a list's files were taken in at that reading, and its lines printed

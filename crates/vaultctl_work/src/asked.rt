@@ -17,7 +17,7 @@ use std::time::Clock;
 use vault_base::moment::Moment;
 use vault_base::refusal::Refusal;
 use vault_core_model::keeper::Keeper;
-use vaultctl_commands::asked::Asked;
+use vaultctl_commands::asked::AskedCommand;
 use vaultctl_commands::carrying::{carry_out, print_refusal};
 use vaultctl_commands::fault::JobFault;
 use vaultctl_commands::outcome::Outcome;
@@ -64,7 +64,7 @@ fn carry_out_asked<C: Clock, K: Keeper, W: Write, E: Write>(
     alloc: Global,
     clock: &C,
     keeper: &mut K,
-    asked: &Asked,
+    asked: &AskedCommand,
     out: &mut W,
     err: &mut E,
 ) -> Result<Outcome, JobFault>
@@ -89,7 +89,7 @@ fn carry_out_asked<C: Clock, K: Keeper, W: Write, E: Write>(
     carry_out(alloc, keeper, at, asked, out, err)
 }
 
-impl Work for Asked {
+impl Work for AskedCommand {
     ghost prints = { PrintsAsked };
 
     ghost does = { λ asked old new result. IfOk result (λ stated. IsStepDone asked stated old.vault new.vault old.output new.output) };

@@ -11,7 +11,7 @@ use std::fs::{self, File, OpenOptions};
 use std::io::{self, ErrorKind, Write};
 use std::os::unix::fs::OpenOptionsExt;
 use vault_core_model::keeper::Keeper;
-use vault_http::Hears;
+use vault_core::hearing::Hears;
 use vaultctl_commands::fault::JobFault;
 use vaultctl_commands::outcome::Outcome;
 use vaultctl_job::job::ServeJob;

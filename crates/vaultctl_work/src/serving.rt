@@ -1,6 +1,6 @@
 //! Requests, and lines at a second door.
 ghost use Rattle.std.specs.Prelude.{◌≡◌, ⊤, IfOk, is_some};
-ghost use Rattle.vault_http.specs.Hearing.{HearsAll};
+ghost use Rattle.vault_core.specs.Hearing.{HearsAll};
 ghost use Rattle.vaultctl_serve.specs.Serving.{Stepped};
 ghost use Rattle.vaultctl_work.specs.Done.{IsServed, most_with_lines as served_with_lines};
 ghost use Rattle.vaultctl_work.specs.Outcomes as spec;
@@ -11,7 +11,8 @@ use crate::work::Work;
 use std::alloc::{AllocError, Global};
 use std::io::{Read, Stderr, Write};
 use vault_core_model::keeper::Keeper;
-use vault_http::{Hears, Hosts, Nobody};
+use vault_core::hearing::{Hears, Nobody};
+use vault_http::Hosts;
 use vaultctl_commands::fault::JobFault;
 use vaultctl_commands::outcome::Outcome;
 use vaultctl_job::job::ServeJob;
@@ -56,7 +57,7 @@ fn say_door<E: Write>(err: &mut E, fault: DoorFault) {
     }
 }
 
-/// The hosts of these names. The error is want of memory.
+/// The hosts of these names. The error is out of memory.
 fn hosts_of(alloc: Global, names: &[Word]) -> Result<Hosts, AllocError>
     ensures { IfOk result (λ hosts. hosts ≡ names.now) }
 {

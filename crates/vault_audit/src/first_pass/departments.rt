@@ -12,7 +12,7 @@ ghost use Rattle.vault_audit_walk.specs.Health.{IsHealthy, IsMemory, OnlyLooks};
 use crate::first_pass::record::{Record, check_table};
 use sqlite::{Alter, Connection, Error, Row};
 use vault_audit_model::rows::DepartmentRow;
-use vault_audit_model::schema::Edition;
+use vault_audit_model::schema::SchemaVersion;
 use vault_audit_records::departments::query::departments_query;
 use vault_audit_rows::misread::Misread;
 use vault_audit_rows::records::read_department;
@@ -40,8 +40,8 @@ impl Record for DepartmentRow {
 
     ghost select = { λ n. departments_select n [] };
 
-    fn select(edition: Edition) -> &'static str {
-        departments_query(edition)
+    fn select(schema_version: SchemaVersion) -> &'static str {
+        departments_query(schema_version)
     }
 
     fn read(row: &Row) -> Result<DepartmentRow, Misread> {
@@ -58,13 +58,13 @@ impl Record for DepartmentRow {
 /// Whether each row of `departments` holds a record in its limits.
 pub fn check_departments<S: Alter>(
     conn: &mut Connection<S>,
-    edition: Edition,
+    schema_version: SchemaVersion,
 ) -> Result<bool, Error>
-    requires { HasCleanDisk (state S.Store conn.old) → BeginTo edition (state S.Store conn.old).now.schema.tables table.Departments }
-    ensures reported { HasCleanDisk (state S.Store conn.new) → IfOk result (AreRowsRight edition (state S.Store conn.new).now table.Departments) }
-    ensures damaged { HasCleanDisk (state S.Store conn.new) → IfOk result (λ stated. stated ≡ false → (v : Vault) → ¬ AreSoundAs edition (state S.Store conn.new).now v) }
+    requires { HasCleanDisk (state S.Store conn.old) → BeginTo schema_version (state S.Store conn.old).now.schema.tables table.Departments }
+    ensures reported { HasCleanDisk (state S.Store conn.new) → IfOk result (AreRowsRight schema_version (state S.Store conn.new).now table.Departments) }
+    ensures damaged { HasCleanDisk (state S.Store conn.new) → IfOk result (λ stated. stated ≡ false → (v : Vault) → ¬ AreSoundAs schema_version (state S.Store conn.new).now v) }
     ensures look { OnlyLooks S.Store conn.old conn.new result }
     ensures err { IsHealthy (state S.Store conn.new) → IfErr result IsMemory }
 {
-    check_table::<S, DepartmentRow>(conn, edition)
+    check_table::<S, DepartmentRow>(conn, schema_version)
 }

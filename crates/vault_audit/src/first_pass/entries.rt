@@ -13,7 +13,7 @@ ghost use Rattle.vault_audit_schema.specs.Places.{BeginTo};
 ghost use Rattle.vault_audit_walk.specs.Health.{IsHealthy, IsMemory, OnlyLooks};
 
 use sqlite::{Alter, Connection, Error};
-use vault_audit_model::schema::Edition;
+use vault_audit_model::schema::SchemaVersion;
 use vault_audit_records::entries::row::EntryCheck;
 use vault_audit_schema::{entries_columns, select_text};
 use vault_audit_walk::check::check_rows;
@@ -23,12 +23,12 @@ use vault_base::moment::Moment;
 /// removed before it was admitted.
 pub fn check_entries<S: Alter>(
     conn: &mut Connection<S>,
-    edition: Edition,
+    schema_version: SchemaVersion,
     last: Moment,
 ) -> Result<bool, Error>
-    requires { HasCleanDisk (state S.Store conn.old) → BeginTo edition (state S.Store conn.old).now.schema.tables table.Entries }
+    requires { HasCleanDisk (state S.Store conn.old) → BeginTo schema_version (state S.Store conn.old).now.schema.tables table.Entries }
     ensures reported { HasCleanDisk (state S.Store conn.new) → IfOk result (AreRecords entry_row (IsEntryBy last) (map entry_columns ((state S.Store conn.new).now.trees entries_tree))) }
-    ensures damaged { HasCleanDisk (state S.Store conn.new) → IfOk result (λ stated. stated ≡ false → (v : Vault) → v.last ≡ last → ¬ AreSoundAs edition (state S.Store conn.new).now v) }
+    ensures damaged { HasCleanDisk (state S.Store conn.new) → IfOk result (λ stated. stated ≡ false → (v : Vault) → v.last ≡ last → ¬ AreSoundAs schema_version (state S.Store conn.new).now v) }
     ensures look { OnlyLooks S.Store conn.old conn.new result }
     ensures err { IsHealthy (state S.Store conn.new) → IfErr result IsMemory }
 {

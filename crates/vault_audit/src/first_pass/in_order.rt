@@ -24,7 +24,7 @@ use crate::first_pass::settings::check_settings;
 use crate::first_pass::tenures::check_tenures;
 use sqlite::{Alter, Connection, Error};
 use vault_audit_model::rows::MetaRow;
-use vault_audit_model::schema::Edition;
+use vault_audit_model::schema::SchemaVersion;
 use vault_base::refusal::Table;
 
 /// The tables after `meta`, in their order.
@@ -51,33 +51,33 @@ pub fn is_at(difference: Option<Table>, table: Table) -> bool
 /// Whether the rows of a table state records in their limits, each by itself, where this is the row of `meta`.
 fn check_rows_of<S: Alter>(
     conn: &mut Connection<S>,
-    edition: Edition,
+    schema_version: SchemaVersion,
     meta: &MetaRow,
     table: Table,
 ) -> Result<bool, Error>
-    requires begin { HasCleanDisk (state S.Store conn.old) → BeginTo edition (state S.Store conn.old).now.schema.tables table }
-    requires meta { HasCleanDisk (state S.Store conn.old) → IsMetaOf edition (state S.Store conn.old).now (Some meta.now) }
+    requires begin { HasCleanDisk (state S.Store conn.old) → BeginTo schema_version (state S.Store conn.old).now.schema.tables table }
+    requires meta { HasCleanDisk (state S.Store conn.old) → IsMetaOf schema_version (state S.Store conn.old).now (Some meta.now) }
     requires open { HasCleanDisk (state S.Store conn.old) → IsTrue (state S.Store conn.old).is_open }
-    ensures reported { HasCleanDisk (state S.Store conn.new) → IfOk result (AreRowsRight edition (state S.Store conn.new).now table) }
-    ensures damaged { HasCleanDisk (state S.Store conn.new) → IfOk result (λ right. right ≡ false → (v : Vault) → ¬ AreSoundAs edition (state S.Store conn.new).now v) }
+    ensures reported { HasCleanDisk (state S.Store conn.new) → IfOk result (AreRowsRight schema_version (state S.Store conn.new).now table) }
+    ensures damaged { HasCleanDisk (state S.Store conn.new) → IfOk result (λ right. right ≡ false → (v : Vault) → ¬ AreSoundAs schema_version (state S.Store conn.new).now v) }
     ensures look { OnlyLooks S.Store conn.old conn.new result }
     ensures err { IsHealthy (state S.Store conn.new) → IfErr result IsMemory }
 {
     match table {
         Table::Meta => {
-            let found = check_meta(conn, edition)?;
+            let found = check_meta(conn, schema_version)?;
             Ok(found.is_some())
         }
-        Table::Departments => check_departments(conn, edition),
-        Table::Callers => check_callers(conn, edition),
-        Table::Buckets => check_buckets(conn, edition),
-        Table::Rules => check_rules(conn, edition),
-        Table::Entries => check_entries(conn, edition, meta.last),
-        Table::Contents => check_contents(conn, edition),
-        Table::Settings => check_settings(conn, edition),
-        Table::Intake => check_intake(conn, edition),
-        Table::Heads => check_heads(conn, edition),
-        Table::Tenures => check_tenures(conn, edition),
+        Table::Departments => check_departments(conn, schema_version),
+        Table::Callers => check_callers(conn, schema_version),
+        Table::Buckets => check_buckets(conn, schema_version),
+        Table::Rules => check_rules(conn, schema_version),
+        Table::Entries => check_entries(conn, schema_version, meta.last),
+        Table::Contents => check_contents(conn, schema_version),
+        Table::Settings => check_settings(conn, schema_version),
+        Table::Intake => check_intake(conn, schema_version),
+        Table::Heads => check_heads(conn, schema_version),
+        Table::Tenures => check_tenures(conn, schema_version),
     }
 }
 
@@ -85,15 +85,15 @@ fn check_rows_of<S: Alter>(
 /// or one of its rows holds no record in its limits.
 pub fn look_at_tables<S: Alter>(
     conn: &mut Connection<S>,
-    edition: Edition,
+    schema_version: SchemaVersion,
     difference: Option<Table>,
     meta: &MetaRow,
 ) -> Result<Option<Table>, Error>
-    requires difference { HasCleanDisk (state S.Store conn.old) → Differs edition (state S.Store conn.old).now.schema difference }
+    requires difference { HasCleanDisk (state S.Store conn.old) → Differs schema_version (state S.Store conn.old).now.schema difference }
     requires after { difference ≢ Some table.Meta }
-    requires meta { HasCleanDisk (state S.Store conn.old) → IsMetaOf edition (state S.Store conn.old).now (Some meta.now) }
+    requires meta { HasCleanDisk (state S.Store conn.old) → IsMetaOf schema_version (state S.Store conn.old).now (Some meta.now) }
     requires open { HasCleanDisk (state S.Store conn.old) → IsTrue (state S.Store conn.old).is_open }
-    ensures reported { HasCleanDisk (state S.Store conn.new) → IfOk result (ReportedInOrder edition (state S.Store conn.new).now) }
+    ensures reported { HasCleanDisk (state S.Store conn.new) → IfOk result (ReportedInOrder schema_version (state S.Store conn.new).now) }
     ensures look { OnlyLooks S.Store conn.old conn.new result }
     ensures err { IsHealthy (state S.Store conn.new) → IfErr result IsMemory }
 {
@@ -101,7 +101,7 @@ pub fn look_at_tables<S: Alter>(
         if is_at(difference, *table) {
             return Ok(Some(*table));
         }
-        let right = check_rows_of(conn, edition, meta, *table)?;
+        let right = check_rows_of(conn, schema_version, meta, *table)?;
         if !right {
             return Ok(Some(*table));
         }

@@ -12,37 +12,37 @@ ghost use Rattle.vault_audit_walk.specs.Health.{IsHealthy, IsMemory, OnlyLooks};
 
 use sqlite::{Alter, Connection, Error};
 use vault_audit_model::rows::MetaRow;
-use vault_audit_model::schema::Edition;
+use vault_audit_model::schema::SchemaVersion;
 use vault_audit_records::meta::row::MetaPass;
 use vault_audit_schema::{earlier_select_text, meta_columns, select_text};
 use vault_audit_walk::walk::walk;
 
-/// The query for the rows of `meta`. What an edition has no column for is 0.
-fn meta_query(edition: Edition) -> &'static str
-    ensures { result.now ≡ meta_select edition (codes " ORDER BY one") }
+/// The query for the rows of `meta`. What a schema version has no column for is 0.
+fn meta_query(schema_version: SchemaVersion) -> &'static str
+    ensures { result.now ≡ meta_select schema_version (codes " ORDER BY one") }
 {
-    match edition {
-        Edition::First | Edition::Second => meta_columns!(earlier_select_text, " ORDER BY one"),
-        Edition::Third => meta_columns!(select_text, " ORDER BY one"),
+    match schema_version {
+        SchemaVersion::First | SchemaVersion::Second => meta_columns!(earlier_select_text, " ORDER BY one"),
+        SchemaVersion::Third => meta_columns!(select_text, " ORDER BY one"),
     }
 }
 
 /// The one row of `meta`, or none where it isn't one row that holds a moment, an id and a number of moves.
 pub fn check_meta<S: Alter>(
     conn: &mut Connection<S>,
-    edition: Edition,
+    schema_version: SchemaVersion,
 ) -> Result<Option<MetaRow>, Error>
-    requires { HasCleanDisk (state S.Store conn.old) → BeginTo edition (state S.Store conn.old).now.schema.tables table.Meta }
-    ensures reported { HasCleanDisk (state S.Store conn.new) → IfOk result (IsMetaOf edition (state S.Store conn.new).now) }
-    ensures damaged { HasCleanDisk (state S.Store conn.new) → IfOk result (λ found. found ≡ None → (v : Vault) → ¬ AreSoundAs edition (state S.Store conn.new).now v) }
+    requires { HasCleanDisk (state S.Store conn.old) → BeginTo schema_version (state S.Store conn.old).now.schema.tables table.Meta }
+    ensures reported { HasCleanDisk (state S.Store conn.new) → IfOk result (IsMetaOf schema_version (state S.Store conn.new).now) }
+    ensures damaged { HasCleanDisk (state S.Store conn.new) → IfOk result (λ found. found ≡ None → (v : Vault) → ¬ AreSoundAs schema_version (state S.Store conn.new).now v) }
     ensures look { OnlyLooks S.Store conn.old conn.new result }
     ensures err { IsHealthy (state S.Store conn.new) → IfErr result IsMemory }
 {
     let mut pass = MetaPass {
-        edition,
+        schema_version,
         found: None,
     };
-    let one = walk(conn, meta_query(edition), &mut pass)?;
+    let one = walk(conn, meta_query(schema_version), &mut pass)?;
     if !one {
         return Ok(None);
     }

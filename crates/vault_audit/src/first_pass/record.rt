@@ -10,7 +10,7 @@ ghost use Rattle.vault_audit_walk.specs.Records.{AreRecords};
 
 use sqlite::{Alter, Connection, Error, Row};
 use std::marker::PhantomData;
-use vault_audit_model::schema::Edition;
+use vault_audit_model::schema::SchemaVersion;
 use vault_audit_records::row_check::refused;
 use vault_audit_rows::misread::Misread;
 use vault_audit_walk::check::{Check, check_rows};
@@ -25,18 +25,18 @@ pub trait Record: Sized + Drop {
     ghost use Rattle.sqlite.specs.Effect.{Database};
     ghost use Rattle.vault_base.specs.declared.refusal.Table.{Table};
     ghost use Rattle.vault_core_model.specs.Vault.{Vault};
-    ghost use Rattle.vault_audit_model.specs.declared.schema.Edition.{Edition as Editions};
+    ghost use Rattle.vault_audit_model.specs.declared.schema.SchemaVersion.{SchemaVersion as SchemaVersions};
     ghost use Rattle.vault_audit_model.specs.Spells.{AreSoundAs};
     ghost use Rattle.vault_audit_schema.specs.Places.{BeginTo};
     ghost use Rattle.vault_audit_walk.specs.Records.{AreRecords};
     ghost use Rattle.vault_audit.specs.ShowsAll.{ShowsAll};
 
-    // The table, where its rows are kept, and which editions have it.
+    // The table, where its rows are kept, and which schema versions have it.
     ghost table: { Table };
 
     ghost tree: { ℕ };
 
-    ghost has_table: { Editions → Type 0 };
+    ghost has_table: { SchemaVersions → Type 0 };
 
     // The columns of the record's row, and whether its values are in their limits.
     ghost as_row: { Self → Values };
@@ -44,27 +44,27 @@ pub trait Record: Sized + Drop {
     ghost is_in_limits: { Self → Type 0 };
 
     // The columns of a row as it is kept.
-    ghost columns: { Editions → Values → Values };
+    ghost columns: { SchemaVersions → Values → Values };
 
     // The query for all rows.
-    ghost select: { Editions → List ℕ };
+    ghost select: { SchemaVersions → List ℕ };
 
     /// The query for all rows.
-    fn select(edition: Edition) -> &'static str
-        ensures { result.now ≡ select edition };
+    fn select(schema_version: SchemaVersion) -> &'static str
+        ensures { result.now ≡ select schema_version };
 
-    /// The record that a row holds: `Wrong` where it holds none in its limits, `Memory` for want of memory.
+    /// The record that a row holds: `Wrong` where it holds none in its limits, `Memory` where memory runs out.
     fn read(row: &Row) -> Result<Self, Misread>
         ensures ok { IfOk result (λ x. (row.now ≡ as_row x) × is_in_limits x) }
         ensures wrong { IfErr result (λ e. e ≡ Misread.Wrong → (x : Self) → is_in_limits x → row.now ≢ as_row x) };
 
     // The query shows the columns of all rows.
-    ghost shows_all: { (n : Editions) (s : Schema) → has_table n → BeginTo n s.tables table → ShowsAll s (select n) tree (columns n) };
+    ghost shows_all: { (n : SchemaVersions) (s : Schema) → has_table n → BeginTo n s.tables table → ShowsAll s (select n) tree (columns n) };
 
     ghost bare: { (trees : Trees) → overlay trees [] tree ≡ trees tree };
 
     // Where the rows aren't those of such records, the tables are sound for no vault.
-    ghost unsound: { (n : Editions) (db : Database) (v : Vault) → has_table n → AreRecords as_row is_in_limits (map (columns n) (db.trees tree)) false → ¬ AreSoundAs n db v };
+    ghost unsound: { (n : SchemaVersions) (db : Database) (v : Vault) → has_table n → AreRecords as_row is_in_limits (map (columns n) (db.trees tree)) false → ¬ AreSoundAs n db v };
 }
 
 /// The check of single rows.
@@ -88,18 +88,18 @@ impl<R: Record> Check for RecordCheck<R> {
 /// Whether each row of the table holds a record in its limits.
 pub fn check_table<S: Alter, R: Record>(
     conn: &mut Connection<S>,
-    edition: Edition,
+    schema_version: SchemaVersion,
 ) -> Result<bool, Error>
-    requires has { R.has_table edition }
-    requires begin { HasCleanDisk (state S.Store conn.old) → BeginTo edition (state S.Store conn.old).now.schema.tables R.table }
-    ensures reported { HasCleanDisk (state S.Store conn.new) → IfOk result (AreRecords R.as_row R.is_in_limits (map (R.columns edition) ((state S.Store conn.new).now.trees R.tree))) }
-    ensures damaged { HasCleanDisk (state S.Store conn.new) → IfOk result (λ stated. stated ≡ false → (v : Vault) → ¬ AreSoundAs edition (state S.Store conn.new).now v) }
+    requires has { R.has_table schema_version }
+    requires begin { HasCleanDisk (state S.Store conn.old) → BeginTo schema_version (state S.Store conn.old).now.schema.tables R.table }
+    ensures reported { HasCleanDisk (state S.Store conn.new) → IfOk result (AreRecords R.as_row R.is_in_limits (map (R.columns schema_version) ((state S.Store conn.new).now.trees R.tree))) }
+    ensures damaged { HasCleanDisk (state S.Store conn.new) → IfOk result (λ stated. stated ≡ false → (v : Vault) → ¬ AreSoundAs schema_version (state S.Store conn.new).now v) }
     ensures look { OnlyLooks S.Store conn.old conn.new result }
     ensures err { IsHealthy (state S.Store conn.new) → IfErr result IsMemory }
 {
     check_rows(
         conn,
-        R::select(edition),
+        R::select(schema_version),
         &RecordCheck::<R> { of: PhantomData },
     )
 }

@@ -12,7 +12,7 @@ ghost use Rattle.vault_audit_walk.specs.Health.{IsHealthy, IsMemory, OnlyLooks};
 use crate::first_pass::record::{Record, check_table};
 use sqlite::{Alter, Connection, Error, Row};
 use vault_audit_model::rows::RuleRow;
-use vault_audit_model::schema::Edition;
+use vault_audit_model::schema::SchemaVersion;
 use vault_audit_rows::misread::Misread;
 use vault_audit_rows::records::read_rule;
 use vault_audit_schema::{earlier_select_text, rules_columns, select_text};
@@ -40,10 +40,10 @@ impl Record for RuleRow {
 
     ghost select = { λ n. rules_select n [] };
 
-    fn select(edition: Edition) -> &'static str {
-        match edition {
-            Edition::First => rules_columns!(earlier_select_text),
-            Edition::Second | Edition::Third => rules_columns!(select_text),
+    fn select(schema_version: SchemaVersion) -> &'static str {
+        match schema_version {
+            SchemaVersion::First => rules_columns!(earlier_select_text),
+            SchemaVersion::Second | SchemaVersion::Third => rules_columns!(select_text),
         }
     }
 
@@ -59,12 +59,12 @@ impl Record for RuleRow {
 }
 
 /// Whether each row of `rules` holds a record in its limits.
-pub fn check_rules<S: Alter>(conn: &mut Connection<S>, edition: Edition) -> Result<bool, Error>
-    requires { HasCleanDisk (state S.Store conn.old) → BeginTo edition (state S.Store conn.old).now.schema.tables table.Rules }
-    ensures reported { HasCleanDisk (state S.Store conn.new) → IfOk result (AreRowsRight edition (state S.Store conn.new).now table.Rules) }
-    ensures damaged { HasCleanDisk (state S.Store conn.new) → IfOk result (λ stated. stated ≡ false → (v : Vault) → ¬ AreSoundAs edition (state S.Store conn.new).now v) }
+pub fn check_rules<S: Alter>(conn: &mut Connection<S>, schema_version: SchemaVersion) -> Result<bool, Error>
+    requires { HasCleanDisk (state S.Store conn.old) → BeginTo schema_version (state S.Store conn.old).now.schema.tables table.Rules }
+    ensures reported { HasCleanDisk (state S.Store conn.new) → IfOk result (AreRowsRight schema_version (state S.Store conn.new).now table.Rules) }
+    ensures damaged { HasCleanDisk (state S.Store conn.new) → IfOk result (λ stated. stated ≡ false → (v : Vault) → ¬ AreSoundAs schema_version (state S.Store conn.new).now v) }
     ensures look { OnlyLooks S.Store conn.old conn.new result }
     ensures err { IsHealthy (state S.Store conn.new) → IfErr result IsMemory }
 {
-    check_table::<S, RuleRow>(conn, edition)
+    check_table::<S, RuleRow>(conn, schema_version)
 }

@@ -12,7 +12,7 @@ ghost use Rattle.vault_audit_walk.specs.Health.{IsHealthy, IsMemory, OnlyLooks};
 use crate::first_pass::record::{Record, check_table};
 use sqlite::{Alter, Connection, Error, Row};
 use vault_audit_model::rows::SettingRow;
-use vault_audit_model::schema::Edition;
+use vault_audit_model::schema::SchemaVersion;
 use vault_audit_rows::misread::Misread;
 use vault_audit_rows::records::read_setting;
 use vault_audit_schema::{select_text, settings_columns};
@@ -40,7 +40,7 @@ impl Record for SettingRow {
 
     ghost select = { λ _. select_text settings [] };
 
-    fn select(_: Edition) -> &'static str {
+    fn select(_: SchemaVersion) -> &'static str {
         settings_columns!(select_text)
     }
 
@@ -56,12 +56,12 @@ impl Record for SettingRow {
 }
 
 /// Whether each row of `settings` holds a record in its limits.
-pub fn check_settings<S: Alter>(conn: &mut Connection<S>, edition: Edition) -> Result<bool, Error>
-    requires { HasCleanDisk (state S.Store conn.old) → BeginTo edition (state S.Store conn.old).now.schema.tables table.Settings }
-    ensures reported { HasCleanDisk (state S.Store conn.new) → IfOk result (AreRowsRight edition (state S.Store conn.new).now table.Settings) }
-    ensures damaged { HasCleanDisk (state S.Store conn.new) → IfOk result (λ stated. stated ≡ false → (v : Vault) → ¬ AreSoundAs edition (state S.Store conn.new).now v) }
+pub fn check_settings<S: Alter>(conn: &mut Connection<S>, schema_version: SchemaVersion) -> Result<bool, Error>
+    requires { HasCleanDisk (state S.Store conn.old) → BeginTo schema_version (state S.Store conn.old).now.schema.tables table.Settings }
+    ensures reported { HasCleanDisk (state S.Store conn.new) → IfOk result (AreRowsRight schema_version (state S.Store conn.new).now table.Settings) }
+    ensures damaged { HasCleanDisk (state S.Store conn.new) → IfOk result (λ stated. stated ≡ false → (v : Vault) → ¬ AreSoundAs schema_version (state S.Store conn.new).now v) }
     ensures look { OnlyLooks S.Store conn.old conn.new result }
     ensures err { IsHealthy (state S.Store conn.new) → IfErr result IsMemory }
 {
-    check_table::<S, SettingRow>(conn, edition)
+    check_table::<S, SettingRow>(conn, schema_version)
 }

@@ -14,7 +14,7 @@ ghost use Rattle.vault_audit_walk.specs.Records.{AreRecords};
 use crate::first_pass::record::{Record, check_table};
 use sqlite::{Alter, Connection, Error, Row};
 use vault_audit_model::rows::TenureRow;
-use vault_audit_model::schema::Edition;
+use vault_audit_model::schema::SchemaVersion;
 use vault_audit_rows::misread::Misread;
 use vault_audit_rows::records::read_tenure;
 use vault_audit_schema::{select_text, tenures_columns};
@@ -42,7 +42,7 @@ impl Record for TenureRow {
 
     ghost select = { λ _. select_text tenures [] };
 
-    fn select(_: Edition) -> &'static str {
+    fn select(_: SchemaVersion) -> &'static str {
         tenures_columns!(select_text)
     }
 
@@ -57,17 +57,17 @@ impl Record for TenureRow {
     ghost unsound = { tenure_unsound };
 }
 
-/// Whether each row of `tenures` holds a record in its limits. An edition without that table has none.
-pub fn check_tenures<S: Alter>(conn: &mut Connection<S>, edition: Edition) -> Result<bool, Error>
-    requires begin { HasCleanDisk (state S.Store conn.old) → BeginTo edition (state S.Store conn.old).now.schema.tables table.Tenures }
+/// Whether each row of `tenures` holds a record in its limits. A schema version without that table has none.
+pub fn check_tenures<S: Alter>(conn: &mut Connection<S>, schema_version: SchemaVersion) -> Result<bool, Error>
+    requires begin { HasCleanDisk (state S.Store conn.old) → BeginTo schema_version (state S.Store conn.old).now.schema.tables table.Tenures }
     requires open { HasCleanDisk (state S.Store conn.old) → IsTrue (state S.Store conn.old).is_open }
-    ensures reported { HasCleanDisk (state S.Store conn.new) → IfOk result (AreRecords tenure_row IsTenureRow (tenure_rows_in edition (state S.Store conn.new).now)) }
-    ensures damaged { HasCleanDisk (state S.Store conn.new) → IfOk result (λ stated. stated ≡ false → (v : Vault) → ¬ AreSoundAs edition (state S.Store conn.new).now v) }
+    ensures reported { HasCleanDisk (state S.Store conn.new) → IfOk result (AreRecords tenure_row IsTenureRow (tenure_rows_in schema_version (state S.Store conn.new).now)) }
+    ensures damaged { HasCleanDisk (state S.Store conn.new) → IfOk result (λ stated. stated ≡ false → (v : Vault) → ¬ AreSoundAs schema_version (state S.Store conn.new).now v) }
     ensures look { OnlyLooks S.Store conn.old conn.new result }
     ensures err { IsHealthy (state S.Store conn.new) → IfErr result IsMemory }
 {
-    match edition {
-        Edition::First | Edition::Second => Ok(true),
-        Edition::Third => check_table::<S, TenureRow>(conn, edition),
+    match schema_version {
+        SchemaVersion::First | SchemaVersion::Second => Ok(true),
+        SchemaVersion::Third => check_table::<S, TenureRow>(conn, schema_version),
     }
 }

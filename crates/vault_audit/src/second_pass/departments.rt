@@ -3,12 +3,12 @@ ghost use Rattle.std.specs.Prelude.{IfOk, IfErr};
 ghost use Rattle.sqlite.specs.State.{HasCleanDisk};
 ghost use Rattle.sqlite.specs.Held.{state};
 ghost use Rattle.vault_audit.specs.Looks.{ReportedOf, DepartmentsFound};
-ghost use Rattle.vault_audit_walk.specs.Health.{IsHealthy, IsMemory, IsOfEdition, OnlyLooks};
+ghost use Rattle.vault_audit_walk.specs.Health.{IsHealthy, IsMemory, IsOfSchemaVersion, OnlyLooks};
 
 use sqlite::{Alter, Connection, Error};
 use std::alloc::Global;
 use vault_audit_model::rows::MetaRow;
-use vault_audit_model::schema::Edition;
+use vault_audit_model::schema::SchemaVersion;
 use vault_audit_records::departments::by_name::check_departments_by_name;
 use vault_audit_records::meta::second_look::check_next;
 use vault_audit_tenures::sums::second_look::check_sums;
@@ -19,23 +19,23 @@ use vault_base::refusal::Table;
 pub fn look_at_departments<S: Alter>(
     alloc: Global,
     conn: &mut Connection<S>,
-    edition: Edition,
+    schema_version: SchemaVersion,
     meta: &MetaRow,
 ) -> Result<Option<Table>, Error>
-    requires { IsOfEdition S.Store conn.old edition }
-    ensures reported { HasCleanDisk (state S.Store conn.new) → IfOk result (ReportedOf edition (state S.Store conn.new).now meta.now (DepartmentsFound edition (state S.Store conn.new).now meta.now)) }
+    requires { IsOfSchemaVersion S.Store conn.old schema_version }
+    ensures reported { HasCleanDisk (state S.Store conn.new) → IfOk result (ReportedOf schema_version (state S.Store conn.new).now meta.now (DepartmentsFound schema_version (state S.Store conn.new).now meta.now)) }
     ensures look { OnlyLooks S.Store conn.old conn.new result }
     ensures err { IsHealthy (state S.Store conn.new) → IfErr result IsMemory }
 {
-    let next = check_next(conn, edition, meta.next)?;
+    let next = check_next(conn, schema_version, meta.next)?;
     if !next {
         return Ok(Some(Table::Meta));
     }
-    let departments = check_departments_by_name(conn, edition)?;
+    let departments = check_departments_by_name(conn, schema_version)?;
     if !departments {
         return Ok(Some(Table::Departments));
     }
-    let sums = check_sums(alloc, conn, edition)?;
+    let sums = check_sums(alloc, conn, schema_version)?;
     if !sums {
         return Ok(Some(Table::Departments));
     }

@@ -3,11 +3,11 @@ ghost use Rattle.std.specs.Prelude.{IfOk, IfErr};
 ghost use Rattle.sqlite.specs.State.{HasCleanDisk};
 ghost use Rattle.sqlite.specs.Held.{state};
 ghost use Rattle.vault_audit.specs.Looks.{Reported, NamesFound};
-ghost use Rattle.vault_audit_walk.specs.Health.{IsHealthy, IsMemory, IsOfEdition, OnlyLooks};
+ghost use Rattle.vault_audit_walk.specs.Health.{IsHealthy, IsMemory, IsOfSchemaVersion, OnlyLooks};
 
 use sqlite::{Alter, Connection, Error};
 use std::alloc::Global;
-use vault_audit_model::schema::Edition;
+use vault_audit_model::schema::SchemaVersion;
 use vault_audit_records::callers::check_callers_by_name;
 use vault_audit_records::rules::second_look::check_rules_of_buckets;
 use vault_base::refusal::Table;
@@ -17,18 +17,18 @@ use vault_base::refusal::Table;
 pub fn look_at_names<S: Alter>(
     alloc: Global,
     conn: &mut Connection<S>,
-    edition: Edition,
+    schema_version: SchemaVersion,
 ) -> Result<Option<Table>, Error>
-    requires { IsOfEdition S.Store conn.old edition }
-    ensures reported { HasCleanDisk (state S.Store conn.new) → IfOk result (Reported edition (state S.Store conn.new).now (NamesFound edition (state S.Store conn.new).now)) }
+    requires { IsOfSchemaVersion S.Store conn.old schema_version }
+    ensures reported { HasCleanDisk (state S.Store conn.new) → IfOk result (Reported schema_version (state S.Store conn.new).now (NamesFound schema_version (state S.Store conn.new).now)) }
     ensures look { OnlyLooks S.Store conn.old conn.new result }
     ensures err { IsHealthy (state S.Store conn.new) → IfErr result IsMemory }
 {
-    let callers = check_callers_by_name(conn, edition)?;
+    let callers = check_callers_by_name(conn, schema_version)?;
     if !callers {
         return Ok(Some(Table::Callers));
     }
-    let rules = check_rules_of_buckets(alloc, conn, edition)?;
+    let rules = check_rules_of_buckets(alloc, conn, schema_version)?;
     if !rules {
         return Ok(Some(Table::Rules));
     }

@@ -7,11 +7,11 @@ ghost use Rattle.vault_audit_model.specs.declared.rows.ContentRow.{ContentRow as
 ghost use Rattle.vault_audit_model.specs.Limits.{IsContentRow};
 ghost use Rattle.vault_audit_model.specs.Relations.{AreEntries};
 ghost use Rattle.vault_audit_entries.specs.Contents.{held_row, DecidesHeld};
-ghost use Rattle.vault_audit_walk.specs.Health.{IsHealthy, IsMemory, IsOfEdition, OnlyLooks};
+ghost use Rattle.vault_audit_walk.specs.Health.{IsHealthy, IsMemory, IsOfSchemaVersion, OnlyLooks};
 
 use sqlite::{Alter, Connection, Error, ErrorCode, Row};
 use vault_audit_model::rows::ContentRow;
-use vault_audit_model::schema::Edition;
+use vault_audit_model::schema::SchemaVersion;
 use vault_audit_rows::cell::{bytes, content, is_null, number, version_id};
 use vault_audit_rows::misread::Misread;
 use vault_audit_walk::walk::{Pass, walk};
@@ -94,9 +94,9 @@ impl Pass for ContentPass {
 /// and digest.
 pub fn check_bytes<S: Alter>(
     conn: &mut Connection<S>,
-    edition: Edition,
+    schema_version: SchemaVersion,
 ) -> Result<Option<u64>, Error>
-    requires { IsOfEdition S.Store conn.old edition }
+    requires { IsOfSchemaVersion S.Store conn.old schema_version }
     ensures reported { HasCleanDisk (state S.Store conn.new) → IfOk result (λ found. (es : List Entry) →
         AreEntries (state S.Store conn.new).now es → DecidesHeld (state S.Store conn.new).now es found) }
     ensures look { OnlyLooks S.Store conn.old conn.new result }

@@ -10,12 +10,12 @@ ghost use Rattle.vault_audit_model.specs.Limits.{IsHeadRow};
 ghost use Rattle.vault_audit_model.specs.Spells.{AreSoundAs};
 ghost use Rattle.vault_audit_model.specs.Values.{number as value};
 ghost use Rattle.vault_audit_entries.specs.Heads.{headed_row, head_cmp, IsAfter, DecidesHeadRows};
-ghost use Rattle.vault_audit_walk.specs.Health.{IsHealthy, IsMemory, IsOfEdition, OnlyLooks};
+ghost use Rattle.vault_audit_walk.specs.Health.{IsHealthy, IsMemory, IsOfSchemaVersion, OnlyLooks};
 
 use sqlite::{Alter, Connection, Error, ErrorCode, Row};
 use std::cmp::Ordering;
 use vault_audit_model::rows::HeadRow;
-use vault_audit_model::schema::Edition;
+use vault_audit_model::schema::SchemaVersion;
 use vault_audit_rows::cell::{is_null, number, text, version_id};
 use vault_audit_rows::misread::Misread;
 use vault_audit_rows::name::{bucket_name, object_key};
@@ -124,11 +124,11 @@ impl Pass for HeadPass {
 /// are 1, 2, 3 and so on.
 pub fn check_heads_by_key<S: Alter>(
     conn: &mut Connection<S>,
-    edition: Edition,
+    schema_version: SchemaVersion,
 ) -> Result<Option<u64>, Error>
-    requires { IsOfEdition S.Store conn.old edition }
+    requires { IsOfSchemaVersion S.Store conn.old schema_version }
     ensures reported { HasCleanDisk (state S.Store conn.new) → IfOk result (DecidesHeadRows (state S.Store conn.new).now) }
-    ensures damaged { HasCleanDisk (state S.Store conn.new) → IfOk result (λ total. total ≡ None → (v : Vault) → ¬ AreSoundAs edition (state S.Store conn.new).now v) }
+    ensures damaged { HasCleanDisk (state S.Store conn.new) → IfOk result (λ total. total ≡ None → (v : Vault) → ¬ AreSoundAs schema_version (state S.Store conn.new).now v) }
     ensures look { OnlyLooks S.Store conn.old conn.new result }
     ensures err { IsHealthy (state S.Store conn.new) → IfErr result IsMemory }
 {

@@ -7,12 +7,12 @@ ghost use Rattle.vault_audit_model.specs.Spells.{AreSoundAs};
 ghost use Rattle.vault_audit_model.specs.Relations.{IsAfter};
 ghost use Rattle.vault_audit_schema.specs.Selects.{departments_select};
 ghost use Rattle.vault_audit_records.specs.ByName.{DecidesDepartments};
-ghost use Rattle.vault_audit_walk.specs.Health.{IsHealthy, IsMemory, IsOfEdition, OnlyLooks};
+ghost use Rattle.vault_audit_walk.specs.Health.{IsHealthy, IsMemory, IsOfSchemaVersion, OnlyLooks};
 
 use crate::row_check::refused;
 use sqlite::{Alter, Connection, Error, Row};
 use std::marker::Model;
-use vault_audit_model::schema::Edition;
+use vault_audit_model::schema::SchemaVersion;
 use vault_audit_rows::records::read_department;
 use vault_audit_schema::{departments_columns, earlier_select_text, select_text};
 use vault_audit_walk::walk::{Pass, walk};
@@ -66,29 +66,29 @@ impl Pass for DepartmentPass {
     }
 }
 
-/// The query for the departments by name. What an edition has no column for is 0.
-fn departments_walk(edition: Edition) -> &'static str
-    ensures { result.now ≡ departments_select edition (codes " ORDER BY name") }
+/// The query for the departments by name. What a schema version has no column for is 0.
+fn departments_walk(schema_version: SchemaVersion) -> &'static str
+    ensures { result.now ≡ departments_select schema_version (codes " ORDER BY name") }
 {
-    match edition {
-        Edition::First | Edition::Second => {
+    match schema_version {
+        SchemaVersion::First | SchemaVersion::Second => {
             departments_columns!(earlier_select_text, " ORDER BY name")
         }
-        Edition::Third => departments_columns!(select_text, " ORDER BY name"),
+        SchemaVersion::Third => departments_columns!(select_text, " ORDER BY name"),
     }
 }
 
 /// Whether the rows of `departments` hold departments with values in their limits, of which no two have one name.
 pub fn check_departments_by_name<S: Alter>(
     conn: &mut Connection<S>,
-    edition: Edition,
+    schema_version: SchemaVersion,
 ) -> Result<bool, Error>
-    requires { IsOfEdition S.Store conn.old edition }
-    ensures reported { HasCleanDisk (state S.Store conn.new) → IfOk result (DecidesDepartments edition (state S.Store conn.new).now) }
-    ensures damaged { HasCleanDisk (state S.Store conn.new) → IfOk result (λ stated. stated ≡ false → (v : Vault) → ¬ AreSoundAs edition (state S.Store conn.new).now v) }
+    requires { IsOfSchemaVersion S.Store conn.old schema_version }
+    ensures reported { HasCleanDisk (state S.Store conn.new) → IfOk result (DecidesDepartments schema_version (state S.Store conn.new).now) }
+    ensures damaged { HasCleanDisk (state S.Store conn.new) → IfOk result (λ stated. stated ≡ false → (v : Vault) → ¬ AreSoundAs schema_version (state S.Store conn.new).now v) }
     ensures look { OnlyLooks S.Store conn.old conn.new result }
     ensures err { IsHealthy (state S.Store conn.new) → IfErr result IsMemory }
 {
     let mut pass = DepartmentPass { last: None };
-    walk(conn, departments_walk(edition), &mut pass)
+    walk(conn, departments_walk(schema_version), &mut pass)
 }

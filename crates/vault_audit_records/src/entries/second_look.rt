@@ -6,11 +6,11 @@ ghost use Rattle.vault_core_model.specs.Vault.{Vault, next_id};
 ghost use Rattle.vault_audit_model.specs.Spells.{AreSoundAs};
 ghost use Rattle.vault_audit_model.specs.Relations.{IsNextEntry};
 ghost use Rattle.vault_audit_records.specs.EntriesByNumber.{AreEntriesUpTo};
-ghost use Rattle.vault_audit_walk.specs.Health.{IsHealthy, IsMemory, IsOfEdition, OnlyLooks};
+ghost use Rattle.vault_audit_walk.specs.Health.{IsHealthy, IsMemory, IsOfSchemaVersion, OnlyLooks};
 
 use crate::row_check::refused;
 use sqlite::{Alter, Connection, Error, Row};
-use vault_audit_model::schema::Edition;
+use vault_audit_model::schema::SchemaVersion;
 use vault_audit_rows::records::read_entry;
 use vault_audit_schema::{entries_columns, select_text};
 use vault_audit_walk::walk::{Pass, walk};
@@ -64,12 +64,12 @@ impl Pass for NumberPass {
 /// goes back.
 pub fn check_numbers<S: Alter>(
     conn: &mut Connection<S>,
-    edition: Edition,
+    schema_version: SchemaVersion,
 ) -> Result<Option<u64>, Error>
-    requires { IsOfEdition S.Store conn.old edition }
+    requires { IsOfSchemaVersion S.Store conn.old schema_version }
     ensures reported { HasCleanDisk (state S.Store conn.new) → IfOk result (AreEntriesUpTo (state S.Store conn.new).now) }
-    ensures damaged { HasCleanDisk (state S.Store conn.new) → IfOk result (λ found. found ≡ None → (v : Vault) → ¬ AreSoundAs edition (state S.Store conn.new).now v) }
-    ensures next { HasCleanDisk (state S.Store conn.new) → IfOk result (λ found. IfSome found (λ next. (v : Vault) → AreSoundAs edition (state S.Store conn.new).now v → next_id v ≡ next)) }
+    ensures damaged { HasCleanDisk (state S.Store conn.new) → IfOk result (λ found. found ≡ None → (v : Vault) → ¬ AreSoundAs schema_version (state S.Store conn.new).now v) }
+    ensures next { HasCleanDisk (state S.Store conn.new) → IfOk result (λ found. IfSome found (λ next. (v : Vault) → AreSoundAs schema_version (state S.Store conn.new).now v → next_id v ≡ next)) }
     ensures look { OnlyLooks S.Store conn.old conn.new result }
     ensures err { IsHealthy (state S.Store conn.new) → IfErr result IsMemory }
 {

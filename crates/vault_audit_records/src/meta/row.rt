@@ -2,14 +2,14 @@
 use crate::row_check::refused;
 use sqlite::{Error, Row};
 use vault_audit_model::rows::MetaRow;
-use vault_audit_model::schema::Edition;
+use vault_audit_model::schema::SchemaVersion;
 use vault_audit_rows::records::read_meta;
 use vault_audit_walk::walk::Pass;
 
 /// The check of `meta`, and the row that it met.
 #[derive(Drop)]
 pub struct MetaPass {
-    pub edition: Edition,
+    pub schema_version: SchemaVersion,
     pub found: Option<MetaRow>,
 }
 
@@ -28,7 +28,7 @@ impl Pass for MetaPass {
         }
         match read_meta(row) {
             Ok(meta) => {
-                if meta.schema != self.edition.number() {
+                if meta.schema != self.schema_version.number() {
                     return Ok(false);
                 }
                 self.found = Some(meta);

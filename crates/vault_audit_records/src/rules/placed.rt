@@ -4,7 +4,7 @@ ghost use Rattle.sqlite.specs.State.{HasCleanDisk};
 ghost use Rattle.sqlite.specs.Held.{state};
 ghost use Rattle.vault_audit_records.specs.RulesByPlace.{IsWhole, DecidesRuns};
 ghost use Rattle.vault_audit_schema.specs.Selects.{rules_select};
-ghost use Rattle.vault_audit_walk.specs.Health.{IsHealthy, IsMemory, IsOfEdition, OnlyLooks};
+ghost use Rattle.vault_audit_walk.specs.Health.{IsHealthy, IsMemory, IsOfSchemaVersion, OnlyLooks};
 
 use crate::buckets::is_after;
 use sqlite::{Alter, Connection, Error, ErrorCode, Row};
@@ -12,7 +12,7 @@ use std::alloc::Global;
 use std::marker::Model;
 use std::mem;
 use vault_audit_model::rows::RuleRow;
-use vault_audit_model::schema::Edition;
+use vault_audit_model::schema::SchemaVersion;
 use vault_audit_rows::misread::Misread;
 use vault_audit_rows::records::read_rule;
 use vault_audit_schema::{earlier_select_text, rules_columns, select_text};
@@ -100,13 +100,13 @@ impl Pass for RulePass {
     }
 }
 
-/// The query for the rules by bucket and place. What an edition has no column for is NULL.
-fn rules_walk(edition: Edition) -> &'static str
-    ensures { result.now ≡ rules_select edition (codes " ORDER BY bucket, n") }
+/// The query for the rules by bucket and place. What a schema version has no column for is NULL.
+fn rules_walk(schema_version: SchemaVersion) -> &'static str
+    ensures { result.now ≡ rules_select schema_version (codes " ORDER BY bucket, n") }
 {
-    match edition {
-        Edition::First => rules_columns!(earlier_select_text, " ORDER BY bucket, n"),
-        Edition::Second | Edition::Third => rules_columns!(select_text, " ORDER BY bucket, n"),
+    match schema_version {
+        SchemaVersion::First => rules_columns!(earlier_select_text, " ORDER BY bucket, n"),
+        SchemaVersion::Second | SchemaVersion::Third => rules_columns!(select_text, " ORDER BY bucket, n"),
     }
 }
 
@@ -115,10 +115,10 @@ fn rules_walk(edition: Edition) -> &'static str
 pub(crate) fn are_runs<S: Alter>(
     alloc: Global,
     conn: &mut Connection<S>,
-    edition: Edition,
+    schema_version: SchemaVersion,
 ) -> Result<bool, Error>
-    requires { IsOfEdition S.Store conn.old edition }
-    ensures reported { HasCleanDisk (state S.Store conn.new) → IfOk result (DecidesRuns edition (state S.Store conn.new).now) }
+    requires { IsOfSchemaVersion S.Store conn.old schema_version }
+    ensures reported { HasCleanDisk (state S.Store conn.new) → IfOk result (DecidesRuns schema_version (state S.Store conn.new).now) }
     ensures look { OnlyLooks S.Store conn.old conn.new result }
     ensures err { IsHealthy (state S.Store conn.new) → IfErr result IsMemory }
 {
@@ -127,7 +127,7 @@ pub(crate) fn are_runs<S: Alter>(
         bucket: None,
         rules: Vec::new(alloc),
     };
-    let whole = walk(conn, rules_walk(edition), &mut pass)?;
+    let whole = walk(conn, rules_walk(schema_version), &mut pass)?;
     if !whole {
         return Ok(false);
     }

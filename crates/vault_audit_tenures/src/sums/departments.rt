@@ -4,12 +4,12 @@ ghost use Rattle.sqlite.specs.State.{HasCleanDisk};
 ghost use Rattle.sqlite.specs.Held.{state};
 ghost use Rattle.vault_audit_tenures.specs.DepartmentSums.{HaveTotals};
 ghost use Rattle.vault_audit_tenures.specs.Totals.{total_of};
-ghost use Rattle.vault_audit_walk.specs.Health.{IsHealthy, IsMemory, IsOfEdition, OnlyLooks};
+ghost use Rattle.vault_audit_walk.specs.Health.{IsHealthy, IsMemory, IsOfSchemaVersion, OnlyLooks};
 
 use crate::sums::totals::Totals;
 use sqlite::{Alter, Connection, Error, Row};
 use vault_audit_model::rows::DepartmentRow;
-use vault_audit_model::schema::Edition;
+use vault_audit_model::schema::SchemaVersion;
 use vault_audit_records::departments::query::departments_query;
 use vault_audit_records::row_check::refused;
 use vault_audit_rows::records::read_department;
@@ -50,13 +50,13 @@ impl Check for SumsCheck {
 /// Whether each row of `departments` holds a department in its limits that has these sums.
 pub fn check_totals<S: Alter>(
     conn: &mut Connection<S>,
-    edition: Edition,
+    schema_version: SchemaVersion,
     check: &SumsCheck,
 ) -> Result<bool, Error>
-    requires { IsOfEdition S.Store conn.old edition }
-    ensures reported { HasCleanDisk (state S.Store conn.new) → IfOk result (HaveTotals check.now.totals edition (state S.Store conn.new).now) }
+    requires { IsOfSchemaVersion S.Store conn.old schema_version }
+    ensures reported { HasCleanDisk (state S.Store conn.new) → IfOk result (HaveTotals check.now.totals schema_version (state S.Store conn.new).now) }
     ensures look { OnlyLooks S.Store conn.old conn.new result }
     ensures err { IsHealthy (state S.Store conn.new) → IfErr result IsMemory }
 {
-    check_rows(conn, departments_query(edition), check)
+    check_rows(conn, departments_query(schema_version), check)
 }

@@ -7,7 +7,7 @@ ghost use Rattle.vault_core_model.specs.Vault.{Vault};
 ghost use Rattle.vault_audit_model.specs.Relations.{AreBuckets, AreEntries, AreTenuresOf, IsPast, DecidesSums};
 ghost use Rattle.vault_audit_model.specs.Spells.{AreSoundAs, entries_in};
 ghost use Rattle.vault_audit_tenures.specs.Totals.{AreTotals};
-ghost use Rattle.vault_audit_walk.specs.Health.{IsHealthy, IsMemory, IsOfEdition, OnlyLooks};
+ghost use Rattle.vault_audit_walk.specs.Health.{IsHealthy, IsMemory, IsOfSchemaVersion, OnlyLooks};
 
 use crate::sums::departments::{SumsCheck, check_totals};
 use crate::sums::tenures::sum_tenures;
@@ -15,24 +15,24 @@ use crate::sums::totals::Totals;
 use crate::sums::versions::sum_versions;
 use sqlite::{Alter, Connection, Error};
 use std::alloc::Global;
-use vault_audit_model::schema::Edition;
+use vault_audit_model::schema::SchemaVersion;
 
-/// The sums over the tenures of each department: of an edition without a table of them, over the versions.
+/// The sums over the tenures of each department: of a schema version without a table of them, over the versions.
 fn take_sums<S: Alter>(
     alloc: Global,
     conn: &mut Connection<S>,
-    edition: Edition,
+    schema_version: SchemaVersion,
 ) -> Result<Option<Totals>, Error>
-    requires { IsOfEdition S.Store conn.old edition }
+    requires { IsOfSchemaVersion S.Store conn.old schema_version }
     ensures reported { HasCleanDisk (state S.Store conn.new) → IfOk result (λ found. (v : Vault) →
-        AreBuckets edition (state S.Store conn.new).now v.buckets → AreEntries (state S.Store conn.new).now (entries_in v.histories) →
-        AllByRecursion (IsPast v.last) (entries_in v.histories) → AreTenuresOf edition (state S.Store conn.new).now v → IsSomeAnd found (AreTotals v.histories)) }
+        AreBuckets schema_version (state S.Store conn.new).now v.buckets → AreEntries (state S.Store conn.new).now (entries_in v.histories) →
+        AllByRecursion (IsPast v.last) (entries_in v.histories) → AreTenuresOf schema_version (state S.Store conn.new).now v → IsSomeAnd found (AreTotals v.histories)) }
     ensures look { OnlyLooks S.Store conn.old conn.new result }
     ensures err { IsHealthy (state S.Store conn.new) → IfErr result IsMemory }
 {
-    match edition {
-        Edition::First | Edition::Second => sum_versions(alloc, conn, edition),
-        Edition::Third => sum_tenures(alloc, conn),
+    match schema_version {
+        SchemaVersion::First | SchemaVersion::Second => sum_versions(alloc, conn, schema_version),
+        SchemaVersion::Third => sum_tenures(alloc, conn),
     }
 }
 
@@ -42,18 +42,18 @@ fn take_sums<S: Alter>(
 pub fn check_sums<S: Alter>(
     alloc: Global,
     conn: &mut Connection<S>,
-    edition: Edition,
+    schema_version: SchemaVersion,
 ) -> Result<bool, Error>
-    requires { IsOfEdition S.Store conn.old edition }
+    requires { IsOfSchemaVersion S.Store conn.old schema_version }
     ensures reported { HasCleanDisk (state S.Store conn.new) → IfOk result (λ hold. (v : Vault) →
-        AreBuckets edition (state S.Store conn.new).now v.buckets → AreEntries (state S.Store conn.new).now (entries_in v.histories) →
-        AllByRecursion (IsPast v.last) (entries_in v.histories) → AreTenuresOf edition (state S.Store conn.new).now v → DecidesSums edition (state S.Store conn.new).now v.histories hold) }
-    ensures damaged { HasCleanDisk (state S.Store conn.new) → IfOk result (λ hold. hold ≡ false → (v : Vault) → ¬ AreSoundAs edition (state S.Store conn.new).now v) }
+        AreBuckets schema_version (state S.Store conn.new).now v.buckets → AreEntries (state S.Store conn.new).now (entries_in v.histories) →
+        AllByRecursion (IsPast v.last) (entries_in v.histories) → AreTenuresOf schema_version (state S.Store conn.new).now v → DecidesSums schema_version (state S.Store conn.new).now v.histories hold) }
+    ensures damaged { HasCleanDisk (state S.Store conn.new) → IfOk result (λ hold. hold ≡ false → (v : Vault) → ¬ AreSoundAs schema_version (state S.Store conn.new).now v) }
     ensures look { OnlyLooks S.Store conn.old conn.new result }
     ensures err { IsHealthy (state S.Store conn.new) → IfErr result IsMemory }
 {
-    let Some(totals) = take_sums(alloc, conn, edition)? else {
+    let Some(totals) = take_sums(alloc, conn, schema_version)? else {
         return Ok(false);
     };
-    check_totals(conn, edition, &SumsCheck { totals })
+    check_totals(conn, schema_version, &SumsCheck { totals })
 }

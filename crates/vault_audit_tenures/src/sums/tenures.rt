@@ -8,12 +8,12 @@ ghost use Rattle.vault_audit_model.specs.Spells.{entries_in};
 ghost use Rattle.vault_audit_tenures.specs.declared.sums.tenures.StatedTenure.{StatedTenure as Reported};
 ghost use Rattle.vault_audit_tenures.specs.TenureSums.{stated_row, IsStated, begins, share_as, last_share, share_before, CountsShare, CountsPending, CountsLast};
 ghost use Rattle.vault_audit_tenures.specs.Totals.{AreTotals};
-ghost use Rattle.vault_audit_walk.specs.Health.{IsHealthy, IsMemory, IsOfEdition, OnlyLooks};
+ghost use Rattle.vault_audit_walk.specs.Health.{IsHealthy, IsMemory, IsOfSchemaVersion, OnlyLooks};
 
 use crate::sums::totals::{Span, Totals};
 use sqlite::{Alter, Connection, Error, Row};
 use std::alloc::Global;
-use vault_audit_model::schema::Edition;
+use vault_audit_model::schema::SchemaVersion;
 use vault_audit_records::row_check::refused;
 use vault_audit_rows::cell::{moment, moment_or_null, number, number_within, version_id};
 use vault_audit_rows::misread::Misread;
@@ -187,9 +187,9 @@ pub fn sum_tenures<S: Alter>(
     alloc: Global,
     conn: &mut Connection<S>,
 ) -> Result<Option<Totals>, Error>
-    requires { IsOfEdition S.Store conn.old Edition.Third }
+    requires { IsOfSchemaVersion S.Store conn.old SchemaVersion.Third }
     ensures reported { HasCleanDisk (state S.Store conn.new) → IfOk result (λ found. (v : Vault) →
-        AreEntries (state S.Store conn.new).now (entries_in v.histories) → AreTenuresOf Edition.Third (state S.Store conn.new).now v →
+        AreEntries (state S.Store conn.new).now (entries_in v.histories) → AreTenuresOf SchemaVersion.Third (state S.Store conn.new).now v →
         IsSomeAnd found (AreTotals v.histories)) }
     ensures look { OnlyLooks S.Store conn.old conn.new result }
     ensures err { IsHealthy (state S.Store conn.new) → IfErr result IsMemory }

@@ -84,7 +84,7 @@ impl Totals {
         }
     }
 
-    /// Counts a tenure of that department in. The error is want of memory.
+    /// Counts a tenure of that department in. The error is out of memory.
     pub fn count(&mut self, dept: DeptName, span: Span) -> Result<(), Error>
         ensures ok { OnOk result (CountsFor self.old dept (item_of span) self.new) }
         ensures err { IfErr result IsMemory }

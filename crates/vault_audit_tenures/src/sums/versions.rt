@@ -9,13 +9,13 @@ ghost use Rattle.vault_audit_model.specs.Spells.{entries_in};
 ghost use Rattle.vault_audit_model.specs.Tenures.{IsUnmoved};
 ghost use Rattle.vault_audit_tenures.specs.Totals.{AreTotals};
 ghost use Rattle.vault_audit_tenures.specs.VersionSums.{CountsEntry};
-ghost use Rattle.vault_audit_walk.specs.Health.{IsHealthy, IsMemory, IsOfEdition, OnlyLooks};
+ghost use Rattle.vault_audit_walk.specs.Health.{IsHealthy, IsMemory, IsOfSchemaVersion, OnlyLooks};
 
 use crate::sums::owned_entries::{OwnedEntry, read_owned};
 use crate::sums::totals::{Span, Totals};
 use sqlite::{Alter, Connection, Error, Row};
 use std::alloc::Global;
-use vault_audit_model::schema::Edition;
+use vault_audit_model::schema::SchemaVersion;
 use vault_audit_records::row_check::refused;
 use vault_audit_walk::walk::{Pass, walk};
 
@@ -78,11 +78,11 @@ impl Pass for SumPass {
 pub fn sum_versions<S: Alter>(
     alloc: Global,
     conn: &mut Connection<S>,
-    edition: Edition,
+    schema_version: SchemaVersion,
 ) -> Result<Option<Totals>, Error>
-    requires { IsOfEdition S.Store conn.old edition }
+    requires { IsOfSchemaVersion S.Store conn.old schema_version }
     ensures reported { HasCleanDisk (state S.Store conn.new) → IfOk result (λ found. (v : Vault) →
-        AreBuckets edition (state S.Store conn.new).now v.buckets → AreEntries (state S.Store conn.new).now (entries_in v.histories) →
+        AreBuckets schema_version (state S.Store conn.new).now v.buckets → AreEntries (state S.Store conn.new).now (entries_in v.histories) →
         AllByRecursion (IsPast v.last) (entries_in v.histories) → IsUnmoved v → IsSomeAnd found (AreTotals v.histories)) }
     ensures look { OnlyLooks S.Store conn.old conn.new result }
     ensures err { IsHealthy (state S.Store conn.new) → IfErr result IsMemory }

@@ -105,7 +105,7 @@ impl Drop for Media {
 }
 
 impl Media {
-    /// Files with these bytes. The error is want of memory.
+    /// Files with these bytes. The error is out of memory.
     pub fn new(alloc: Global, bytes: &Bytes, torn: TornWrites) -> Result<Media, AllocError> {
         Ok(Media {
             log: Medium::new(alloc, &bytes.log)?,
@@ -121,7 +121,7 @@ impl Media {
         Ok(Media::new(alloc, &bytes, self.torn)?)
     }
 
-    /// What these crashes leave of the one and of the other. Fails for want of memory.
+    /// What these crashes leave of the one and of the other. Fails where memory runs out.
     pub fn left_by(&self, log: Crash, database: Crash) -> io::Result<Bytes> {
         Ok(Bytes {
             log: self.log.left_by(log)?,
@@ -149,7 +149,7 @@ impl Media {
         self.torn
     }
 
-    /// Opens them; each fails after n calls. The error is want of memory.
+    /// Opens them; each fails after n calls. The error is out of memory.
     pub fn opened<S: Start>(&self, calls: Calls) -> Result<Files<Fuse<InMemory<S>>>, AllocError> {
         let Files { log, db } = opened::<S>(&self.log, &self.database)?;
         Ok(Files {

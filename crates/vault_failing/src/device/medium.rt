@@ -27,7 +27,7 @@ impl Drop for Medium {
 const KEY: u64 = 1;
 
 impl Medium {
-    /// A file that has these bytes, also after a crash. Fails for want of memory.
+    /// A file that has these bytes, also after a crash. Fails where memory runs out.
     pub fn new(alloc: Global, bytes: &[u8]) -> Result<Medium, AllocError> {
         let contents = Contents::new(alloc, bytes)?;
         Ok(Medium {
@@ -41,7 +41,7 @@ impl Medium {
         Ok(MemoryFile::new(self.contents.clone()?, KEY))
     }
 
-    /// What this crash would leave now. Fails for want of memory.
+    /// What this crash would leave now. Fails where memory runs out.
     pub fn left_by(&self, crash: Crash) -> io::Result<Vec<u8>> {
         match self.contents.try_borrow() {
             Ok(contents) => Ok(contents.left_by(crash)?),
@@ -74,7 +74,7 @@ impl Medium {
     }
 }
 
-/// Opens a log and its database file. Fails for want of memory.
+/// Opens a log and its database file. Fails where memory runs out.
 pub fn opened<S: Start>(
     log: &Medium,
     database: &Medium,

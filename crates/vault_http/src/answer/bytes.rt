@@ -14,7 +14,7 @@ use vault_base::moment::Moment;
 /// The bytes of an answer at a moment; where the reading was none, there is no date. `shown` is false
 /// for HEAD, whose answer has all headers and no body (RFC 9110, section 9.3.2).
 ///
-/// The error is want of memory.
+/// The error is out of memory.
 pub fn write_answer(
     alloc: Global,
     moment: Option<Moment>,

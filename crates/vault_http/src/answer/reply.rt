@@ -69,7 +69,7 @@ fn refusal_head(refusal: Refusal, allow: Option<Allow>, length: u64) -> Head
 }
 
 /// The bytes of the answer to a refusal, with the methods that are allowed where its method wasn't.
-/// `shown` is false for HEAD. The error is want of memory.
+/// `shown` is false for HEAD. The error is out of memory.
 pub fn refusal_bytes(
     alloc: Global,
     moment: Option<Moment>,
@@ -223,7 +223,7 @@ fn stop_refusal(stop: Stop) -> Refusal
 }
 
 /// The bytes of the answer to a command's reply. `drops` is true where the command drops what it
-/// names and answers nothing; `shown` is false for HEAD. The error is want of memory.
+/// names and answers nothing; `shown` is false for HEAD. The error is out of memory.
 pub fn reply_bytes(
     alloc: Global,
     moment: Option<Moment>,

@@ -10,7 +10,7 @@ ghost use Rattle.vault_store_reads.specs.Quiet.{IsOpenIfOk};
 ghost use Rattle.vault_store_edits.specs.Commits.{KeepsIfErr};
 
 use crate::commit::commit_part;
-use crate::entries::place::read_place;
+use crate::entries::context::read_context;
 use crate::parts::entry::NewEntry;
 use sqlite::{Alter, Connection, Error, ErrorCode};
 use vault_base::moment::Moment;
@@ -56,7 +56,7 @@ pub fn admit<S: Alter>(
     ensures crash { MayLeaveChanged S.Store conn.old conn.new at (change.Admit admission.now) }
 {
     let entry = &admission.history.entry;
-    let place = read_place(conn, known, &entry.bucket, &entry.key)?;
+    let place = read_context(conn, known, &entry.bucket, &entry.key)?;
     let newest = next_head(entry.id, place.head)?;
     let sums = with_version(place.sums, entry.size, at);
     let next = u64::from(entry.id.number()) + 1;

@@ -15,7 +15,7 @@ ghost use Rattle.vault_store_reads.specs.Quiet.{OnlyReads, IsOpenIfOk};
 ghost use Rattle.vault_store_edits.specs.Commits.{KeepsIfErr};
 
 use crate::commit::commit_part;
-use crate::entries::place::{read_config, read_sums};
+use crate::entries::context::{read_config, read_sums};
 use crate::parts::moves::MovedBucket;
 use sqlite::{Alter, Connection, Error, ErrorCode};
 use vault_base::moment::Moment;

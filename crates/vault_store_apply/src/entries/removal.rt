@@ -15,8 +15,8 @@ ghost use Rattle.vault_store_reads.specs.Quiet.{OnlyReads, IsOpenIfOk};
 ghost use Rattle.vault_store_edits.specs.Commits.{KeepsIfErr};
 
 use crate::commit::commit_part;
-use crate::entries::beside::read_beside;
-use crate::entries::place::read_place;
+use crate::entries::removal_context::read_removal_context;
+use crate::entries::context::read_context;
 use crate::parts::entry::RemovedEntry;
 use sqlite::{Alter, Connection, Error};
 use vault_base::moment::Moment;
@@ -75,14 +75,14 @@ pub fn remove<S: Alter>(
     ensures crash { MayLeaveChanged S.Store conn.old conn.new at (change.Remove id removal.now) }
 {
     let entry = find_entry(conn, id)?;
-    let place = match read_place(conn, known, &entry.bucket, &entry.key) {
+    let place = match read_context(conn, known, &entry.bucket, &entry.key) {
         Ok(place) => place,
         Err(error) => {
             drop(entry);
             return Err(error);
         }
     };
-    let beside = match read_beside(conn, &entry, id, place.head) {
+    let beside = match read_removal_context(conn, &entry, id, place.head) {
         Ok(beside) => beside,
         Err(error) => {
             drop(place);

@@ -1,9 +1,9 @@
-//! The statements that read the tables of an edition, and that put rows into those of the newest.
+//! The statements that read the tables of a schema version, and that put rows into those of the newest.
 ghost use Rattle.std.specs.Prelude.{◌≡◌, []};
 ghost use Rattle.vault_store_create.specs.Listings.{meta_listing, tenures_listing, listing_of, putting_of};
 ghost use Rattle.vault_audit_schema.specs.Selects.{departments_select, rules_select};
 
-use vault_audit_model::schema::Edition;
+use vault_audit_model::schema::SchemaVersion;
 use vault_audit_schema::{
     buckets_columns, callers_columns, contents_columns, departments_columns, earlier_select_text,
     entries_columns, heads_columns, insert_text, intake_columns, meta_columns, rules_columns,
@@ -11,71 +11,71 @@ use vault_audit_schema::{
 };
 use vault_base::refusal::Table;
 
-/// The query for the row of `meta`, with the number of the newest edition. Where an edition has no number of
+/// The query for the row of `meta`, with the number of the newest schema version. Where a schema version has no number of
 /// moves, there was none.
-fn meta_listing(edition: Edition) -> &'static str
-    ensures { result.now ≡ meta_listing edition }
+fn meta_listing(schema_version: SchemaVersion) -> &'static str
+    ensures { result.now ≡ meta_listing schema_version }
 {
-    match edition {
-        Edition::First | Edition::Second => "SELECT one, 3, last, next, 0 FROM meta",
-        Edition::Third => "SELECT one, 3, last, next, moves FROM meta",
+    match schema_version {
+        SchemaVersion::First | SchemaVersion::Second => "SELECT one, 3, last, next, 0 FROM meta",
+        SchemaVersion::Third => "SELECT one, 3, last, next, moves FROM meta",
     }
 }
 
-/// The query for the departments. Where an edition has no columns for them, no bytes came or went with a
+/// The query for the departments. Where a schema version has no columns for them, no bytes came or went with a
 /// bucket.
-fn departments_listing(edition: Edition) -> &'static str
-    ensures { result.now ≡ departments_select edition [] }
+fn departments_listing(schema_version: SchemaVersion) -> &'static str
+    ensures { result.now ≡ departments_select schema_version [] }
 {
-    match edition {
-        Edition::First | Edition::Second => departments_columns!(earlier_select_text),
-        Edition::Third => departments_columns!(select_text),
+    match schema_version {
+        SchemaVersion::First | SchemaVersion::Second => departments_columns!(earlier_select_text),
+        SchemaVersion::Third => departments_columns!(select_text),
     }
 }
 
-/// The query for the tenures. Where an edition has no table for them, each version has been its bucket's
+/// The query for the tenures. Where a schema version has no table for them, each version has been its bucket's
 /// department's since its admission.
-fn tenures_listing(edition: Edition) -> &'static str
-    ensures { result.now ≡ tenures_listing edition }
+fn tenures_listing(schema_version: SchemaVersion) -> &'static str
+    ensures { result.now ≡ tenures_listing schema_version }
 {
-    match edition {
-        Edition::First | Edition::Second => {
+    match schema_version {
+        SchemaVersion::First | SchemaVersion::Second => {
             "SELECT e.id, 0, b.dept, e.admitted FROM entries AS e JOIN buckets AS b ON b.name = e.bucket WHERE e.marker = 0"
         }
-        Edition::Third => tenures_columns!(select_text),
+        SchemaVersion::Third => tenures_columns!(select_text),
     }
 }
 
-/// The query for the rules. What an edition has no column for is NULL.
-fn rules_listing(edition: Edition) -> &'static str
-    ensures { result.now ≡ rules_select edition [] }
+/// The query for the rules. What a schema version has no column for is NULL.
+fn rules_listing(schema_version: SchemaVersion) -> &'static str
+    ensures { result.now ≡ rules_select schema_version [] }
 {
-    match edition {
-        Edition::First => rules_columns!(earlier_select_text),
-        Edition::Second | Edition::Third => rules_columns!(select_text),
+    match schema_version {
+        SchemaVersion::First => rules_columns!(earlier_select_text),
+        SchemaVersion::Second | SchemaVersion::Third => rules_columns!(select_text),
     }
 }
 
-/// The query for the rows of a table of an edition, each as the newest edition has it.
-pub(crate) fn listing(edition: Edition, table: Table) -> &'static str
-    ensures { result.now ≡ listing_of edition table }
+/// The query for the rows of a table of a schema version, each as the newest schema version has it.
+pub(crate) fn listing(schema_version: SchemaVersion, table: Table) -> &'static str
+    ensures { result.now ≡ listing_of schema_version table }
 {
     match table {
-        Table::Meta => meta_listing(edition),
-        Table::Departments => departments_listing(edition),
+        Table::Meta => meta_listing(schema_version),
+        Table::Departments => departments_listing(schema_version),
         Table::Callers => callers_columns!(select_text),
         Table::Buckets => buckets_columns!(select_text),
-        Table::Rules => rules_listing(edition),
+        Table::Rules => rules_listing(schema_version),
         Table::Entries => entries_columns!(select_text),
         Table::Contents => contents_columns!(select_text),
         Table::Settings => settings_columns!(select_text),
         Table::Intake => intake_columns!(select_text),
         Table::Heads => heads_columns!(select_text),
-        Table::Tenures => tenures_listing(edition),
+        Table::Tenures => tenures_listing(schema_version),
     }
 }
 
-/// The statement that puts a row into a table of the newest edition.
+/// The statement that puts a row into a table of the newest schema version.
 pub(crate) fn putting(table: Table) -> &'static str
     ensures { result.now ≡ putting_of table }
 {

@@ -39,7 +39,7 @@ pub(crate) fn put_row<S: Alter>(
     ensures same_reference { tx.new.conn.ghost_name ≡ tx.old.conn.ghost_name }
     ensures put { HasCleanDisk (state S.Store tx.new.conn.now) → IsTrue tx.old.conn.now.in_transaction
         → OnOk result (Steps (state S.Store tx.old.conn.now) (state S.Store tx.new.conn.now) (PutsRow table row.now)) }
-    // A store that works refuses a record of the table for want of memory, or as its database refuses it.
+    // A store that works refuses a record of the table where memory runs out, or as its database refuses it.
     ensures refused { IsHealthy (state S.Store tx.new.conn.now) → IsTrue tx.old.conn.now.in_transaction → (state S.Store tx.old.conn.now).now.schema ≡ vault_schema → IsRowOf table row.now
         → IfErr result (λ e. IsMemory e ⊎ Refuses table row.now (state S.Store tx.old.conn.now).now) }
     ensures survives { Survives (state S.Store tx.old.conn.now) (state S.Store tx.new.conn.now) (λ _. ⊥) }

@@ -1,4 +1,4 @@
-//! The rows of the tables of an earlier edition, copied one table after the other.
+//! The rows of the tables of an earlier schema version, copied one table after the other.
 ghost use Rattle.std.specs.Prelude.{◌≡◌, ◌+◌, ◌⊎◌, [], List, IsTrue, IfErr, OnOk};
 ghost use Rattle.sqlite_value.specs.Order.{Row as Values};
 ghost use Rattle.sqlite.specs.Held.{state};
@@ -8,7 +8,7 @@ ghost use Rattle.sqlite.specs.Listing.{understood};
 ghost use Rattle.vault_audit_model.specs.Order.{place_of};
 ghost use Rattle.vault_audit_walk.specs.Walk.{Goes};
 ghost use Rattle.vault_audit_model.specs.Tables.{vault_schema};
-ghost use Rattle.vault_audit_walk.specs.Health.{IsHealthy, IsMemory, IsOfEdition, OnlyLooks};
+ghost use Rattle.vault_audit_walk.specs.Health.{IsHealthy, IsMemory, IsOfSchemaVersion, OnlyLooks};
 ghost use Rattle.vault_store_create.specs.Create.{Moves};
 ghost use Rattle.vault_store_create.specs.Copied.{Steps, PutsRow, HasCopied, AsksFor, StopsAt, FailsForARow};
 
@@ -16,7 +16,7 @@ use crate::copy::listing::listing;
 use crate::copy::row::put_row;
 use sqlite::{Alter, Connection, Error, ErrorCode, Transaction};
 use std::alloc::Global;
-use vault_audit_model::schema::Edition;
+use vault_audit_model::schema::SchemaVersion;
 use vault_base::refusal::Table;
 
 /// Puts each row in that the query shows.
@@ -48,45 +48,45 @@ fn copy_rows<O: Alter, S: Alter>(
     Err(Error::SqliteFailure(ErrorCode::OutOfMemory))
 }
 
-/// Copies a table out of a file of that edition, all those before it being copied.
+/// Copies a table out of a file of that schema version, all those before it being copied.
 fn copy_table<O: Alter, S: Alter>(
     alloc: Global,
     old: &mut Connection<O>,
     tx: &mut Transaction<'_, S>,
-    edition: Edition,
+    schema_version: SchemaVersion,
     table: Table,
 ) -> Result<(), Error>
-    requires { IsOfEdition O.Store old.old edition }
+    requires { IsOfSchemaVersion O.Store old.old schema_version }
     ensures same_reference { tx.new.conn.ghost_name ≡ tx.old.conn.ghost_name }
     ensures copied { HasCleanDisk (state O.Store old.new) → HasCleanDisk (state S.Store tx.new.conn.now) → IsTrue tx.old.conn.now.in_transaction → IsTrue (state S.Store tx.old.conn.now).is_open
         → OnOk result (Moves (state S.Store tx.old.conn.now) (state S.Store tx.new.conn.now)
-        (HasCopied edition (state O.Store old.old).now (place_of table)) (HasCopied edition (state O.Store old.old).now (place_of table + 1))) }
-    ensures refused { FailsForARow edition (place_of table) (state O.Store old.old) (state O.Store old.new) (state S.Store tx.old.conn.now) (state S.Store tx.new.conn.now) result }
+        (HasCopied schema_version (state O.Store old.old).now (place_of table)) (HasCopied schema_version (state O.Store old.old).now (place_of table + 1))) }
+    ensures refused { FailsForARow schema_version (place_of table) (state O.Store old.old) (state O.Store old.new) (state S.Store tx.old.conn.now) (state S.Store tx.new.conn.now) result }
     ensures survives { Survives (state S.Store tx.old.conn.now) (state S.Store tx.new.conn.now) (λ _. ⊥) }
     ensures look { OnlyLooks O.Store old.old old.new result }
 {
-    copy_rows(alloc, old, tx, listing(edition, table), table)
+    copy_rows(alloc, old, tx, listing(schema_version, table), table)
 }
 
 fn copy_first<O: Alter, S: Alter>(
     alloc: Global,
     old: &mut Connection<O>,
     tx: &mut Transaction<'_, S>,
-    edition: Edition,
+    schema_version: SchemaVersion,
 ) -> Result<(), Error>
-    requires { IsOfEdition O.Store old.old edition }
+    requires { IsOfSchemaVersion O.Store old.old schema_version }
     ensures same_reference { tx.new.conn.ghost_name ≡ tx.old.conn.ghost_name }
     ensures copied { HasCleanDisk (state O.Store old.new) → HasCleanDisk (state S.Store tx.new.conn.now) → IsTrue tx.old.conn.now.in_transaction → IsTrue (state S.Store tx.old.conn.now).is_open
         → OnOk result (Moves (state S.Store tx.old.conn.now) (state S.Store tx.new.conn.now)
-        (HasCopied edition (state O.Store old.old).now 0) (HasCopied edition (state O.Store old.old).now 4)) }
-    ensures refused { FailsForARow edition 0 (state O.Store old.old) (state O.Store old.new) (state S.Store tx.old.conn.now) (state S.Store tx.new.conn.now) result }
+        (HasCopied schema_version (state O.Store old.old).now 0) (HasCopied schema_version (state O.Store old.old).now 4)) }
+    ensures refused { FailsForARow schema_version 0 (state O.Store old.old) (state O.Store old.new) (state S.Store tx.old.conn.now) (state S.Store tx.new.conn.now) result }
     ensures survives { Survives (state S.Store tx.old.conn.now) (state S.Store tx.new.conn.now) (λ _. ⊥) }
     ensures look { OnlyLooks O.Store old.old old.new result }
 {
-    copy_table(alloc, old, tx, edition, Table::Meta)?;
-    copy_table(alloc, old, tx, edition, Table::Departments)?;
-    copy_table(alloc, old, tx, edition, Table::Callers)?;
-    copy_table(alloc, old, tx, edition, Table::Buckets)?;
+    copy_table(alloc, old, tx, schema_version, Table::Meta)?;
+    copy_table(alloc, old, tx, schema_version, Table::Departments)?;
+    copy_table(alloc, old, tx, schema_version, Table::Callers)?;
+    copy_table(alloc, old, tx, schema_version, Table::Buckets)?;
     Ok(())
 }
 
@@ -94,21 +94,21 @@ fn copy_second<O: Alter, S: Alter>(
     alloc: Global,
     old: &mut Connection<O>,
     tx: &mut Transaction<'_, S>,
-    edition: Edition,
+    schema_version: SchemaVersion,
 ) -> Result<(), Error>
-    requires { IsOfEdition O.Store old.old edition }
+    requires { IsOfSchemaVersion O.Store old.old schema_version }
     ensures same_reference { tx.new.conn.ghost_name ≡ tx.old.conn.ghost_name }
     ensures copied { HasCleanDisk (state O.Store old.new) → HasCleanDisk (state S.Store tx.new.conn.now) → IsTrue tx.old.conn.now.in_transaction → IsTrue (state S.Store tx.old.conn.now).is_open
         → OnOk result (Moves (state S.Store tx.old.conn.now) (state S.Store tx.new.conn.now)
-        (HasCopied edition (state O.Store old.old).now 4) (HasCopied edition (state O.Store old.old).now 8)) }
-    ensures refused { FailsForARow edition 4 (state O.Store old.old) (state O.Store old.new) (state S.Store tx.old.conn.now) (state S.Store tx.new.conn.now) result }
+        (HasCopied schema_version (state O.Store old.old).now 4) (HasCopied schema_version (state O.Store old.old).now 8)) }
+    ensures refused { FailsForARow schema_version 4 (state O.Store old.old) (state O.Store old.new) (state S.Store tx.old.conn.now) (state S.Store tx.new.conn.now) result }
     ensures survives { Survives (state S.Store tx.old.conn.now) (state S.Store tx.new.conn.now) (λ _. ⊥) }
     ensures look { OnlyLooks O.Store old.old old.new result }
 {
-    copy_table(alloc, old, tx, edition, Table::Rules)?;
-    copy_table(alloc, old, tx, edition, Table::Entries)?;
-    copy_table(alloc, old, tx, edition, Table::Contents)?;
-    copy_table(alloc, old, tx, edition, Table::Settings)?;
+    copy_table(alloc, old, tx, schema_version, Table::Rules)?;
+    copy_table(alloc, old, tx, schema_version, Table::Entries)?;
+    copy_table(alloc, old, tx, schema_version, Table::Contents)?;
+    copy_table(alloc, old, tx, schema_version, Table::Settings)?;
     Ok(())
 }
 
@@ -116,40 +116,40 @@ fn copy_last<O: Alter, S: Alter>(
     alloc: Global,
     old: &mut Connection<O>,
     tx: &mut Transaction<'_, S>,
-    edition: Edition,
+    schema_version: SchemaVersion,
 ) -> Result<(), Error>
-    requires { IsOfEdition O.Store old.old edition }
+    requires { IsOfSchemaVersion O.Store old.old schema_version }
     ensures same_reference { tx.new.conn.ghost_name ≡ tx.old.conn.ghost_name }
     ensures copied { HasCleanDisk (state O.Store old.new) → HasCleanDisk (state S.Store tx.new.conn.now) → IsTrue tx.old.conn.now.in_transaction → IsTrue (state S.Store tx.old.conn.now).is_open
         → OnOk result (Moves (state S.Store tx.old.conn.now) (state S.Store tx.new.conn.now)
-        (HasCopied edition (state O.Store old.old).now 8) (HasCopied edition (state O.Store old.old).now 11)) }
-    ensures refused { FailsForARow edition 8 (state O.Store old.old) (state O.Store old.new) (state S.Store tx.old.conn.now) (state S.Store tx.new.conn.now) result }
+        (HasCopied schema_version (state O.Store old.old).now 8) (HasCopied schema_version (state O.Store old.old).now 11)) }
+    ensures refused { FailsForARow schema_version 8 (state O.Store old.old) (state O.Store old.new) (state S.Store tx.old.conn.now) (state S.Store tx.new.conn.now) result }
     ensures survives { Survives (state S.Store tx.old.conn.now) (state S.Store tx.new.conn.now) (λ _. ⊥) }
     ensures look { OnlyLooks O.Store old.old old.new result }
 {
-    copy_table(alloc, old, tx, edition, Table::Intake)?;
-    copy_table(alloc, old, tx, edition, Table::Heads)?;
-    copy_table(alloc, old, tx, edition, Table::Tenures)?;
+    copy_table(alloc, old, tx, schema_version, Table::Intake)?;
+    copy_table(alloc, old, tx, schema_version, Table::Heads)?;
+    copy_table(alloc, old, tx, schema_version, Table::Tenures)?;
     Ok(())
 }
 
-/// Copies all tables of a file of that edition into empty tables of the newest, inside a transaction.
+/// Copies all tables of a file of that schema version into empty tables of the newest, inside a transaction.
 pub(crate) fn copy_tables<O: Alter, S: Alter>(
     alloc: Global,
     old: &mut Connection<O>,
     tx: &mut Transaction<'_, S>,
-    edition: Edition,
+    schema_version: SchemaVersion,
 ) -> Result<(), Error>
-    requires { IsOfEdition O.Store old.old edition }
+    requires { IsOfSchemaVersion O.Store old.old schema_version }
     ensures same_reference { tx.new.conn.ghost_name ≡ tx.old.conn.ghost_name }
     ensures copied { HasCleanDisk (state O.Store old.new) → HasCleanDisk (state S.Store tx.new.conn.now) → IsTrue tx.old.conn.now.in_transaction → IsTrue (state S.Store tx.old.conn.now).is_open
         → OnOk result (Moves (state S.Store tx.old.conn.now) (state S.Store tx.new.conn.now)
-        (HasCopied edition (state O.Store old.old).now 0) (HasCopied edition (state O.Store old.old).now 11)) }
-    ensures refused { FailsForARow edition 0 (state O.Store old.old) (state O.Store old.new) (state S.Store tx.old.conn.now) (state S.Store tx.new.conn.now) result }
+        (HasCopied schema_version (state O.Store old.old).now 0) (HasCopied schema_version (state O.Store old.old).now 11)) }
+    ensures refused { FailsForARow schema_version 0 (state O.Store old.old) (state O.Store old.new) (state S.Store tx.old.conn.now) (state S.Store tx.new.conn.now) result }
     ensures survives { Survives (state S.Store tx.old.conn.now) (state S.Store tx.new.conn.now) (λ _. ⊥) }
     ensures look { OnlyLooks O.Store old.old old.new result }
 {
-    copy_first(alloc, old, tx, edition)?;
-    copy_second(alloc, old, tx, edition)?;
-    copy_last(alloc, old, tx, edition)
+    copy_first(alloc, old, tx, schema_version)?;
+    copy_second(alloc, old, tx, schema_version)?;
+    copy_last(alloc, old, tx, schema_version)
 }

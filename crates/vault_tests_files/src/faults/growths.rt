@@ -80,7 +80,7 @@ fn a_list_is_taken_in(rt: HostRuntime) -> Result<(), Fail> {
     try_on_new(rt.alloc(), &Whole)
 }
 
-/// The rows that are reported are those of the untroubled intake, and only want of memory stops it.
+/// The rows that are reported are those of the untroubled intake, and only out of memory stops it.
 fn judge_report(alloc: Global, report: &IntakeReport) -> Result<(), Fail> {
     match report.stopped {
         None => lists_rows(alloc, report, 3, ""),

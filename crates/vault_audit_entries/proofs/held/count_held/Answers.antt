@@ -9,12 +9,12 @@ use Rattle.vault_audit_entries.proofs.ContentTextLemmas.{held_text, held_scan, h
 use Rattle.vault_audit_entries.proofs.held.count_held.Goals as goal
 
 pub walk-requires : goal.walk-requires
-walk-requires g c clean = subst (λ s. IsPlain (understood s held_text)) (sym (c.requires clean)) (held_scan c.args.edition).plain
+walk-requires g c clean = subst (λ s. IsPlain (understood s held_text)) (sym (c.requires clean)) (held_scan c.args.schema_version).plain
 
 pub returns-clause-reported : goal.returns-clause-reported
 returns-clause-reported g c clean es are =
     let early : HasCleanDisk (state g.S.Store c.args.conn.now) = omega (arith, c.in_ok-_whole.ensures.look.crash.clean) in
-    (held_all c.args.edition) (state g.S.Store c.args.conn.now) (state g.S.Store c.walk.new.conn) (c.requires early) (c.in_ok-_whole.ensures.look.same clean) c.walk.new.pass es are c.in_ok-_whole._whole (c.in_ok-_whole.ensures.walked clean)
+    (held_all c.args.schema_version) (state g.S.Store c.args.conn.now) (state g.S.Store c.walk.new.conn) (c.requires early) (c.in_ok-_whole.ensures.look.same clean) c.walk.new.pass es are c.in_ok-_whole._whole (c.in_ok-_whole.ensures.walked clean)
 
 pub returns-in_err-_whole-clause-err : goal.returns-in_err-_whole-clause-err
-returns-in_err-_whole-clause-err g c well = let it : IsMemory c.in_err-_whole.field-0.0 = c.in_err-_whole.ensures.err well (λ clean. subst (λ s. Asks s held_text) (sym (c.requires clean)) (held_asks c.args.edition)) in search rules
+returns-in_err-_whole-clause-err g c well = let it : IsMemory c.in_err-_whole.field-0.0 = c.in_err-_whole.ensures.err well (λ clean. subst (λ s. Asks s held_text) (sym (c.requires clean)) (held_asks c.args.schema_version)) in search rules

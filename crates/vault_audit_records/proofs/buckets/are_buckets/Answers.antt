@@ -9,12 +9,12 @@ use Rattle.vault_audit_records.proofs.RuleTextLemmas.{buckets_walk, buckets_walk
 use Rattle.vault_audit_records.proofs.buckets.are_buckets.Goals as goal
 
 pub walk-requires : goal.walk-requires
-walk-requires g c clean = subst (λ s. IsPlain (understood s buckets_walk)) (sym (c.requires clean)) (buckets_walk_plain c.args.edition)
+walk-requires g c clean = subst (λ s. IsPlain (understood s buckets_walk)) (sym (c.requires clean)) (buckets_walk_plain c.args.schema_version)
 
 pub returns-clause-reported : goal.returns-clause-reported
 returns-clause-reported g c clean =
     let early : HasCleanDisk (state g.S.Store c.args.conn.now) = omega (arith, c.walk.ensures.look.crash.clean) in
-    buckets_if_ok c.args.edition (state g.S.Store c.args.conn.now) (state g.S.Store c.walk.new.conn) (c.requires early) c.walk.new.pass c.walk.result (c.walk.ensures.look.same clean) (c.walk.ensures.walked clean)
+    buckets_if_ok c.args.schema_version (state g.S.Store c.args.conn.now) (state g.S.Store c.walk.new.conn) (c.requires early) c.walk.new.pass c.walk.result (c.walk.ensures.look.same clean) (c.walk.ensures.walked clean)
 
 pub returns-clause-err : goal.returns-clause-err
-returns-clause-err g c well = c.walk.ensures.err well (λ clean. subst (λ s. Asks s buckets_walk) (sym (c.requires clean)) (buckets_walk_asks c.args.edition))
+returns-clause-err g c well = c.walk.ensures.err well (λ clean. subst (λ s. Asks s buckets_walk) (sym (c.requires clean)) (buckets_walk_asks c.args.schema_version))

@@ -13,17 +13,17 @@ use Rattle.vault_audit_records.proofs.NameTextLemmas.{callers_walk, callers_walk
 use Rattle.vault_audit_records.proofs.callers.check_callers_by_name.Goals as goal
 
 pub walk-requires : goal.walk-requires
-walk-requires g c clean = subst (λ s. IsPlain (understood s callers_walk)) (sym (c.requires clean)) (callers_walk_plain c.args.edition)
+walk-requires g c clean = subst (λ s. IsPlain (understood s callers_walk)) (sym (c.requires clean)) (callers_walk_plain c.args.schema_version)
 
 pub returns-clause-reported : goal.returns-clause-reported
 returns-clause-reported g c clean =
     let early : HasCleanDisk (state g.S.Store c.args.conn.now) = omega (arith, c.walk.ensures.look.crash.clean) in
-    (callers_if_ok c.args.edition) (state g.S.Store c.args.conn.now) (state g.S.Store c.walk.new.conn) (c.requires early) c.walk.new.pass c.walk.result (c.walk.ensures.look.same clean) (c.walk.ensures.walked clean)
+    (callers_if_ok c.args.schema_version) (state g.S.Store c.args.conn.now) (state g.S.Store c.walk.new.conn) (c.requires early) c.walk.new.pass c.walk.result (c.walk.ensures.look.same clean) (c.walk.ensures.walked clean)
 
 pub returns-clause-damaged : goal.returns-clause-damaged
 returns-clause-damaged g c clean =
     let db = (state g.S.Store c.walk.new.conn).now in
-    refused_if_ok (DecidesCallers db) ((v : Vault) → ¬ AreSoundAs c.args.edition db v) (λ none v. (no_callers c.args.edition) db v none) c.walk.result (returns-clause-reported g c clean)
+    refused_if_ok (DecidesCallers db) ((v : Vault) → ¬ AreSoundAs c.args.schema_version db v) (λ none v. (no_callers c.args.schema_version) db v none) c.walk.result (returns-clause-reported g c clean)
 
 pub returns-clause-err : goal.returns-clause-err
-returns-clause-err g c well = c.walk.ensures.err well (λ clean. subst (λ s. Asks s callers_walk) (sym (c.requires clean)) (callers_walk_asks c.args.edition))
+returns-clause-err g c well = c.walk.ensures.err well (λ clean. subst (λ s. Asks s callers_walk) (sym (c.requires clean)) (callers_walk_asks c.args.schema_version))

@@ -5,7 +5,7 @@ use Rattle.vault_audit_tenures.proofs.SoundLemmas.{if_older, if_third, damaged_i
 use Rattle.vault_audit_tenures.proofs.second_look.check_tenures.Goals as goal
 
 pub returns-in-First-clause-reported : goal.returns-in-First-clause-reported
-returns-in-First-clause-reported g c clean = if_older c.args.edition (state g.S.Store c.args.conn.now).now c.args.meta c.in-First.is
+returns-in-First-clause-reported g c clean = if_older c.args.schema_version (state g.S.Store c.args.conn.now).now c.args.meta c.in-First.is
 
 pub returns-in-First-clause-look : goal.returns-in-First-clause-look
 returns-in-First-clause-look g c = record {
@@ -14,7 +14,7 @@ returns-in-First-clause-look g c = record {
 }
 
 pub returns-in-Third-clause-reported : goal.returns-in-Third-clause-reported
-returns-in-Third-clause-reported g c clean = if_third c.args.edition (state g.S.Store c.check_rows_of_tenures.new.conn).now c.args.meta c.in-Third.is c.check_rows_of_tenures.result (c.check_rows_of_tenures.ensures.reported clean)
+returns-in-Third-clause-reported g c clean = if_third c.args.schema_version (state g.S.Store c.check_rows_of_tenures.new.conn).now c.args.meta c.in-Third.is c.check_rows_of_tenures.result (c.check_rows_of_tenures.ensures.reported clean)
 
 pub returns-in-Third-clause-damaged : goal.returns-in-Third-clause-damaged
-returns-in-Third-clause-damaged g c clean = damaged_if_ok c.args.edition (state g.S.Store c.check_rows_of_tenures.new.conn).now c.args.meta c.check_rows_of_tenures.result (returns-in-Third-clause-reported g c clean)
+returns-in-Third-clause-damaged g c clean = damaged_if_ok c.args.schema_version (state g.S.Store c.check_rows_of_tenures.new.conn).now c.args.meta c.check_rows_of_tenures.result (returns-in-Third-clause-reported g c clean)

@@ -2,7 +2,7 @@ use Rattle.std.proofs.Common.{Err, inr, refl}
 use Rattle.std.proofs.lemmas.Result.{on_ok_weaker, IfErr-weaker}
 use Rattle.vault_core_model.specs.Leaves.{RoseOrIsFull}
 use Rattle.vault_core_model.proofs.Counts.{no_less, rose, stays}
-use Rattle.vault_http.specs.Hearing.{timed}
+use Rattle.vault_core.specs.Hearing.{timed}
 use Rattle.vault_http.specs.declared.fault.ServeFault.TheVariants as faults
 use Rattle.vault_http.proofs.Counted.{reply_sent, step_steady}
 use Rattle.vault_http.proofs.Serves.{answer_left, answer_served}

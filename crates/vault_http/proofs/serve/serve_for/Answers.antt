@@ -1,7 +1,7 @@
 use Rattle.std.proofs.Common.{ℕ, Option, subst, sym}
 use Rattle.std.proofs.lemmas.Result.{on_ok_weaker, IfErr-weaker}
 use Rattle.vault_core_model.specs.Leaves.{RoseOrIsFull}
-use Rattle.vault_http.specs.Hearing.{HearsOnce}
+use Rattle.vault_core.specs.Hearing.{HearsOnce}
 use Rattle.vault_http.specs.Steady.{Steady}
 use Rattle.vault_http.proofs.JudgingLemmas.{denied_left, denied_served, denied_taken, nothing_taken, planned_served, planned_taken}
 use Rattle.vault_http.proofs.serve.serve_for.Goals as goal

@@ -9,7 +9,7 @@ use Rattle.vault_store.proofs.look.look_as.Goals as goal
 pub returns-in-Err-clause-damaged : goal.returns-in-Err-clause-damaged
 returns-in-Err-clause-damaged g c clean t stated v is =
     let early : HasCleanDisk (state g.S.Store c.audit.new.conn) = omega (arith, clean, c.end_transaction.ensures.crash.clean) in
-    c.in-Err.ensures.damaged early t stated v (subst (λ db. AreSoundAs c.args.edition db v) (sym (c.in-Err.ensures.kept early (t, stated))) is)
+    c.in-Err.ensures.damaged early t stated v (subst (λ db. AreSoundAs c.args.schema_version db v) (sym (c.in-Err.ensures.kept early (t, stated))) is)
 
 pub returns-in-Err-clause-healthy : goal.returns-in-Err-clause-healthy
 returns-in-Err-clause-healthy g c healthy =

@@ -32,12 +32,12 @@ returns-in-Err-commit-clause-tables g c clean =
 
 pub returns-in-Err-commit-clause-crash : goal.returns-in-Err-commit-clause-crash
 returns-in-Err-commit-clause-crash g c =
-    copy_survives (state g.S.Store c.args.new.now) (state g.S.Store c.take_copy.new.new) (state g.S.Store c.look_at_copy.new.new) (state g.S.Store c.commit.new.conn) c.args.edition (state g.O.Store c.args.old.now).now (HasCleanDisk (state g.O.Store c.take_copy.new.old))
+    copy_survives (state g.S.Store c.args.new.now) (state g.S.Store c.take_copy.new.new) (state g.S.Store c.look_at_copy.new.new) (state g.S.Store c.commit.new.conn) c.args.schema_version (state g.O.Store c.args.old.now).now (HasCleanDisk (state g.O.Store c.take_copy.new.old))
     c.take_copy.ensures.crash c.look_at_copy.ensures.crash c.commit.ensures.crash (λ clean. (c.in-Ok-look_at_copy.ensures.same clean).0.now_is) c.in-Ok.ensures.spelled c.in-Ok.ensures.copied
 
 pub returns-clause-crash : goal.returns-clause-crash
 returns-clause-crash g c =
-    copy_survives (state g.S.Store c.args.new.now) (state g.S.Store c.take_copy.new.new) (state g.S.Store c.look_at_copy.new.new) (state g.S.Store c.commit.new.conn) c.args.edition (state g.O.Store c.args.old.now).now (HasCleanDisk (state g.O.Store c.take_copy.new.old))
+    copy_survives (state g.S.Store c.args.new.now) (state g.S.Store c.take_copy.new.new) (state g.S.Store c.look_at_copy.new.new) (state g.S.Store c.commit.new.conn) c.args.schema_version (state g.O.Store c.args.old.now).now (HasCleanDisk (state g.O.Store c.take_copy.new.old))
     c.take_copy.ensures.crash c.look_at_copy.ensures.crash c.commit.ensures.crash (λ clean. (c.in-Ok-look_at_copy.ensures.same clean).0.now_is) c.in-Ok.ensures.spelled c.in-Ok.ensures.copied
 
 pub returns-clause-copied : goal.returns-clause-copied

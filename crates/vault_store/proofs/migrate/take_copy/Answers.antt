@@ -13,7 +13,7 @@ pub returns-in-Ok-begin_copy-clause-copied : goal.returns-in-Ok-begin_copy-claus
 returns-in-Ok-begin_copy-clause-copied g c clean after v is =
     let mid = state g.O.Store c.look_as.new.conn in
     let early : HasCleanDisk mid = omega (arith, clean, c.begin_copy.ensures.look.crash.clean) in
-    let here = subst (λ db. AreSoundAs c.args.edition db v) (sym (c.in-Ok.ensures.same early).0.now_is) is in
+    let here = subst (λ db. AreSoundAs c.args.schema_version db v) (sym (c.in-Ok.ensures.same early).0.now_is) is in
     c.in-Ok-begin_copy.ensures.copied clean after v here
 
 pub returns-in-Err-begin_copy-clause-old_tables : goal.returns-in-Err-begin_copy-clause-old_tables
@@ -32,7 +32,7 @@ pub returns-in-Err-begin_copy-clause-unsound : goal.returns-in-Err-begin_copy-cl
 returns-in-Err-begin_copy-clause-unsound g c none well same =
     let early : HasCleanDisk (state g.O.Store c.look_as.new.conn) = omega (arith, well.clean, c.begin_copy.ensures.look.crash.clean, c.settle.ensures.crash.clean) in
     let it = c.in-Ok.ensures.sound early in
-    none it.0 (subst (λ db. AreSoundAs c.args.edition db it.0) (c.in-Ok.ensures.same early).0.now_is it.1)
+    none it.0 (subst (λ db. AreSoundAs c.args.schema_version db it.0) (c.in-Ok.ensures.same early).0.now_is it.1)
 
 pub returns-in-Err-begin_copy-clause-refused : goal.returns-in-Err-begin_copy-clause-refused
 returns-in-Err-begin_copy-clause-refused g c well_old well stated =
@@ -42,4 +42,4 @@ returns-in-Err-begin_copy-clause-refused g c well_old well stated =
     let early : HasCleanDisk mid = omega (arith, read.clean, c.begin_copy.ensures.look.crash.clean) in
     let it = c.in-Ok.ensures.sound early in
     let same = (c.in-Ok.ensures.same early).0.now_is in
-    (it.0, subst (λ db. AreSoundAs c.args.edition db it.0) same it.1, c.in-Err-begin_copy.ensures.refused it.0 it.1 read written stated)
+    (it.0, subst (λ db. AreSoundAs c.args.schema_version db it.0) same it.1, c.in-Err-begin_copy.ensures.refused it.0 it.1 read written stated)

@@ -2,15 +2,15 @@ use Rattle.std.proofs.Common.{[], ◌∷◌}
 use Rattle.sqlite_value.specs.declared.value.Value.TheVariants.{Text}
 use Rattle.vault_base.specs.declared.refusal.Table.TheVariants as table
 use Rattle.vault_store_model.specs.Tests.{is_named, closed_row}
-use Rattle.vault_store_edits.proofs.ChangeLemmas.{updates_apart}
+use Rattle.vault_store_edits.proofs.ChangeLemmas.{updates_by_rowid}
 use Rattle.vault_store_edits.proofs.RecordTextLemmas.{by_name, closed_text, finds_caller}
 use Rattle.vault_store_edits.proofs.RecordRowLemmas.{closes_caller}
 use Rattle.vault_store_edits.proofs.callers.close_caller.Goals as goal
 
 pub returns-clause-edit : goal.returns-clause-edit
 returns-clause-edit g c =
-    let look = c.in_ok-check_apart.ensures in
-    updates_apart g.S.Store c.args.tx.now.conn.now c.check_apart.new.tx.conn.now c.execute.new.self.conn.now table.Callers by_name (Text c.args.name.now ∷ []) closed_text c.execute.result
-    (λ clean has. rw (c.params-to_sql.ensures, c.as_str.ensures.text) at (look.apart clean has by_name finds_caller)) look.kept look.inside look.survives
+    let look = c.in_ok-check_rowids.ensures in
+    updates_by_rowid g.S.Store c.args.tx.now.conn.now c.check_rowids.new.tx.conn.now c.execute.new.self.conn.now table.Callers by_name (Text c.args.name.now ∷ []) closed_text c.execute.result
+    (λ clean has. rw (c.params-to_sql.ensures, c.as_str.ensures.text) at (look.unique clean has by_name finds_caller)) look.kept look.inside look.survives
     (λ clean inside. rw (c.params-to_sql-2.ensures, c.as_str-2.ensures.text) at (c.execute.ensures.runs clean inside)) c.execute.ensures.survives
     (is_named c.args.name.now) closed_row (closes_caller c.args.name.now _ _)

@@ -2,7 +2,7 @@ use Rattle.std.proofs.Common.{[], ◌∷◌, FitsSigned, w64, rules, to_z-of_z}
 use Rattle.vault_base.specs.declared.refusal.Table.TheVariants as table
 use Rattle.vault_audit_model.specs.Values.{number}
 use Rattle.vault_store_model.specs.Tests.{every, with_last}
-use Rattle.vault_store_edits.proofs.ChangeLemmas.{updates_apart}
+use Rattle.vault_store_edits.proofs.ChangeLemmas.{updates_by_rowid}
 use Rattle.vault_store_edits.proofs.RecordTextLemmas.{finds_meta, last_text}
 use Rattle.vault_store_edits.proofs.RecordRowLemmas.{sets_last}
 use Rattle.vault_store_edits.proofs.TransactionLemmas.{on_ok_here}
@@ -10,10 +10,10 @@ use Rattle.vault_store_edits.proofs.meta.set_last.Goals as goal
 
 pub returns-clause-edit : goal.returns-clause-edit
 returns-clause-edit g c =
-    let look = c.in_ok-check_apart.ensures in
+    let look = c.in_ok-check_rowids.ensures in
     let fits0 : FitsSigned w64 c.seconds.result = search rules in
-    updates_apart g.S.Store c.args.tx.now.conn.now c.check_apart.new.tx.conn.now c.execute.new.self.conn.now table.Meta [] (number c.args.last ∷ []) last_text c.execute.result
-    (λ clean has. look.apart clean has [] finds_meta) look.kept look.inside look.survives
+    updates_by_rowid g.S.Store c.args.tx.now.conn.now c.check_rowids.new.tx.conn.now c.execute.new.self.conn.now table.Meta [] (number c.args.last ∷ []) last_text c.execute.result
+    (λ clean has. look.unique clean has [] finds_meta) look.kept look.inside look.survives
     (λ clean inside. rw (c.params-to_sql.ensures, to_z-of_z fits0, c.seconds.ensures.value) at (c.execute.ensures.runs clean inside)) c.execute.ensures.survives
     every (with_last c.args.last) (sets_last c.args.last _ _)
 

@@ -1,7 +1,7 @@
 use Rattle.sqlite.specs.Files.{file_state}
 use Rattle.sqlite_wal.specs.Files.{image_at}
 use Rattle.vault_audit.specs.Whole.{IsReported}
-use Rattle.vault_audit_model.specs.Editions.{newest}
+use Rattle.vault_audit_model.specs.SchemaVersions.{newest}
 use Rattle.vaultctl_machine.proofs.FoundLemmas.{was_clean, was_sound, found_in_files, held_in_files}
 use Rattle.vaultctl_machine.proofs.OpeningLemmas.{opened_still}
 use Rattle.vaultctl_machine.proofs.RefusalLemmas.{closes_as, refused_over, reports_as}

@@ -1,6 +1,6 @@
 use Rattle.std.proofs.Common.{sym, subst, OnErr}
 use Rattle.std.specs.Prelude.{IfOk, string_bytes}
-use Rattle.vault_http.specs.Line.{Line}
+use Rattle.vault_lines_read.specs.declared.read_line.Line.{Line}
 use Rattle.vaultctl_replay.specs.Runs.{HearsLine, Replied, Unwritten}
 use Rattle.vaultctl_replay.proofs.RunLemmas.{refusal_replied}
 use Rattle.vaultctl_replay.proofs.answer.reply_to.Goals as goal

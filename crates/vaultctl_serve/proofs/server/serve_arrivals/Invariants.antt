@@ -1,5 +1,5 @@
 use Rattle.std.proofs.Common.{◌≤◌}
-use Rattle.vault_http.specs.Hearing.{HearsAll}
+use Rattle.vault_core.specs.Hearing.{HearsAll}
 use Rattle.vaultctl_serve.specs.Account.{LogsExactly}
 use Rattle.vaultctl_serve.specs.Serving.{ReportsOnce, SteppedOnTime}
 use Rattle.vaultctl_serve.proofs.server.serve_arrivals.Given as goal

@@ -1,6 +1,6 @@
 use Rattle.std.proofs.Common.{◌≡◌, ℤ, Option, None, List, [], inl, refl, FitsSigned, rules, subst, sym, to_z, to_z-of_z, of_z, w64}
 use Rattle.vault_base.specs.Days.{moment_at}
-use Rattle.vault_http.specs.Left.{AtMostOne}
+use Rattle.vault_core.specs.Hearing.{AtMostOne}
 use Rattle.vaultctl_serve.specs.Serving.{SteppedOnTime, Try}
 use Rattle.vaultctl_serve.proofs.ServingLemmas.{OnTime-taken}
 use Rattle.vaultctl_serve.proofs.server.serve_next.Goals as goal

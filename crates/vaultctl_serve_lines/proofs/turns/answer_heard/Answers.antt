@@ -1,7 +1,7 @@
 use Rattle.std.proofs.Common.{◌≡◌, ◌∙◌, ℕ, ℤ, List, FitsSigned, ap, length, rules, subst, to_z, to_z-of_z, of_z, w64}
 use Rattle.std.specs.Prelude.{is_ok}
 use Rattle.vault_base.specs.Days.{moment_at}
-use Rattle.vault_http.specs.Left.{AtMostOne}
+use Rattle.vault_core.specs.Hearing.{AtMostOne}
 use Rattle.vaultctl_serve_lines.proofs.turns.answer_heard.Goals as goal
 
 -- the reading is what the clock shows

@@ -1,5 +1,5 @@
 use Rattle.std.proofs.Common.{◌≤◌}
-use Rattle.vault_http.specs.Hearing.{HearsAll}
+use Rattle.vault_core.specs.Hearing.{HearsAll}
 use Rattle.vaultctl_serve.specs.Serving.{ReportsOnce}
 use Rattle.vaultctl_serve_lines.specs.Doors.{SteppedInTurns}
 use Rattle.vaultctl_serve_lines.proofs.turns.serve_doors.Given as goal

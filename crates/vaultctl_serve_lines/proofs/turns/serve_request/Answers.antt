@@ -1,6 +1,6 @@
 use Rattle.std.proofs.Common.{◌≡◌, ◌∙◌, ℕ, Option, FitsSigned, rules, subst, sym, to_z, to_z-of_z, of_z, w64}
 use Rattle.vault_base.specs.Days.{moment_at}
-use Rattle.vault_http.specs.Left.{AtMostOne}
+use Rattle.vault_core.specs.Hearing.{AtMostOne}
 use Rattle.vaultctl_serve.proofs.AccountLemmas.{late-unread}
 use Rattle.vaultctl_serve_lines.proofs.turns.serve_request.Goals as goal
 

@@ -13,7 +13,7 @@ use Rattle.vault_audit.proofs.first_pass.in_order.look_at_tables.Goals as goal
 pub loop-table-init : goal.loop-table-init
 loop-table-init g c =
     let old = state g.S.Store c.args.conn.now in
-    let n = c.args.edition in (
+    let n = c.args.schema_version in (
       survives_itself old,
       from_after c.args.difference c.requires.after,
       λ clean. (still old (c.requires.open clean), meta_right n old.now c.args.meta.now (begin_meta n old.now.schema c.args.difference (c.requires.difference clean) c.requires.after) (c.requires.meta clean)),
@@ -24,7 +24,7 @@ loop-table-preserved g c =
     let old = state g.S.Store c.args.conn.now in
     let mid = state g.S.Store c.loop-table.conn in
     let new = state g.S.Store c.check_rows_of.new.conn in
-    let n = c.args.edition in
+    let n = c.args.schema_version in
     let d = c.args.difference in
     let place = c.loop-table.table-index + 1 in
     let t = get_or after_meta c.loop-table.table-index Meta in
@@ -51,7 +51,7 @@ pub check_rows_of-requires-clause-begin : goal.check_rows_of-requires-clause-beg
 check_rows_of-requires-clause-begin g c clean =
     let old = state g.S.Store c.args.conn.now in
     let mid = state g.S.Store c.loop-table.conn in
-    let n = c.args.edition in
+    let n = c.args.schema_version in
     let d = c.args.difference in
     let place = c.loop-table.table-index + 1 in
     let t = get_or after_meta c.loop-table.table-index Meta in
@@ -66,7 +66,7 @@ pub returns-then-is_at-clause-reported : goal.returns-then-is_at-clause-reported
 returns-then-is_at-clause-reported g c clean =
     let old = state g.S.Store c.args.conn.now in
     let mid = state g.S.Store c.loop-table.conn in
-    let n = c.args.edition in
+    let n = c.args.schema_version in
     let d = c.args.difference in
     let t = get_or after_meta c.loop-table.table-index Meta in
     let here : place_of t ≡ c.loop-table.table-index + 1 = place_after c.loop-table.table-index c.loop-table-test.true in
@@ -80,7 +80,7 @@ pub returns-then-not-right-clause-reported : goal.returns-then-not-right-clause-
 returns-then-not-right-clause-reported g c clean =
     let mid = state g.S.Store c.loop-table.conn in
     let new = state g.S.Store c.check_rows_of.new.conn in
-    let n = c.args.edition in
+    let n = c.args.schema_version in
     let place = c.loop-table.table-index + 1 in
     let t = get_or after_meta c.loop-table.table-index Meta in
     let here : place_of t ≡ place = place_after c.loop-table.table-index c.loop-table-test.true in
@@ -94,7 +94,7 @@ pub returns-clause-reported : goal.returns-clause-reported
 returns-clause-reported g c clean =
     let old = state g.S.Store c.args.conn.now in
     let mid = state g.S.Store c.loop-table.conn in
-    let n = c.args.edition in
+    let n = c.args.schema_version in
     let was = c.loop-table.invariant in
     let start : HasCleanDisk old = omega (arith, was.0.clean) in
     let before = was.2 clean in

@@ -10,4 +10,4 @@ invariant-loop-table g l =
     let old = state g.S.Store l.fn.conn in
     let now = state g.S.Store l.conn in
     Survives old now (λ _. ⊥) × IsFrom (l.table-index + 1) l.difference
-    × (HasCleanDisk now → IsUnchanged old now × AreRightTo l.edition now.now (l.table-index + 1))
+    × (HasCleanDisk now → IsUnchanged old now × AreRightTo l.schema_version now.now (l.table-index + 1))

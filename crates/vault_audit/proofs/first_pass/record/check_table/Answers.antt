@@ -11,7 +11,7 @@ use Rattle.vault_audit.proofs.first_pass.record.check_table.Goals as goal
 
 pub check_rows-requires : goal.check_rows-requires
 check_rows-requires g c clean =
-    rw c.select.ensures (g.met.R.Record.shows_all c.args.edition (state g.S.Store c.args.conn.now).now.schema c.requires.has (c.requires.begin clean)).scans.plain
+    rw c.select.ensures (g.met.R.Record.shows_all c.args.schema_version (state g.S.Store c.args.conn.now).now.schema c.requires.has (c.requires.begin clean)).scans.plain
 
 pub returns-clause-reported : goal.returns-clause-reported
 returns-clause-reported g c clean =
@@ -19,7 +19,7 @@ returns-clause-reported g c clean =
     let old = state g.S.Store c.args.conn.now in
     let new = state g.S.Store c.check_rows.new.conn in
     let early : HasCleanDisk old = omega (arith, c.check_rows.ensures.look.crash.clean) in
-    let it = g.met.R.Record.shows_all c.args.edition old.now.schema c.requires.has (c.requires.begin early) in
+    let it = g.met.R.Record.shows_all c.args.schema_version old.now.schema c.requires.has (c.requires.begin early) in
     subst (λ (rows : List Row). IfOk c.check_rows.result (AreRecords m.as_row m.is_in_limits rows)) (it.alike (new.now.trees m.tree))
     (records_if_ok m.as_row m.is_in_limits it.scans old new refl g.met.R.Record.bare c.check_rows.result (c.check_rows.ensures.look.same clean) (rw c.select.ensures at (c.check_rows.ensures.checked clean)))
 
@@ -27,9 +27,9 @@ pub returns-clause-damaged : goal.returns-clause-damaged
 returns-clause-damaged g c clean =
     let m = g.R.Record in
     let db = (state g.S.Store c.check_rows.new.conn).now in
-    refused_if_ok (AreRecords m.as_row m.is_in_limits (map (m.columns c.args.edition) (db.trees m.tree))) ((v : Vault) → ¬ AreSoundAs c.args.edition db v)
-    (λ none v. g.met.R.Record.unsound c.args.edition db v c.requires.has none) c.check_rows.result (returns-clause-reported g c clean)
+    refused_if_ok (AreRecords m.as_row m.is_in_limits (map (m.columns c.args.schema_version) (db.trees m.tree))) ((v : Vault) → ¬ AreSoundAs c.args.schema_version db v)
+    (λ none v. g.met.R.Record.unsound c.args.schema_version db v c.requires.has none) c.check_rows.result (returns-clause-reported g c clean)
 
 pub returns-clause-err : goal.returns-clause-err
 returns-clause-err g c well =
-    c.check_rows.ensures.err well (λ clean. rw c.select.ensures (g.met.R.Record.shows_all c.args.edition (state g.S.Store c.args.conn.now).now.schema c.requires.has (c.requires.begin clean)).asks)
+    c.check_rows.ensures.err well (λ clean. rw c.select.ensures (g.met.R.Record.shows_all c.args.schema_version (state g.S.Store c.args.conn.now).now.schema c.requires.has (c.requires.begin clean)).asks)

@@ -19,6 +19,6 @@ returns-clause-reported g c clean =
     let departments = rw named at (c.in_ok-departments.ensures.reported later) in
     record {
       next = subst (λ db. c.args.meta.now.next ≡ length (db.trees entries_tree) + 1) (sym (last ∙ middle)) next;
-      departments = subst (λ db. (ds : List DepartmentRow) × AreDepartmentsByName c.args.edition db ds) (sym last) departments;
+      departments = subst (λ db. (ds : List DepartmentRow) × AreDepartmentsByName c.args.schema_version db ds) (sym last) departments;
       sums = λ v buckets entries past tenures. rw summed at (c.in_ok-sums.ensures.reported clean v buckets entries past tenures);
     }

@@ -10,7 +10,7 @@ use Rattle.vault_audit_entries.proofs.contents.second_look.check_held_contents.G
 pub returns-in_default-clause-damaged : goal.returns-in_default-clause-damaged
 returns-in_default-clause-damaged g c clean same v =
     let none : c.in_ok-count.field-0 ≡ None = search rules in
-    (unsound c.args.edition) (state g.S.Store c.check_bytes.new.conn).now (λ es are. rw none at (c.in_ok-count.ensures.reported clean es are)) v
+    (unsound c.args.schema_version) (state g.S.Store c.check_bytes.new.conn).now (λ es are. rw none at (c.in_ok-count.ensures.reported clean es are)) v
 
 pub returns-clause-reported : goal.returns-clause-reported
 returns-clause-reported g c clean es are =
@@ -24,4 +24,4 @@ returns-clause-reported g c clean es are =
     decided new es are c.in_ok-held.held.versions c.in-Some.count (c.in_ok-held.ensures.reported clean es are).1 (subst (λ (d : Database). DecidesHeld d es (Some c.in-Some.count)) (sym db) stated)
 
 pub returns-clause-damaged : goal.returns-clause-damaged
-returns-clause-damaged g c clean same v = (unsound c.args.edition) (state g.S.Store c.count_held.new.conn).now (λ es are. rw same at (returns-clause-reported g c clean es are)) v
+returns-clause-damaged g c clean same v = (unsound c.args.schema_version) (state g.S.Store c.count_held.new.conn).now (λ es are. rw same at (returns-clause-reported g c clean es are)) v

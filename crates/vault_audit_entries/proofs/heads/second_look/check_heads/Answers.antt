@@ -20,7 +20,7 @@ returns-then-not-counted-clause-reported g c clean v are =
     no_counts (state g.S.Store c.check_counts.new.conn).now v are (λ hs decides. rw missed at (c.in_ok-counted.ensures.reported clean (entries_of v) hs are decides))
 
 pub returns-then-not-counted-clause-damaged : goal.returns-then-not-counted-clause-damaged
-returns-then-not-counted-clause-damaged g c clean same v = (unsound c.args.edition) (state g.S.Store c.check_counts.new.conn).now (returns-then-not-counted-clause-reported g c clean) v
+returns-then-not-counted-clause-damaged g c clean same v = (unsound c.args.schema_version) (state g.S.Store c.check_counts.new.conn).now (returns-then-not-counted-clause-reported g c clean) v
 
 pub returns-clause-reported : goal.returns-clause-reported
 returns-clause-reported g c clean v are =
@@ -37,4 +37,4 @@ returns-clause-reported g c clean v are =
     decided (state g.S.Store c.count_held.new.conn).now v are c.in_ok-held.held.entries c.in-Some.total (c.in_ok-held.ensures.reported clean es are).0 found.0 (found.1, counts) found.2
 
 pub returns-clause-damaged : goal.returns-clause-damaged
-returns-clause-damaged g c clean missed v = (unsound c.args.edition) (state g.S.Store c.count_held.new.conn).now (λ w are. rw missed at (returns-clause-reported g c clean w are)) v
+returns-clause-damaged g c clean missed v = (unsound c.args.schema_version) (state g.S.Store c.count_held.new.conn).now (λ w are. rw missed at (returns-clause-reported g c clean w are)) v

@@ -14,7 +14,7 @@ returns-then-not-placed-clause-reported g c clean =
     λ es are. not_placed db es are (subst (DecidesPlaces db) no (c.in_ok-placed.ensures.reported clean))
 
 pub returns-then-not-placed-clause-damaged : goal.returns-then-not-placed-clause-damaged
-returns-then-not-placed-clause-damaged g c clean same = (unsound c.args.edition) (state g.S.Store c.are_placed.new.conn).now (returns-then-not-placed-clause-reported g c clean)
+returns-then-not-placed-clause-damaged g c clean same = (unsound c.args.schema_version) (state g.S.Store c.are_placed.new.conn).now (returns-then-not-placed-clause-reported g c clean)
 
 pub returns-then-not-present-clause-reported : goal.returns-then-not-present-clause-reported
 returns-then-not-present-clause-reported g c clean =
@@ -23,7 +23,7 @@ returns-then-not-present-clause-reported g c clean =
     λ es are. not_present db es are (subst (DecidesPresence db) no (c.in_ok-present.ensures.reported clean))
 
 pub returns-then-not-present-clause-damaged : goal.returns-then-not-present-clause-damaged
-returns-then-not-present-clause-damaged g c clean same = (unsound c.args.edition) (state g.S.Store c.have_settings.new.conn).now (returns-then-not-present-clause-reported g c clean)
+returns-then-not-present-clause-damaged g c clean same = (unsound c.args.schema_version) (state g.S.Store c.have_settings.new.conn).now (returns-then-not-present-clause-reported g c clean)
 
 pub returns-clause-reported : goal.returns-clause-reported
 returns-clause-reported g c clean =
@@ -36,4 +36,4 @@ returns-clause-reported g c clean =
     let same = c.in_ok-present.ensures.look.same clean in
     let schema = ap (λ (db : Database). db.schema) (same.0.now_is ∙ (c.in_ok-placed.ensures.look.same early).0.now_is) ∙ c.requires first in
     stated before after same (subst (DecidesPlaces before.now) placed (c.in_ok-placed.ensures.reported early)) (subst (DecidesPresence after.now) present (c.in_ok-present.ensures.reported clean))
-    (have_owners c.args.edition after.now (c.references_hold.ensures same.0.is_open schema))
+    (have_owners c.args.schema_version after.now (c.references_hold.ensures same.0.is_open schema))

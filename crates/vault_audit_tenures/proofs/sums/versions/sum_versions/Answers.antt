@@ -9,19 +9,19 @@ use Rattle.vault_audit_tenures.proofs.VersionSumLemmas.{totals_yes, totals_no}
 use Rattle.vault_audit_tenures.proofs.sums.versions.sum_versions.Goals as goal
 
 pub walk-requires : goal.walk-requires
-walk-requires g c clean = subst (λ s. IsPlain (understood s owned_text)) (sym (c.requires clean)) (owned_plain c.args.edition)
+walk-requires g c clean = subst (λ s. IsPlain (understood s owned_text)) (sym (c.requires clean)) (owned_plain c.args.schema_version)
 
 pub returns-then-not-whole-clause-reported : goal.returns-then-not-whole-clause-reported
 returns-then-not-whole-clause-reported g c clean v buckets entries past unmoved =
     let early : HasCleanDisk (state g.S.Store c.args.conn.now) = omega (arith, c.in_ok-whole.ensures.look.crash.clean) in
     let no : c.in_ok-whole.whole ≡ false = search rules in
-    totals_no c.args.edition (state g.S.Store c.args.conn.now) (state g.S.Store c.walk.new.conn) (c.requires early) (c.in_ok-whole.ensures.look.same clean) _ c.walk.new.pass v buckets entries past unmoved (rw no at (c.in_ok-whole.ensures.walked clean))
+    totals_no c.args.schema_version (state g.S.Store c.args.conn.now) (state g.S.Store c.walk.new.conn) (c.requires early) (c.in_ok-whole.ensures.look.same clean) _ c.walk.new.pass v buckets entries past unmoved (rw no at (c.in_ok-whole.ensures.walked clean))
 
 pub returns-clause-reported : goal.returns-clause-reported
 returns-clause-reported g c clean v buckets entries past unmoved =
     let early : HasCleanDisk (state g.S.Store c.args.conn.now) = omega (arith, c.in_ok-whole.ensures.look.crash.clean) in
     let yes : c.in_ok-whole.whole ≡ true = search rules in
-    totals_yes c.args.edition (state g.S.Store c.args.conn.now) (state g.S.Store c.walk.new.conn) (c.requires early) (c.in_ok-whole.ensures.look.same clean) _ c.walk.new.pass v buckets entries past unmoved c.new.ensures (rw yes at (c.in_ok-whole.ensures.walked clean))
+    totals_yes c.args.schema_version (state g.S.Store c.args.conn.now) (state g.S.Store c.walk.new.conn) (c.requires early) (c.in_ok-whole.ensures.look.same clean) _ c.walk.new.pass v buckets entries past unmoved c.new.ensures (rw yes at (c.in_ok-whole.ensures.walked clean))
 
 pub returns-in_err-whole-clause-err : goal.returns-in_err-whole-clause-err
-returns-in_err-whole-clause-err g c well = let it : IsMemory c.in_err-whole.field-0.0 = c.in_err-whole.ensures.err well (λ clean. subst (λ s. Asks s owned_text) (sym (c.requires clean)) (owned_asks c.args.edition)) in search rules
+returns-in_err-whole-clause-err g c well = let it : IsMemory c.in_err-whole.field-0.0 = c.in_err-whole.ensures.err well (λ clean. subst (λ s. Asks s owned_text) (sym (c.requires clean)) (owned_asks c.args.schema_version)) in search rules

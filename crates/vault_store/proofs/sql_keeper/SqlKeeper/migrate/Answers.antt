@@ -23,7 +23,7 @@ returns-in-Ok-clause-alone g c clean =
 
 pub returns-in-Ok-clause-crash : goal.returns-in-Ok-clause-crash
 returns-in-Ok-clause-crash g c =
-    subst (λ h. Survives (state g.S.Store c.args.new) (state g.S.Store h) (λ trees. HasCleanDisk (state g.O.Store c.copy_vault.new.old) → IsMigrated c.args.edition (state g.O.Store c.args.old.now).now trees)) (sym c.over.ensures.same) c.copy_vault.ensures.crash
+    subst (λ h. Survives (state g.S.Store c.args.new) (state g.S.Store h) (λ trees. HasCleanDisk (state g.O.Store c.copy_vault.new.old) → IsMigrated c.args.schema_version (state g.O.Store c.args.old.now).now trees)) (sym c.over.ensures.same) c.copy_vault.ensures.crash
 
 pub returns-in-Ok-clause-sound : goal.returns-in-Ok-clause-sound
 returns-in-Ok-clause-sound g c clean =

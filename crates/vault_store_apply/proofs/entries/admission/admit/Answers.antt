@@ -13,7 +13,7 @@ use Rattle.vault_store_apply.proofs.entries.admission.admit.Goals as goal
 pub returns-clause-done : goal.returns-clause-done
 returns-clause-done g c clean =
     let old = state g.S.Store c.args.conn.now in
-    let mid = state g.S.Store c.read_place.new.conn in
+    let mid = state g.S.Store c.read_context.new.conn in
     let new = state g.S.Store c.commit_part-admitted.new.conn in
     let early : HasCleanDisk mid = omega (arith, clean, c.commit_part-admitted.ensures.crash.clean) in
     let a = c.args.admission.now in
@@ -31,7 +31,7 @@ returns-clause-done g c clean =
 pub returns-clause-crash : goal.returns-clause-crash
 returns-clause-crash g c v was =
     let old = state g.S.Store c.args.conn.now in
-    let mid = state g.S.Store c.read_place.new.conn in
+    let mid = state g.S.Store c.read_context.new.conn in
     let new = state g.S.Store c.commit_part-admitted.new.conn in
     let a = c.args.admission.now in
     let t = c.args.at in
@@ -50,7 +50,7 @@ returns-clause-crash g c v was =
 
 pub returns-clause-nothing : goal.returns-clause-nothing
 returns-clause-nothing g c clean =
-    let mid = state g.S.Store c.read_place.new.conn in
+    let mid = state g.S.Store c.read_context.new.conn in
     let early : HasCleanDisk mid = omega (arith, clean, c.commit_part-admitted.ensures.crash.clean) in
     on_err_all c.commit_part-admitted.result (c.commit_part-admitted.ensures.nothing clean) (λ keeps v was. keeps v (c.in_ok-place.ensures.read.same early v was))
 
@@ -62,8 +62,8 @@ returns-in_err-newest-clause-nothing g c clean = on_err_here _ (c.in_ok-place.en
 
 pub returns-in_err-place-clause-crash : goal.returns-in_err-place-clause-crash
 returns-in_err-place-clause-crash g c v was =
-    shut_leaves (state g.S.Store c.args.conn.now) (state g.S.Store c.read_place.new.conn) v c.args.at (change.Admit c.args.admission.now) (c.in_err-place.ensures.read.crash v was)
+    shut_leaves (state g.S.Store c.args.conn.now) (state g.S.Store c.read_context.new.conn) v c.args.at (change.Admit c.args.admission.now) (c.in_err-place.ensures.read.crash v was)
 
 pub returns-in_err-newest-clause-crash : goal.returns-in_err-newest-clause-crash
 returns-in_err-newest-clause-crash g c v was =
-    shut_leaves (state g.S.Store c.args.conn.now) (state g.S.Store c.read_place.new.conn) v c.args.at (change.Admit c.args.admission.now) (c.in_ok-place.ensures.read.crash v was)
+    shut_leaves (state g.S.Store c.args.conn.now) (state g.S.Store c.read_context.new.conn) v c.args.at (change.Admit c.args.admission.now) (c.in_ok-place.ensures.read.crash v was)

@@ -13,7 +13,7 @@ returns-in-Ok-clause-copied g c clean after v is =
     let none : start.schema ≡ no_schema = search rules in
     let bare : HasFirst 0 start = record { schema = none; rows = tt } in
     let moved = c.in-Ok.ensures.copied clean after in
-    all_copied c.args.edition from (state g.S.Store c.write_copy.new.new).now (moved.goes bare) v is
+    all_copied c.args.schema_version from (state g.S.Store c.write_copy.new.new).now (moved.goes bare) v is
 
 pub returns-in-Err-clause-refused : goal.returns-in-Err-clause-refused
 returns-in-Err-clause-refused g c v is well_old well stated =

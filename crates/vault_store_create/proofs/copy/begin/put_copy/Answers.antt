@@ -17,7 +17,7 @@ returns-clause-copied g c clean after inside =
       is_open = part.is_open;
       inside = part.inside;
       committed = part.committed ∙ made.committed;
-      goes = λ bare. part.goes (none_copied c.args.edition (state g.O.Store c.args.old.now).now mid.now (made.goes bare));
+      goes = λ bare. part.goes (none_copied c.args.schema_version (state g.O.Store c.args.old.now).now mid.now (made.goes bare));
     })
 
 pub returns-in_err-make_tables-clause-refused : goal.returns-in_err-make_tables-clause-refused
@@ -31,4 +31,4 @@ returns-clause-refused g c v is well_old well inside bare =
     let mid = state g.S.Store c.make_tables.new.tx.conn.now in
     let early : HasCleanDisk mid = omega (arith, well.clean, c.copy_tables.ensures.survives.clean) in
     let made = c.in_ok-make_tables.ensures.made early inside in
-    c.copy_tables.ensures.refused v is (none_copied c.args.edition (state g.O.Store c.args.old.now).now mid.now (made.goes bare)) well_old well made.inside made.is_open
+    c.copy_tables.ensures.refused v is (none_copied c.args.schema_version (state g.O.Store c.args.old.now).now mid.now (made.goes bare)) well_old well made.inside made.is_open

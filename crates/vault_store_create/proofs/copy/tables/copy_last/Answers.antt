@@ -5,7 +5,7 @@ use Rattle.vault_store_create.proofs.copy.tables.copy_last.Goals as goal
 
 pub returns-clause-copied : goal.returns-clause-copied
 returns-clause-copied g c =
-    let n = c.args.edition in
+    let n = c.args.schema_version in
     let did1 = c.in_ok-copy_table.ensures in
     let did2 = c.in_ok-copy_table-2.ensures in
     let did3 = c.in_ok-copy_table-3.ensures in
@@ -13,7 +13,7 @@ returns-clause-copied g c =
 
 pub returns-in_err-copy_table-2-clause-refused : goal.returns-in_err-copy_table-2-clause-refused
 returns-in_err-copy_table-2-clause-refused g c =
-    let n = c.args.edition in
+    let n = c.args.schema_version in
     let did1 = c.in_ok-copy_table.ensures in
     let last = c.copy_table-2.ensures in
     let same : c.from_residual-in_err-copy_table-2.result ≡ c.copy_table-2.result = search rules in
@@ -21,7 +21,7 @@ returns-in_err-copy_table-2-clause-refused g c =
 
 pub returns-in_err-copy_table-3-clause-refused : goal.returns-in_err-copy_table-3-clause-refused
 returns-in_err-copy_table-3-clause-refused g c =
-    let n = c.args.edition in
+    let n = c.args.schema_version in
     let did1 = c.in_ok-copy_table.ensures in
     let did2 = c.in_ok-copy_table-2.ensures in
     let last = c.copy_table-3.ensures in

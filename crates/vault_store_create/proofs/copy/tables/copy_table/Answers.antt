@@ -11,11 +11,11 @@ use Rattle.vault_store_create.proofs.StopLemmas.{asks_for_rows, fails_for}
 use Rattle.vault_store_create.proofs.copy.tables.copy_table.Goals as goal
 
 pub copy_rows-requires : goal.copy_rows-requires
-copy_rows-requires g c clean = rw c.listing.ensures (subst (λ s. IsPlain (understood s (listing_of c.args.edition c.args.table))) (sym (c.requires clean)) (reads_only c.args.edition c.args.table))
+copy_rows-requires g c clean = rw c.listing.ensures (subst (λ s. IsPlain (understood s (listing_of c.args.schema_version c.args.table))) (sym (c.requires clean)) (reads_only c.args.schema_version c.args.table))
 
 pub returns-clause-copied : goal.returns-clause-copied
 returns-clause-copied g c clean after inside is_open =
-    let n = c.args.edition in
+    let n = c.args.schema_version in
     let t = c.args.table in
     let from = state g.O.Store c.args.old.now in
     let to = state g.O.Store c.copy_rows.new.old in
@@ -31,7 +31,7 @@ returns-clause-copied g c clean after inside is_open =
 
 pub returns-clause-refused : goal.returns-clause-refused
 returns-clause-refused g c v is was well_old well inside is_open =
-    let n = c.args.edition in
+    let n = c.args.schema_version in
     let t = c.args.table in
     let from = state g.O.Store c.args.old.now in
     let first = (state g.S.Store c.args.tx.now.conn.now).now in

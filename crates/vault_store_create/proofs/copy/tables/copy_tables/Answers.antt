@@ -4,7 +4,7 @@ use Rattle.vault_store_create.proofs.copy.tables.copy_tables.Goals as goal
 
 pub returns-clause-copied : goal.returns-clause-copied
 returns-clause-copied g c =
-    let n = c.args.edition in
+    let n = c.args.schema_version in
     let did1 = c.in_ok-copy_first.ensures in
     let did2 = c.in_ok-copy_second.ensures in
     let last = c.copy_last.ensures in
@@ -12,7 +12,7 @@ returns-clause-copied g c =
 
 pub returns-in_err-copy_second-clause-refused : goal.returns-in_err-copy_second-clause-refused
 returns-in_err-copy_second-clause-refused g c =
-    let n = c.args.edition in
+    let n = c.args.schema_version in
     let did1 = c.in_ok-copy_first.ensures in
     let last = c.copy_second.ensures in
     let same : c.from_residual-in_err-copy_second.result ≡ c.copy_second.result = search rules in
@@ -20,7 +20,7 @@ returns-in_err-copy_second-clause-refused g c =
 
 pub returns-clause-refused : goal.returns-clause-refused
 returns-clause-refused g c =
-    let n = c.args.edition in
+    let n = c.args.schema_version in
     let did1 = c.in_ok-copy_first.ensures in
     let did2 = c.in_ok-copy_second.ensures in
     let last = c.copy_last.ensures in

@@ -1,5 +1,0 @@
-use Rattle.vault_http_commands.proofs.entry_members.intake.Goals as goal
-
-pub returns-clause-spelled : goal.returns-clause-spelled
-returns-clause-spelled c =
-    (c.in_ok-members.ensures.spelled, c.as_str.ensures.spelled, c.in_ok-put_number.ensures.range, c.in_ok-put_version.ensures.spelled)

@@ -1,5 +1,0 @@
-pub mod CommandLemmas
-pub mod GrammarLemmas
-pub mod LineLemmas
-pub mod SpelledLemmas
-pub mod StampedLemmas

@@ -1,5 +1,0 @@
-use Rattle.vault_http_lines.proofs.LineLemmas.{command-is-spelled, spelled-is-command}
-use Rattle.vault_http_lines.proofs.laws.commands_are_spelled.Goals as goal
-
-pub returns : goal.returns
-returns c = λ line t. (command-is-spelled line t, spelled-is-command line t)

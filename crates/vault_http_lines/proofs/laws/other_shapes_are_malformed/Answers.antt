@@ -1,5 +1,0 @@
-use Rattle.vault_http_lines.proofs.LineLemmas.{malformed, malformed-is-filled, shape-is-kept}
-use Rattle.vault_http_lines.proofs.laws.other_shapes_are_malformed.Goals as goal
-
-pub returns : goal.returns
-returns c = λ line. (λ e. (malformed-is-filled line e, shape-is-kept line e), λ h. malformed line h.0 h.1)

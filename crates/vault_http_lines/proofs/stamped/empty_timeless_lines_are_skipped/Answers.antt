@@ -1,5 +1,0 @@
-use Rattle.vault_http_lines.proofs.StampedLemmas.{skip-empty, skipped-is-empty}
-use Rattle.vault_http_lines.proofs.stamped.empty_timeless_lines_are_skipped.Goals as goal
-
-pub returns : goal.returns
-returns c = λ moment line. (skipped-is-empty moment line, skip-empty moment line)

@@ -1,5 +1,0 @@
-use Rattle.vault_http_lines.proofs.StampedLemmas.{command-is-spelled, spelled-is-command}
-use Rattle.vault_http_lines.proofs.stamped.stamped_commands_are_spelled.Goals as goal
-
-pub returns : goal.returns
-returns c = λ moment line t. (command-is-spelled moment line t, spelled-is-command moment line t)

@@ -1,8 +1,0 @@
-use Rattle.std.proofs.Common.{◌≡◌, map, take}
-use Rattle.serde_json.specs.View.{view}
-use Rattle.vault_http_replies.specs.ReplyLine.{listed_value}
-use Rattle.vault_http_replies.proofs.reply_line.listed_values.Given as goal
-
--- the entries so far
-abbrev pub invariant-loop-listed : goal.invariant-loop-listed
-invariant-loop-listed l = map view l.list.items ≡ map listed_value (take l.listed-index l.entries)

@@ -1,8 +1,0 @@
-use Rattle.std.proofs.Common.{◌≡◌, map, drop}
-use Rattle.serde_json.specs.View.{items_view}
-use Rattle.vault_http_values.specs.Members.{as_texts}
-use Rattle.vault_http_values.proofs.TextsLemmas.{onto}
-use Rattle.vault_http_values.proofs.members.texts_in.Given as goal
-
-abbrev pub invariant-loop-item : goal.invariant-loop-item
-invariant-loop-item l = as_texts (items_view l.items) ≡ onto (map (λ x. x.now) l.texts.items) (as_texts (items_view (drop l.item-index l.items)))

@@ -1,0 +1,14 @@
+//! Commands, printed as the lines that ask for them.
+//!
+//! A line is read into a command by `vault_lines_read`; what is printed here is read there as the same command.
+#![tactic(auto)]
+
+pub mod command_line;
+mod config_members;
+mod entry_members;
+mod laws;
+mod lock_members;
+mod members;
+mod object;
+mod record_members;
+mod rule_value;

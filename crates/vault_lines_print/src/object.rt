@@ -1,0 +1,51 @@
+//! Objects of JSON, made of their members.
+ghost use Rattle.std.specs.Prelude.{◌≡◌, IfOk, OnOk};
+ghost use Rattle.std.specs.List.{fold};
+ghost use Rattle.serde_json.specs.Data.{no_members, object, put as with_member};
+ghost use Rattle.serde_json.specs.View.{view, members_view};
+ghost use Rattle.vault_lines_print.specs.Object.{plain_data};
+
+use serde_json::{Map, Value, json, put};
+use std::alloc::{AllocError, Global};
+
+/// A value that has no values inside.
+#[derive(Clone, Copy)]
+pub(crate) enum Plain<'a> {
+    Text(&'a str),
+    Whole(u64),
+    Flag(bool),
+}
+
+fn plain_value(alloc: Global, plain: Plain) -> Result<Value, AllocError>
+    ensures { IfOk result (λ value. view value ≡ plain_data plain.entry) }
+{
+    match plain {
+        Plain::Text(text) => json!(in alloc; text),
+        Plain::Whole(number) => json!(in alloc; number),
+        Plain::Flag(flag) => json!(in alloc; flag),
+    }
+}
+
+/// Puts in each of these members.
+pub(crate) fn put_plain(
+    members: &mut Map<String, Value>,
+    alloc: Global,
+    plain: &[(&str, Plain)],
+) -> Result<(), AllocError>
+    ensures { OnOk result (members_view members.new.entries ≡ fold (λ ms m. with_member m.0.now (plain_data m.1) ms) (members_view members.old.entries) plain.now) }
+{
+    for (name, value) in plain {
+        let value = plain_value(alloc, *value)?;
+        put(members, alloc, name, value)?;
+    }
+    Ok(())
+}
+
+/// The object of these members.
+pub(crate) fn plain_object(alloc: Global, plain: &[(&str, Plain)]) -> Result<Value, AllocError>
+    ensures { IfOk result (λ value. view value ≡ object (fold (λ ms m. with_member m.0.now (plain_data m.1) ms) no_members plain.now)) }
+{
+    let mut members = Map::new(alloc);
+    put_plain(&mut members, alloc, plain)?;
+    Ok(Value::Object(members))
+}

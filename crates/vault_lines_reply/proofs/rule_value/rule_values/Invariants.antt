@@ -1,0 +1,8 @@
+use Rattle.std.proofs.Common.{◌≡◌, map, take}
+use Rattle.serde_json.specs.View.{view}
+use Rattle.vault_lines_reply.specs.ReplyLine.{rule_value}
+use Rattle.vault_lines_reply.proofs.rule_value.rule_values.Given as goal
+
+-- the rules so far
+abbrev pub invariant-loop-rule : goal.invariant-loop-rule
+invariant-loop-rule l = map view l.list.items ≡ map rule_value (take l.rule-index l.rules)
