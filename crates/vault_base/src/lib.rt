@@ -2,6 +2,7 @@
 #![tactic(auto)]
 
 pub mod content;
+pub mod grammar;
 pub mod limits;
 pub mod name;
 pub mod refusal;

@@ -1,9 +1,9 @@
 //! Tests of the texts of names and ids.
-ghost use Rattle.std.specs.Prelude.{◌≡◌, length, Some, None, ◌&&◌};
+ghost use Rattle.std.specs.Prelude.{◌≡◌, Some, None, ◌&&◌};
+ghost use Rattle.std.specs.List.{list_all};
 ghost use Rattle.vault_base.specs.Name as spec;
 
 use crate::limits::MOST_IDS;
-use crate::name::NameFault;
 
 fn is_lower_or_digit(byte: u8) -> bool
     ensures { result ≡ spec.is_lower_or_digit byte }
@@ -30,19 +30,19 @@ fn is_printable(byte: u8) -> bool
 }
 
 fn has_bucket_bytes(text: &str) -> bool
-    ensures { result ≡ spec.has_bucket_bytes text.now }
+    ensures { result ≡ list_all spec.is_bucket_byte text.now }
 {
     text.as_bytes().iter().all(|b| is_bucket_byte(*b))
 }
 
 fn has_plain_bytes(text: &str) -> bool
-    ensures { result ≡ spec.has_plain_bytes text.now }
+    ensures { result ≡ list_all spec.is_plain_byte text.now }
 {
     text.as_bytes().iter().all(|b| is_plain_byte(*b))
 }
 
 fn has_printable_bytes(text: &str) -> bool
-    ensures { result ≡ spec.has_printable_bytes text.now }
+    ensures { result ≡ list_all spec.is_printable text.now }
 {
     text.as_bytes().iter().all(|b| is_printable(*b))
 }
@@ -59,7 +59,7 @@ fn has_bucket_ends(text: &str) -> bool
 }
 
 /// How many characters a text has.
-fn character_count(text: &str) -> usize
+pub fn character_count(text: &str) -> usize
     ensures { result ≡ spec.character_count text.now }
 {
     text.as_bytes()
@@ -102,32 +102,6 @@ pub fn is_rule_id(text: &str) -> bool
 {
     let count = character_count(text);
     count >= 1 && count <= 255 && has_printable_bytes(text)
-}
-
-fn fault_of_size(size: usize, most: usize) -> NameFault
-    ensures { result ≡ spec.fault_of_size size most }
-{
-    if size == 0 {
-        NameFault::Empty
-    } else if size > most {
-        NameFault::TooLong
-    } else {
-        NameFault::Form
-    }
-}
-
-/// Why a text is no name of a kind whose greatest length is `most` bytes.
-pub fn name_fault(text: &str, most: usize) -> NameFault
-    ensures { result ≡ spec.fault_of_size (length text.now) most }
-{
-    fault_of_size(text.len(), most)
-}
-
-/// Why a text is no id of a rule.
-pub fn rule_id_fault(text: &str) -> NameFault
-    ensures { result ≡ spec.fault_of_size (spec.character_count text.now) 255 }
-{
-    fault_of_size(character_count(text), 255)
 }
 
 fn has_digits(text: &str) -> bool

@@ -1,10 +1,11 @@
 -- The text of a cell is of one value alone.
 use Rattle.std.proofs.Common.{◌≡◌, ℕ, length, drop, Bool, true, false, IfSome, IsTrue, List, [], ◌++◌, slice_index, Option, Some, None, IsSome, Result, Ok, codes, unwrap_or, refl, sym, ap, ◌∙◌, arith}
+use Rattle.std.specs.List.{list_all}
 use Rattle.std.proofs.lemmas.Bool.{and_parts}
 use Rattle.hex.specs.Hex.{IsBytes, decode_of, encode_lower, lower_digits}
 use Rattle.hex.specs.declared.error.FromHexError.{FromHexError}
 use Rattle.hex.proofs.HexLemmas.{decode_of-encode_lower, length-encode_with}
-use Rattle.vault_base.specs.Name.{is_from, has_plain_bytes, is_plain_name}
+use Rattle.vault_base.specs.Name.{is_from, is_plain_byte, is_plain_name}
 use Rattle.vault_lock.specs.declared.retention.Mode.{Mode}
 use Rattle.vault_lock.specs.declared.retention.Mode.TheVariants.{Governance, Compliance}
 use Rattle.vault_core_model.specs.declared.records.Author.{Author}
@@ -90,8 +91,8 @@ same-department false (Some c) (Some d) is own e = ap Some e
 -- no name of a caller is the text of a rule: it has no blank
 no-rule : (name rule : List ℕ) → IsTrue (is_plain_name name) → name ≡ codes "rule " ++ rule → ⊥
 no-rule name rule plain e =
-    let bytes : has_plain_bytes name ≡ true = (and_parts (is_from 1 64 (length name)) (has_plain_bytes name) plain).1 in
-    let other : has_plain_bytes (codes "rule " ++ rule) ≡ true = ap has_plain_bytes (sym e) ∙ bytes in
+    let bytes : list_all is_plain_byte name ≡ true = (and_parts (is_from 1 64 (length name)) (list_all is_plain_byte name) plain).1 in
+    let other : list_all is_plain_byte (codes "rule " ++ rule) ≡ true = ap (list_all is_plain_byte) (sym e) ∙ bytes in
     absurd (cc other)
 
 after-blank : (x y : List ℕ) → codes "rule " ++ x ≡ codes "rule " ++ y → x ≡ y

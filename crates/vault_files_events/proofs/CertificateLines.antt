@@ -10,7 +10,7 @@ use Rattle.hex.proofs.HexLemmas.{length-encode_with}
 use Rattle.sha2.specs.Sha256.{sha256}
 use Rattle.sha2.proofs.Facts256.{length-sha256}
 use Rattle.vault_base.specs.Moment.{moment_text}
-use Rattle.vault_base.specs.Name.{character_count, has_bucket_bytes, has_bucket_ends, has_plain_bytes, has_printable_bytes, is_bucket_byte, is_bucket_name, is_from, is_key_prefix, is_object_key, is_plain_byte, is_plain_name, is_printable, is_rule_id}
+use Rattle.vault_base.specs.Name.{character_count, has_bucket_ends, is_bucket_byte, is_bucket_name, is_from, is_key_prefix, is_object_key, is_plain_byte, is_plain_name, is_printable, is_rule_id}
 use Rattle.vault_core_model.specs.declared.records.Author.{Author}
 use Rattle.vault_core_model.specs.declared.records.Author.TheVariants as author
 use Rattle.vault_core_model.specs.declared.records.Cause.{Cause}
@@ -30,20 +30,20 @@ use Rattle.vault_files_events.proofs.RegisterCells.{same-entry}
 -- ---- values of one line
 
 plain-line : (name : List ℕ) → IsTrue (is_plain_name name) → IsOfOneLine name
-plain-line name is = passing is_plain_byte name refl (and_parts (is_from 1 64 (length name)) (has_plain_bytes name) is).1
+plain-line name is = passing is_plain_byte name refl (and_parts (is_from 1 64 (length name)) (list_all is_plain_byte name) is).1
 
 rule-line : (rule : List ℕ) → IsTrue (is_rule_id rule) → IsOfOneLine rule
-rule-line rule is = passing is_printable rule refl (and_parts (is_from 1 255 (character_count rule)) (has_printable_bytes rule) is).1
+rule-line rule is = passing is_printable rule refl (and_parts (is_from 1 255 (character_count rule)) (list_all is_printable rule) is).1
 
 bucket-line : (name : List ℕ) → IsTrue (is_bucket_name name) → IsOfOneLine name
 bucket-line name is =
-    let front = and_parts (is_from 3 63 (length name) && has_bucket_bytes name) (has_bucket_ends name) is in
-    passing is_bucket_byte name refl (and_parts (is_from 3 63 (length name)) (has_bucket_bytes name) front.0).1
+    let front = and_parts (is_from 3 63 (length name) && list_all is_bucket_byte name) (has_bucket_ends name) is in
+    passing is_bucket_byte name refl (and_parts (is_from 3 63 (length name)) (list_all is_bucket_byte name) front.0).1
 
 key-line : (key : List ℕ) → IsTrue (is_object_key key) → IsOfOneLine key
 key-line key is =
     let prefix = and_parts (nat_le 1 (length key)) (is_key_prefix key) is in
-    passing is_printable key refl (and_parts (nat_le (length key) 1024) (has_printable_bytes key) prefix.1).1
+    passing is_printable key refl (and_parts (nat_le (length key) 1024) (list_all is_printable key) prefix.1).1
 
 digest-line : (digest : Option (List ℕ)) → IfSome digest IsDigest → IsOfOneLine (digest_text digest)
 digest-line None is = tt

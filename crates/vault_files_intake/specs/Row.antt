@@ -2,8 +2,9 @@
 use Rattle.std.specs.Prelude.{ℕ, List, [], ◌∷◌, Bool, Option, Some, None, Result, Ok, unwrap_or}
 use Rattle.csv.specs.Records.{field_at}
 use Rattle.vault_base.specs.declared.refusal.Refusal.{Refusal}
+use Rattle.vault_base.specs.declared.refusal.Refusal.TheVariants.{InvalidArgument}
 use Rattle.vault_lock.specs.declared.retention.Retention.{Retention}
-use Rattle.vault_values.specs.Fault.{◌>>=◌, or_invalid, if_given}
+use Rattle.vault_values.specs.Fault.{◌>>=◌, or_refused, or_invalid, if_given}
 use Rattle.vault_values.specs.Locks.{both_or_none}
 use Rattle.vault_values.specs.Named.{key_named}
 use Rattle.vault_values.specs.Words.{hold_named}
@@ -29,7 +30,7 @@ optional_text_named bytes = if_given text_named (if_any bytes)
 unfoldable pub file_of : List ℕ → Result (List ℕ) Refusal
 file_of cell = do
   text ← text_named cell
-  or_invalid (file_name_of text)
+  or_refused InvalidArgument (file_name_of text)
 
 unfoldable pub key_of : List ℕ → Result (List ℕ) Refusal
 key_of cell = do

@@ -59,8 +59,8 @@ fn file(alloc: Global, cell: &[u8]) -> Result<FileName, LineFault>
 {
     let text = text(cell)?;
     match FileName::read(alloc, text)? {
-        Some(file) => Ok(file),
-        None => Err(LineFault::Refused(Refusal::InvalidArgument)),
+        Ok(file) => Ok(file),
+        Err(_) => Err(LineFault::Refused(Refusal::InvalidArgument)),
     }
 }
 

@@ -1,6 +1,7 @@
 -- What is answered to a refusal, and to the reply of a command.
-use Rattle.std.specs.Prelude.{ℕ, List, [], length, Bool, true, false, Option, Some, None, if◌then◌else◌}
+use Rattle.std.specs.Prelude.{ℕ, ◌==◌, List, [], length, Bool, true, false, Option, Some, None, unwrap_or, if◌then◌else◌}
 use Rattle.serde_json.specs.Written.{compact_text}
+use Rattle.vault_base.specs.Refusal.{status_of}
 use Rattle.vault_base.specs.declared.refusal.Refusal.{Refusal}
 use Rattle.vault_base.specs.declared.refusal.Refusal.TheVariants as refusal
 use Rattle.vault_core_model.specs.declared.reply.Answer.{Answer}
@@ -27,31 +28,12 @@ use Rattle.vault_http.specs.declared.answer.head.Status.TheVariants as status
 unfoldable pub refusal_text : Refusal → List ℕ
 refusal_text r = compact_text (refusal_value r)
 
-abbrev pub refusal_status : Refusal → Status
-refusal_status refusal.ClockBack = status.ServiceUnavailable
-refusal_status refusal.ClockOutOfRange = status.ServiceUnavailable
-refusal_status (refusal.AccessDenied reason) = status.Forbidden
-refusal_status refusal.NoSuchBucket = status.NotFound
-refusal_status (refusal.NoSuchKey marker) = status.NotFound
-refusal_status refusal.NoSuchVersion = status.NotFound
-refusal_status refusal.MethodNotAllowed = status.MethodNotAllowed
-refusal_status refusal.BucketAlreadyExists = status.Conflict
-refusal_status refusal.NameTaken = status.Conflict
-refusal_status refusal.InvalidArgument = status.BadRequest
-refusal_status refusal.RetentionOutOfRange = status.BadRequest
-refusal_status refusal.MalformedBody = status.BadRequest
-refusal_status refusal.EntityTooLarge = status.BadRequest
-refusal_status refusal.KeyTooLongError = status.BadRequest
-refusal_status refusal.InvalidBucketName = status.BadRequest
-refusal_status refusal.MissingContentLength = status.LengthRequired
-refusal_status refusal.NotImplemented = status.NotImplemented
-refusal_status refusal.NoSuchLifecycleConfiguration = status.NotFound
-refusal_status refusal.QuotaExceeded = status.Forbidden
-refusal_status refusal.VaultFull = status.ServiceUnavailable
-refusal_status refusal.IntakeConflict = status.Conflict
-refusal_status refusal.Memory = status.ServiceUnavailable
-refusal_status refusal.Device = status.InternalServerError
-refusal_status (refusal.Damaged table) = status.InternalServerError
+-- the status of that number
+abbrev pub status_numbered : ℕ → Status
+status_numbered n =
+    if n == 400 then status.BadRequest else (if n == 403 then status.Forbidden else (if n == 404 then status.NotFound else (
+    if n == 405 then status.MethodNotAllowed else (if n == 409 then status.Conflict else (if n == 411 then status.LengthRequired else (
+    if n == 501 then status.NotImplemented else (if n == 503 then status.ServiceUnavailable else status.InternalServerError)))))))
 
 abbrev pub is_marker : Option Allow → Bool
 is_marker (Some allow.Marker) = true
@@ -62,9 +44,10 @@ abbrev pub names_marker : Refusal → Option Allow → Bool
 names_marker (refusal.NoSuchKey marker) a = marker
 names_marker _ a = is_marker a
 
+-- a refusal without a status is reported as an internal error
 abbrev pub refusal_head : Refusal → Option Allow → ℕ → Head
 refusal_head r a n =
-    record { status = refusal_status r; kind = kind.Json n; allow = a; marker = names_marker r a; version = None; retention = None; hold = None }
+    record { status = status_numbered (unwrap_or (status_of r) 500); kind = kind.Json n; allow = a; marker = names_marker r a; version = None; retention = None; hold = None }
 
 -- out answers a refusal, and states these methods
 abbrev pub AnswersRefusal : Option ℕ → Refusal → Option Allow → Bool → List ℕ → Type 0

@@ -19,7 +19,7 @@ use vaultctl_commands::intake::{ListedIntake, take_in_and_print};
 use vaultctl_commands::outcome::Outcome;
 
 fn file(alloc: Global, name: &str, bytes: &str) -> Result<File, Fail> {
-    let name = FileName::read(alloc, name)?.ok_or("a name of a file")?;
+    let name = FileName::read(alloc, name)?.ok().ok_or("a name of a file")?;
     let bytes = Content::new(Vec::from_slice(alloc, bytes.as_bytes())?);
     Ok(File { name, bytes })
 }

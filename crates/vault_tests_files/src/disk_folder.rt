@@ -44,7 +44,7 @@ fn stated(alloc: Global, read: Result<Option<Vec<u8>>, Fault>) -> Result<String,
 fn stated_of(alloc: Global, folder: &mut impl Folder, names: &[&str]) -> Result<String, Fail> {
     let mut all = String::new(alloc);
     for name in names {
-        let name = FileName::read(alloc, name)?.ok_or("a name of a file")?;
+        let name = FileName::read(alloc, name)?.ok().ok_or("a name of a file")?;
         let read = stated(alloc, folder.read(&name))?;
         all.push_str(read.as_str())?;
         all.push_str("; ")?;

@@ -2,9 +2,8 @@
 use std::alloc::{AllocError, Global};
 use std::test::Fail;
 use vault_base::content::Content;
-use vault_base::name::{
-    BatchName, BucketName, CallerName, KeyPrefix, NameFault, ObjectKey, RuleId, VersionId,
-};
+use vault_base::grammar::{Bucket, Caller, Grammar, Object, Prefix, Rule};
+use vault_base::name::{BatchName, CallerName, Name, NameFault, VersionId};
 use vault_base::refusal::{Reason, Refusal, Table};
 use vault_base::right::Right;
 
@@ -17,26 +16,6 @@ pub fn named<T: Drop>(read: Result<Result<T, NameFault>, AllocError>) -> Result<
     }
 }
 
-fn bucket(alloc: Global, text: &str) -> Result<Option<NameFault>, AllocError> {
-    Ok(BucketName::read(alloc, text)?.err())
-}
-
-fn key(alloc: Global, text: &str) -> Result<Option<NameFault>, AllocError> {
-    Ok(ObjectKey::read(alloc, text)?.err())
-}
-
-fn prefix(alloc: Global, text: &str) -> Result<Option<NameFault>, AllocError> {
-    Ok(KeyPrefix::read(alloc, text)?.err())
-}
-
-fn caller(alloc: Global, text: &str) -> Result<Option<NameFault>, AllocError> {
-    Ok(CallerName::read(alloc, text)?.err())
-}
-
-fn rule(alloc: Global, text: &str) -> Result<Option<NameFault>, AllocError> {
-    Ok(RuleId::read(alloc, text)?.err())
-}
-
 /// A kind of names.
 #[derive(Clone, Copy)]
 enum Kind {
@@ -47,14 +26,19 @@ enum Kind {
     Rule,
 }
 
+/// Why a text is no name by that grammar.
+fn fault_by<G: Grammar>(alloc: Global, text: &str) -> Result<Option<NameFault>, AllocError> {
+    Ok(Name::<G>::read(alloc, text)?.err())
+}
+
 /// Why a text is no name of that kind.
 fn fault(alloc: Global, kind: Kind, text: &str) -> Result<Option<NameFault>, AllocError> {
     match kind {
-        Kind::Bucket => bucket(alloc, text),
-        Kind::Key => key(alloc, text),
-        Kind::Prefix => prefix(alloc, text),
-        Kind::Caller => caller(alloc, text),
-        Kind::Rule => rule(alloc, text),
+        Kind::Bucket => fault_by::<Bucket>(alloc, text),
+        Kind::Key => fault_by::<Object>(alloc, text),
+        Kind::Prefix => fault_by::<Prefix>(alloc, text),
+        Kind::Caller => fault_by::<Caller>(alloc, text),
+        Kind::Rule => fault_by::<Rule>(alloc, text),
     }
 }
 

@@ -12,32 +12,20 @@ use vault_base::name::VersionId;
 use vault_base::refusal::Refusal;
 use vault_core_model::reply::{Answer, Removed, Reply, Stop, Version};
 
-/// The status of a refusal.
-fn refusal_status(refusal: Refusal) -> Status
-    ensures { result ≡ spec.refusal_status refusal }
+/// The status of that number.
+fn status_numbered(number: u16) -> Status
+    ensures { result ≡ spec.status_numbered number }
 {
-    match refusal {
-        Refusal::InvalidArgument
-        | Refusal::RetentionOutOfRange
-        | Refusal::MalformedBody
-        | Refusal::EntityTooLarge
-        | Refusal::KeyTooLongError
-        | Refusal::InvalidBucketName => Status::BadRequest,
-        Refusal::AccessDenied(_) | Refusal::QuotaExceeded => Status::Forbidden,
-        Refusal::NoSuchBucket
-        | Refusal::NoSuchKey(_)
-        | Refusal::NoSuchVersion
-        | Refusal::NoSuchLifecycleConfiguration => Status::NotFound,
-        Refusal::MethodNotAllowed => Status::MethodNotAllowed,
-        Refusal::BucketAlreadyExists | Refusal::NameTaken | Refusal::IntakeConflict => {
-            Status::Conflict
-        }
-        Refusal::MissingContentLength => Status::LengthRequired,
-        Refusal::NotImplemented => Status::NotImplemented,
-        Refusal::ClockBack | Refusal::ClockOutOfRange | Refusal::VaultFull | Refusal::Memory => {
-            Status::ServiceUnavailable
-        }
-        Refusal::Device | Refusal::Damaged(_) => Status::InternalServerError,
+    match number {
+        400 => Status::BadRequest,
+        403 => Status::Forbidden,
+        404 => Status::NotFound,
+        405 => Status::MethodNotAllowed,
+        409 => Status::Conflict,
+        411 => Status::LengthRequired,
+        501 => Status::NotImplemented,
+        503 => Status::ServiceUnavailable,
+        _ => Status::InternalServerError,
     }
 }
 
@@ -58,7 +46,7 @@ fn refusal_head(refusal: Refusal, allow: Option<Allow>, length: u64) -> Head
     ensures { result ≡ spec.refusal_head refusal allow length }
 {
     Head {
-        status: refusal_status(refusal),
+        status: status_numbered(refusal.status().unwrap_or(500)),
         kind: Kind::Json(length),
         allow,
         marker: names_marker(refusal, allow),
