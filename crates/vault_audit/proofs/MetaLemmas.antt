@@ -18,10 +18,10 @@ use Rattle.vault_audit_model.proofs.SameRows.{same_meta}
 use Rattle.vault_audit_records.specs.Meta.{IsFirstMeta, with_meta, IsMetaOf}
 use Rattle.vault_audit_schema.specs.Places.{BeginTo}
 use Rattle.vault_audit_schema.specs.Selects.{meta_terms}
-use Rattle.vault_audit_walk.specs.Pass.{Takes, Refuses, AllFit, after}
-use Rattle.vault_audit_walk.specs.Walk.{Walked}
-use Rattle.vault_audit_walk.proofs.ScanLemmas.{walked, first_cmp}
-use Rattle.vault_audit_walk.proofs.PassLemmas.{walk_yes, walk_no}
+use Rattle.vault_audit_rows.specs.Pass.{Takes, Refuses, AllFit, after}
+use Rattle.vault_audit_rows.specs.Walk.{Walked}
+use Rattle.vault_audit_rows.proofs.ScanLemmas.{walked, first_cmp}
+use Rattle.vault_audit_rows.proofs.PassLemmas.{walk_yes, walk_no}
 use Rattle.vault_audit.proofs.TextLemmas.{meta_query, meta_walks}
 
 abbrev source : SchemaVersion → Database → List Row

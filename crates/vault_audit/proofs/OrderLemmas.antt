@@ -23,7 +23,7 @@ use Rattle.vault_audit_schema.specs.Places.{BeginTo, IsReportedIn}
 use Rattle.vault_audit_schema.proofs.DifferenceLemmas.{in_place, place_below}
 use Rattle.vault_audit_records.specs.Entries.{IsEntryBy}
 use Rattle.vault_audit_records.specs.Meta.{IsMetaOf}
-use Rattle.vault_audit_walk.specs.Records.{AreRecords}
+use Rattle.vault_audit_rows.specs.Records.{AreRecords}
 use Rattle.vault_audit.specs.InOrder.{AreRowsRight, IsRight, IsReportedInOrder, ReportedInOrder}
 use Rattle.vault_audit.specs.Looks.{Differs}
 

@@ -11,8 +11,8 @@ use Rattle.vault_audit_model.specs.Tables.{meta, meta_tree, entries, entries_tre
 use Rattle.vault_audit_schema.specs.Places.{BeginTo}
 use Rattle.vault_audit_schema.specs.Selects.{meta_select, meta_terms}
 use Rattle.vault_audit_schema.specs.Texts.{names_of, select_text, terms_of}
-use Rattle.vault_audit_walk.proofs.ScanLemmas.{walk_of}
-use Rattle.vault_audit_walk.specs.Health.{Asks}
+use Rattle.vault_audit_rows.proofs.ScanLemmas.{walk_of}
+use Rattle.vault_audit_rows.specs.Health.{Asks}
 use Rattle.vault_audit.specs.Begun.{as_begun}
 
 -- ---- entries

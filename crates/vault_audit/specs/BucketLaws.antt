@@ -14,7 +14,7 @@ use Rattle.vault_audit_model.specs.Spells.{AreSoundAs}
 use Rattle.vault_audit_model.specs.Tables.{buckets, buckets_tree}
 use Rattle.vault_audit_schema.specs.Places.{BeginTo}
 use Rattle.vault_audit_schema.specs.Texts.{names_of, select_text, terms_of}
-use Rattle.vault_audit_walk.specs.Records.{AreRecords}
+use Rattle.vault_audit_rows.specs.Records.{AreRecords}
 use Rattle.vault_audit_records.proofs.DamageLemmas.{no_buckets}
 use Rattle.vault_audit.specs.Begun.{as_begun}
 use Rattle.vault_audit.specs.ShowsAll.{ShowsAll}

@@ -14,7 +14,7 @@ use Rattle.vault_audit_model.specs.Tables.{schema_of, departments_tree, callers_
 use Rattle.vault_audit_schema.specs.Places.{IsInPlace, AreInPlace}
 use Rattle.vault_audit_records.specs.Entries.{IsEntryBy}
 use Rattle.vault_audit_records.specs.Meta.{IsMetaOf}
-use Rattle.vault_audit_walk.specs.Records.{AreRecords}
+use Rattle.vault_audit_rows.specs.Records.{AreRecords}
 
 -- whether the rows of the table state records in their limits, each by itself: of meta one with the number of the schema version, and of entries none that is after the last moment
 abbrev pub AreRowsRight : SchemaVersion → Database → Table → Bool → Type 0

@@ -13,4 +13,4 @@ pub mod SettingLaws
 pub mod NoteLaws
 pub mod HeadLaws
 pub mod TenureLaws
-pub use Rattle.vault_audit_walk.specs.Health
+pub use Rattle.vault_audit_rows.specs.Health

@@ -19,7 +19,7 @@ use Rattle.vault_audit_model.specs.Rows.{entry_row, entry_columns}
 use Rattle.vault_audit_model.specs.Spells.{AreSoundAs, entries_in}
 use Rattle.vault_audit_model.specs.Tables.{entries_tree, schema_of}
 use Rattle.vault_audit_schema.specs.Places.{IsReportedIn}
-use Rattle.vault_audit_walk.specs.Records.{AreRecords}
+use Rattle.vault_audit_rows.specs.Records.{AreRecords}
 use Rattle.vault_audit_records.specs.Entries.{IsEntryBy}
 use Rattle.vault_audit_records.specs.Meta.{IsMetaOf}
 use Rattle.vault_audit_records.specs.ByName.{AreDepartmentsByName}

@@ -16,7 +16,7 @@ use Rattle.vault_audit_model.specs.Tables.{rules, rules_tree}
 use Rattle.vault_audit_schema.specs.Places.{BeginTo}
 use Rattle.vault_audit_schema.specs.Selects.{rules_select, rule_terms}
 use Rattle.vault_audit_schema.specs.Texts.{names_of}
-use Rattle.vault_audit_walk.specs.Records.{AreRecords}
+use Rattle.vault_audit_rows.specs.Records.{AreRecords}
 use Rattle.vault_audit_records.proofs.DamageLemmas.{no_rules}
 use Rattle.vault_audit.specs.Begun.{as_begun}
 use Rattle.vault_audit.specs.ShowsAll.{ShowsAll}

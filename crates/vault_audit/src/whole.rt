@@ -7,7 +7,7 @@ ghost use Rattle.vault_core_model.specs.Vault.{Vault};
 ghost use Rattle.vault_audit_model.specs.Spells.{AreSoundAs};
 ghost use Rattle.vault_audit.specs.InOrder.{IsReportedInOrder};
 ghost use Rattle.vault_audit.specs.Whole.{IsAudited, IsJudged, IsReported};
-ghost use Rattle.vault_audit_walk.specs.Health.{IsHealthy, IsMemory, OnlyLooks};
+ghost use Rattle.vault_audit_rows.specs.Health.{IsHealthy, IsMemory, OnlyLooks};
 
 use crate::first_pass::in_order::{is_at, look_at_tables};
 use crate::first_pass::meta::check_meta;

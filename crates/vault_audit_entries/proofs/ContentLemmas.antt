@@ -29,15 +29,15 @@ use Rattle.vault_audit_model.specs.Tables.{schema_of, contents_tree, entries_tre
 use Rattle.vault_audit_model.specs.Values.{number, bytes_or_null}
 use Rattle.vault_audit_model.proofs.ValueLemmas.{int_less}
 use Rattle.vault_audit_model.proofs.SameRows.{cell, number_same}
-use Rattle.vault_audit_walk.specs.Pass.{Takes, Refuses, AllFit, after}
-use Rattle.vault_audit_walk.specs.Walk.{Walked}
-use Rattle.vault_audit_walk.proofs.ScanLemmas.{first_cmp}
-use Rattle.vault_audit_walk.proofs.PassLemmas.{walk_yes, walk_no}
+use Rattle.vault_audit_rows.specs.Pass.{Takes, Refuses, AllFit, after}
+use Rattle.vault_audit_rows.specs.Walk.{Walked}
+use Rattle.vault_audit_rows.proofs.ScanLemmas.{first_cmp}
+use Rattle.vault_audit_rows.proofs.PassLemmas.{walk_yes, walk_no}
 use Rattle.vault_audit_entries.specs.declared.contents.beside.ContentPass.{ContentPass}
 use Rattle.vault_audit_entries.specs.Contents.{IsContentOf, IsContentIn, AreRisingFrom, AreOfHeld, DecidesHeld, held_row}
 use Rattle.vault_audit_entries.specs.ContentPasses.{ComesLater, with_content}
 use Rattle.vault_audit_entries.proofs.BesideLemmas.{is_of, row_beside, beside, beside_is, beside_number}
-use Rattle.vault_audit_walk.proofs.JoinLemmas.{IsOrderOf}
+use Rattle.vault_audit_rows.proofs.JoinLemmas.{IsOrderOf}
 use Rattle.vault_audit_entries.proofs.JoinLemmas.{beside_of, shown_beside, join_rows, joined}
 use Rattle.vault_audit_entries.proofs.ContentMergeLemmas.{IsGiven, taken}
 use Rattle.vault_audit_entries.proofs.ContentRowLemmas.{same_row}

@@ -34,12 +34,12 @@ use Rattle.vault_audit_model.specs.Rows.{entry_row, entry_columns, head_row, hea
 use Rattle.vault_audit_model.specs.Tables.{schema_of, entries_tree, heads_tree}
 use Rattle.vault_audit_model.specs.Values.{number}
 use Rattle.vault_audit_model.proofs.SameRows.{number_same}
-use Rattle.vault_audit_walk.specs.Health.{Asks}
-use Rattle.vault_audit_walk.specs.Records.{Checked}
-use Rattle.vault_audit_walk.proofs.ScanLemmas.{goes_on_to}
-use Rattle.vault_audit_walk.proofs.RecordLemmas.{between, front}
+use Rattle.vault_audit_rows.specs.Health.{Asks}
+use Rattle.vault_audit_rows.specs.Records.{Checked}
+use Rattle.vault_audit_rows.proofs.ScanLemmas.{goes_on_to}
+use Rattle.vault_audit_rows.proofs.RecordLemmas.{between, front}
 use Rattle.vault_audit_model.proofs.ValueLemmas.{agrees, none_removed}
-use Rattle.vault_audit_walk.proofs.BesideLemmas.{agree_texts, of_records, of_stored, passes}
+use Rattle.vault_audit_rows.proofs.BesideLemmas.{agree_texts, of_records, of_stored, passes}
 use Rattle.vault_audit_entries.specs.HeadCounts.{is_under, IsCounted, DecidesCounts, ShowsCount}
 use Rattle.vault_audit_model.specs.declared.schema.SchemaVersion.{SchemaVersion}
 use Rattle.vault_audit_model.proofs.ListLemmas.{all_as}

@@ -20,12 +20,12 @@ use Rattle.vault_audit_model.specs.Relations.{AreEntries}
 use Rattle.vault_audit_model.specs.Rows.{head_row, head_columns, entry_columns, removal_at}
 use Rattle.vault_audit_model.specs.Tables.{schema_of, heads_tree, entries_tree}
 use Rattle.vault_audit_model.proofs.SameRows.{text_same, cell}
-use Rattle.vault_audit_walk.specs.Pass.{Takes, Refuses, after}
-use Rattle.vault_audit_walk.specs.Walk.{Walked}
-use Rattle.vault_audit_walk.proofs.PassLemmas.{pass_yes, pass_no}
+use Rattle.vault_audit_rows.specs.Pass.{Takes, Refuses, after}
+use Rattle.vault_audit_rows.specs.Walk.{Walked}
+use Rattle.vault_audit_rows.proofs.PassLemmas.{pass_yes, pass_no}
 use Rattle.vault_audit_entries.proofs.BesideLemmas.{is_of, row_beside, beside, beside_is, beside_number}
 use Rattle.vault_audit_entries.proofs.ContentLemmas.{one_each, unremoved}
-use Rattle.vault_audit_walk.proofs.JoinLemmas.{IsOrderOf}
+use Rattle.vault_audit_rows.proofs.JoinLemmas.{IsOrderOf}
 use Rattle.vault_audit_entries.proofs.JoinLemmas.{beside_of, shown_beside, join_rows, joined}
 use Rattle.vault_audit_entries.specs.declared.heads.by_key.HeadPass.{HeadPass}
 use Rattle.vault_audit_entries.specs.Heads.{headed_row, head_cmp, IsHeldFor, NamesHeld, AreHeadsByKey, DecidesHeadsByKey, sum_of_counts, up_to_most}

@@ -14,7 +14,7 @@ use Rattle.sqlite_sql.proofs.QueryLemmas.{key_cmp_total}
 use Rattle.vault_core_model.specs.Order.{IsAscending, name_cmp}
 use Rattle.vault_audit_model.specs.declared.rows.HeadRow.{HeadRow}
 use Rattle.vault_audit_model.specs.Limits.{IsHeadRow}
-use Rattle.vault_audit_walk.specs.Pass.{AllFit}
+use Rattle.vault_audit_rows.specs.Pass.{AllFit}
 use Rattle.vault_audit_entries.specs.declared.heads.by_key.HeadPass.{HeadPass}
 use Rattle.vault_audit_entries.specs.Heads.{headed_row, head_cmp, IsAfter}
 use Rattle.vault_audit_entries.specs.HeadPasses.{ComesAfter, with_head}

@@ -13,8 +13,8 @@ use Rattle.vault_audit_model.specs.Relations.{AreEntries}
 use Rattle.vault_audit_model.specs.Rows.{bit, entry_row, entry_columns, removal_at}
 use Rattle.vault_audit_model.specs.Tables.{schema_of, entries_tree}
 use Rattle.vault_audit_model.specs.Values.{flag}
-use Rattle.vault_audit_walk.specs.Walk.{Goes, Walked}
-use Rattle.vault_audit_walk.proofs.RecordLemmas.{scanned}
+use Rattle.vault_audit_rows.specs.Walk.{Goes, Walked}
+use Rattle.vault_audit_rows.proofs.RecordLemmas.{scanned}
 use Rattle.vault_audit_entries.specs.declared.held.HeldCount.{HeldCount}
 use Rattle.vault_audit_entries.specs.Contents.{is_held_version, held_count}
 use Rattle.vault_audit_entries.specs.HeadCounts.{is_held, held_entry_count}

@@ -11,7 +11,7 @@ use Rattle.sqlite_schema.specs.declared.command.Command.TheVariants.{Select}
 use Rattle.sqlite.specs.Listing.{understood, reads_listing}
 use Rattle.sqlite.specs.State.{State, Shown}
 use Rattle.sqlite.proofs.Callers.{IsPlain, command_of}
-use Rattle.vault_audit_walk.proofs.JoinLemmas.{joined_of, joined_with, IsOrderOf}
+use Rattle.vault_audit_rows.proofs.JoinLemmas.{joined_of, joined_with, IsOrderOf}
 use Rattle.vault_audit_entries.proofs.BesideLemmas.{is_of}
 
 -- SELECT columns FROM t AS a LEFT JOIN entries AS e ON e.id = a.(at) ORDER BY order

@@ -32,12 +32,12 @@ use Rattle.vault_audit_model.specs.Tables.{schema_of, intake_tree, entries_tree}
 use Rattle.vault_audit_model.specs.Values.{number, bytes_or_null}
 use Rattle.vault_audit_model.proofs.SameRows.{number_same, text_same, cell}
 use Rattle.vault_audit_laws.proofs.JoinLemmas.{entry_found}
-use Rattle.vault_audit_walk.specs.Pass.{Takes, Refuses, AllFit}
-use Rattle.vault_audit_walk.specs.Walk.{Walked}
-use Rattle.vault_audit_walk.proofs.PassLemmas.{pass_yes, pass_no}
+use Rattle.vault_audit_rows.specs.Pass.{Takes, Refuses, AllFit}
+use Rattle.vault_audit_rows.specs.Walk.{Walked}
+use Rattle.vault_audit_rows.proofs.PassLemmas.{pass_yes, pass_no}
 use Rattle.vault_audit_entries.proofs.BesideLemmas.{is_of, row_beside, beside, beside_is, beside_number}
 use Rattle.vault_audit_entries.proofs.ContentLemmas.{one_each, digest_same, no_number}
-use Rattle.vault_audit_walk.proofs.JoinLemmas.{IsOrderOf}
+use Rattle.vault_audit_rows.proofs.JoinLemmas.{IsOrderOf}
 use Rattle.vault_audit_entries.proofs.JoinLemmas.{beside_of, shown_beside, join_rows, joined}
 use Rattle.vault_audit_entries.proofs.ContentSoundLemmas.{sound_entries}
 use Rattle.vault_audit_entries.specs.declared.intake.NotePass.{NotePass}

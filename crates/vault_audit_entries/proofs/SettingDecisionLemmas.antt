@@ -17,10 +17,10 @@ use Rattle.vault_audit_model.specs.Rows.{entry_row, entry_columns, setting_row, 
 use Rattle.vault_audit_model.specs.Spells.{AreSoundAs, settings_in}
 use Rattle.vault_audit_model.specs.Tables.{schema_of, entries_tree, settings, settings_tree}
 use Rattle.vault_audit_schema.specs.Texts.{terms_of}
-use Rattle.vault_audit_walk.specs.Pass.{Takes, Refuses}
-use Rattle.vault_audit_walk.specs.Walk.{Walked}
-use Rattle.vault_audit_walk.proofs.PairLemmas.{pair_walked, pair_cmp, pair_cmp_total}
-use Rattle.vault_audit_walk.proofs.PassLemmas.{pass_yes, pass_no}
+use Rattle.vault_audit_rows.specs.Pass.{Takes, Refuses}
+use Rattle.vault_audit_rows.specs.Walk.{Walked}
+use Rattle.vault_audit_rows.proofs.PairLemmas.{pair_walked, pair_cmp, pair_cmp_total}
+use Rattle.vault_audit_rows.proofs.PassLemmas.{pass_yes, pass_no}
 use Rattle.vault_audit_entries.specs.declared.settings.placed.SettingPass.{SettingPass}
 use Rattle.vault_audit_entries.specs.SettingPlaces.{ComesNext, with_setting, no_setting, DecidesPlaces, DecidesPresence, HaveOwners}
 use Rattle.vault_audit_model.proofs.SameRows.{same_setting}
@@ -28,8 +28,8 @@ use Rattle.vault_audit_entries.proofs.SettingRowLemmas.{rise}
 use Rattle.vault_audit_entries.proofs.SettingHistoryLemmas.{placed, all_set, bounded, make}
 use Rattle.vault_audit_entries.proofs.SettingTextLemmas.{placed_walk, placed_walk_is, placed_walk_plain, settings_beside}
 use Rattle.vault_audit_entries.proofs.SettingPresenceLemmas.{presence}
-use Rattle.vault_audit_walk.specs.Records.{Checked}
-use Rattle.vault_audit_walk.specs.Beside.{ReportsAbsence}
+use Rattle.vault_audit_rows.specs.Records.{Checked}
+use Rattle.vault_audit_rows.specs.Beside.{ReportsAbsence}
 use Rattle.vault_audit_model.specs.declared.schema.SchemaVersion.{SchemaVersion}
 use Rattle.vault_audit_rows.proofs.LimitLemmas.{numbers_of}
 

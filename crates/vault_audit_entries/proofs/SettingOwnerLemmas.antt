@@ -21,7 +21,7 @@ use Rattle.vault_audit_model.specs.Tables.{entries_tree, settings_tree}
 use Rattle.vault_audit_model.specs.Values.{number}
 use Rattle.vault_audit_model.proofs.ValueLemmas.{agrees}
 use Rattle.vault_audit_laws.specs.Ties.{AreTied}
-use Rattle.vault_audit_walk.proofs.BesideLemmas.{agree_numbers, met_as, of_records}
+use Rattle.vault_audit_rows.proofs.BesideLemmas.{agree_numbers, met_as, of_records}
 use Rattle.vault_audit_entries.specs.SettingPlaces.{AreRowsOf, IsOfOne, HaveOwners}
 use Rattle.vault_audit_model.proofs.ListLemmas.{all_as}
 

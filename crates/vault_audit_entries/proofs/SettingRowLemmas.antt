@@ -9,8 +9,8 @@ use Rattle.vault_audit_model.specs.declared.rows.SettingRow.{SettingRow}
 use Rattle.vault_audit_model.specs.Rows.{setting_row}
 use Rattle.vault_audit_model.proofs.SameRows.{same_setting}
 use Rattle.vault_audit_model.proofs.ValueLemmas.{int_less}
-use Rattle.vault_audit_walk.specs.Pass.{AllFit}
-use Rattle.vault_audit_walk.proofs.PairLemmas.{pair_cmp}
+use Rattle.vault_audit_rows.specs.Pass.{AllFit}
+use Rattle.vault_audit_rows.proofs.PairLemmas.{pair_cmp}
 use Rattle.vault_audit_entries.specs.declared.settings.placed.SettingPass.{SettingPass}
 use Rattle.vault_audit_entries.specs.SettingPlaces.{ComesNext, with_setting}
 

@@ -8,9 +8,9 @@ use Rattle.sqlite_sql.specs.Term.{col}
 use Rattle.vault_audit_model.specs.Queries.{Selects}
 use Rattle.vault_audit_model.specs.Tables.{schema_of, settings, settings_tree}
 use Rattle.vault_audit_schema.specs.Texts.{names_of, select_text, terms_of}
-use Rattle.vault_audit_walk.proofs.PairLemmas.{pair_walk_of}
-use Rattle.vault_audit_walk.proofs.BesideLemmas.{beside_of}
-use Rattle.vault_audit_walk.specs.Health.{Asks}
+use Rattle.vault_audit_rows.proofs.PairLemmas.{pair_walk_of}
+use Rattle.vault_audit_rows.proofs.BesideLemmas.{beside_of}
+use Rattle.vault_audit_rows.specs.Health.{Asks}
 use Rattle.vault_audit_model.specs.declared.schema.SchemaVersion.{SchemaVersion}
 
 abbrev pub placed_walk : List ℕ

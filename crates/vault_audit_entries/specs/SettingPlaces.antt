@@ -8,8 +8,8 @@ use Rattle.vault_audit_model.specs.Limits.{IsSettingRow}
 use Rattle.vault_audit_model.specs.Relations.{AreEntries}
 use Rattle.vault_audit_model.specs.Rows.{setting_row, setting_columns}
 use Rattle.vault_audit_model.specs.Tables.{settings_tree}
-use Rattle.vault_audit_walk.specs.Beside.{Decides}
-use Rattle.vault_audit_walk.specs.Pass.{AllFit}
+use Rattle.vault_audit_rows.specs.Beside.{Decides}
+use Rattle.vault_audit_rows.specs.Pass.{AllFit}
 use Rattle.vault_audit_entries.specs.declared.settings.placed.SettingPass.{SettingPass}
 
 -- at the next place of the same version, or the first of a later one

@@ -16,7 +16,7 @@ ghost use Rattle.vault_audit_model.specs.Rows.{retention_mode, retention_until};
 ghost use Rattle.vault_audit_model.specs.Spells.{AreSoundAs};
 ghost use Rattle.vault_audit_model.specs.Values.{number as value, flag_or_null as hold_value};
 ghost use Rattle.vault_audit_entries.specs.Notes.{noted_row, IsAfter};
-ghost use Rattle.vault_audit_walk.specs.Health.{IsHealthy, IsMemory, IsOfSchemaVersion, OnlyLooks};
+ghost use Rattle.vault_audit_rows.specs.Health.{IsHealthy, IsMemory, IsOfSchemaVersion, OnlyLooks};
 
 use sqlite::{Alter, Connection, Error, ErrorCode, Row};
 use std::cmp::Ordering;
@@ -27,7 +27,7 @@ use vault_audit_rows::cell::{
 use vault_audit_rows::misread::Misread;
 use vault_audit_rows::name::{batch_name, bucket_name, object_key};
 use vault_audit_rows::several_columns::retention;
-use vault_audit_walk::walk::{Pass, walk};
+use vault_audit_rows::walk::{Pass, walk};
 use vault_base::limits::MOST_CONTENT;
 use vault_core_model::records::Note;
 
@@ -122,7 +122,7 @@ fn is_after(last: &Option<Note>, note: &Note) -> bool
 }
 
 impl Pass for NotePass {
-    ghost use Rattle.vault_audit_walk.specs.Pass.{Takes, Refuses};
+    ghost use Rattle.vault_audit_rows.specs.Pass.{Takes, Refuses};
     ghost use Rattle.vault_audit_entries.specs.Notes.{noted_row};
     ghost use Rattle.vault_audit_entries.specs.NotePasses.{ComesAfter, with_note};
 

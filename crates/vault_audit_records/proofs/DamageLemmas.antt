@@ -19,7 +19,7 @@ use Rattle.vault_audit_model.specs.declared.schema.SchemaVersion.TheVariants.{Fi
 use Rattle.vault_audit_model.specs.Rows.{department_row, caller_row, bucket_row, rule_row, entry_row, content_row, setting_row, note_row, head_row, tenure_row, department_columns_as, caller_columns, bucket_columns, rule_columns_as, entry_columns, content_columns, setting_columns, note_columns, head_columns}
 use Rattle.vault_audit_model.specs.Spells.{AreSoundAs, meta_stated, bucket_of, rules_in, contents_in, settings_in, IsKeptAs, tenures_in, tenure_rows_of, tenure_rows_in, department_in, head_in, heads_in}
 use Rattle.vault_audit_model.specs.Tables.{departments_tree, callers_tree, buckets_tree, rules_tree, entries_tree, contents_tree, settings_tree, intake_tree, heads_tree}
-use Rattle.vault_audit_walk.specs.Records.{AreRecords}
+use Rattle.vault_audit_rows.specs.Records.{AreRecords}
 use Rattle.vault_audit_records.specs.Entries.{IsEntryBy}
 use Rattle.vault_audit_records.specs.Meta.{IsMetaOf}
 use Rattle.vault_audit_model.specs.Relations.{AreNumbered}

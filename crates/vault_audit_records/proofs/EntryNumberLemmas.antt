@@ -12,10 +12,10 @@ use Rattle.vault_audit_model.specs.Rows.{entry_row, entry_columns}
 use Rattle.vault_audit_model.specs.declared.schema.SchemaVersion.{SchemaVersion}
 use Rattle.vault_audit_model.specs.Tables.{schema_of, entries, entries_tree}
 use Rattle.vault_audit_schema.specs.Texts.{terms_of}
-use Rattle.vault_audit_walk.specs.Pass.{Takes, Refuses, AllFit, after}
-use Rattle.vault_audit_walk.specs.Walk.{Walked}
-use Rattle.vault_audit_walk.proofs.ScanLemmas.{walked, first_cmp}
-use Rattle.vault_audit_walk.proofs.PassLemmas.{walk_yes, walk_no}
+use Rattle.vault_audit_rows.specs.Pass.{Takes, Refuses, AllFit, after}
+use Rattle.vault_audit_rows.specs.Walk.{Walked}
+use Rattle.vault_audit_rows.proofs.ScanLemmas.{walked, first_cmp}
+use Rattle.vault_audit_rows.proofs.PassLemmas.{walk_yes, walk_no}
 use Rattle.vault_audit_records.specs.declared.entries.second_look.NumberPass.{NumberPass}
 use Rattle.vault_audit_model.specs.Relations.{AreNumbered}
 use Rattle.vault_audit_model.proofs.ValueLemmas.{int_less}

@@ -7,8 +7,8 @@ use Rattle.sqlite.proofs.Callers.{IsPlain, command_of}
 use Rattle.vault_audit_model.specs.declared.schema.SchemaVersion.{SchemaVersion}
 use Rattle.vault_audit_model.specs.Tables.{schema_of, entries, entries_tree}
 use Rattle.vault_audit_schema.specs.Texts.{names_of, select_text, terms_of}
-use Rattle.vault_audit_walk.proofs.ScanLemmas.{walk_of}
-use Rattle.vault_audit_walk.specs.Health.{Asks}
+use Rattle.vault_audit_rows.proofs.ScanLemmas.{walk_of}
+use Rattle.vault_audit_rows.specs.Health.{Asks}
 
 abbrev pub numbers_walk : List ℕ
 numbers_walk = select_text entries (codes " ORDER BY id")

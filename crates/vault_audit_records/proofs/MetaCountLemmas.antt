@@ -18,13 +18,13 @@ use Rattle.vault_audit_model.specs.Spells.{AreSoundAs, meta_stated}
 use Rattle.vault_audit_model.specs.Queries.{table_scan, Selects}
 use Rattle.vault_audit_model.specs.Tables.{schema_of, entries_tree}
 use Rattle.vault_audit_model.proofs.SameRows.{same_meta}
-use Rattle.vault_audit_walk.specs.Walk.{Goes, Walked}
-use Rattle.vault_audit_walk.proofs.RecordLemmas.{scanned}
-use Rattle.vault_audit_walk.proofs.ScanLemmas.{shows}
+use Rattle.vault_audit_rows.specs.Walk.{Goes, Walked}
+use Rattle.vault_audit_rows.proofs.RecordLemmas.{scanned}
+use Rattle.vault_audit_rows.proofs.ScanLemmas.{shows}
 use Rattle.vault_audit_records.specs.Meta.{IsMetaOf}
 use Rattle.vault_audit_records.specs.declared.meta.second_look.RowCount.{RowCount}
 use Rattle.vault_audit_records.specs.MetaCount.{CountsOne, DecidesNext}
-use Rattle.vault_audit_walk.specs.Health.{Asks}
+use Rattle.vault_audit_rows.specs.Health.{Asks}
 use Rattle.vault_audit_model.specs.declared.schema.SchemaVersion.{SchemaVersion}
 
 abbrev pub ids_text : List ℕ

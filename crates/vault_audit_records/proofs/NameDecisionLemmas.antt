@@ -18,10 +18,10 @@ use Rattle.vault_audit_model.specs.Tables.{schema_of, callers, callers_tree, dep
 use Rattle.vault_audit_schema.specs.Selects.{department_terms}
 use Rattle.vault_audit_schema.specs.Texts.{terms_of}
 use Rattle.vault_audit_model.proofs.SameRows.{same_caller}
-use Rattle.vault_audit_walk.specs.Pass.{Takes, Refuses}
-use Rattle.vault_audit_walk.specs.Walk.{Walked}
-use Rattle.vault_audit_walk.proofs.ScanLemmas.{walked, first_cmp, first_cmp_total}
-use Rattle.vault_audit_walk.proofs.PassLemmas.{walk_yes, walk_no, rows_yes, rows_no}
+use Rattle.vault_audit_rows.specs.Pass.{Takes, Refuses}
+use Rattle.vault_audit_rows.specs.Walk.{Walked}
+use Rattle.vault_audit_rows.proofs.ScanLemmas.{walked, first_cmp, first_cmp_total}
+use Rattle.vault_audit_rows.proofs.PassLemmas.{walk_yes, walk_no, rows_yes, rows_no}
 use Rattle.vault_audit_records.specs.ByName.{IsNextCaller, with_caller, DecidesCallers, department_cmp, IsNextDepartment, with_department, DecidesDepartments}
 use Rattle.vault_audit_records.proofs.NameRiseLemmas.{ascending, in_limits, rise, fitting}
 use Rattle.vault_audit_records.proofs.NameRowLemmas.{same_name}

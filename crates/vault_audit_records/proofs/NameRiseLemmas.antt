@@ -5,8 +5,8 @@ use Rattle.std.proofs.lemmas.Cmp.{nat_list_cmp_total}
 use Rattle.sqlite_value.specs.Order.{Row}
 use Rattle.sqlite_trees.specs.Tree.{IsAscending as Rises}
 use Rattle.vault_core_model.specs.Order.{IsAscending, name_cmp}
-use Rattle.vault_audit_walk.specs.Pass.{AllFit}
-use Rattle.vault_audit_walk.proofs.ScanLemmas.{first_cmp}
+use Rattle.vault_audit_rows.specs.Pass.{AllFit}
+use Rattle.vault_audit_rows.proofs.ScanLemmas.{first_cmp}
 use Rattle.vault_audit_model.specs.Relations.{IsAfter}
 
 module _ {X : Type 0} (row_of : X → Row) (name_of : X → List ℕ) (Is : X → Type 0) (first : (x y : X) → first_cmp (row_of x) (row_of y) ≡ name_cmp (name_of x) (name_of y)) where

@@ -22,15 +22,15 @@ use Rattle.vault_audit_model.specs.Tables.{schema_of, buckets, buckets_tree, rul
 use Rattle.vault_audit_schema.specs.Selects.{rule_terms}
 use Rattle.vault_audit_schema.specs.Texts.{terms_of}
 use Rattle.vault_audit_model.proofs.SameRows.{same_bucket, same_rule}
-use Rattle.vault_audit_walk.specs.Pass.{Takes, Refuses}
-use Rattle.vault_audit_walk.specs.Records.{Checked}
-use Rattle.vault_audit_walk.specs.Walk.{Walked}
-use Rattle.vault_audit_walk.proofs.ScanLemmas.{walked, first_cmp}
-use Rattle.vault_audit_walk.proofs.PairLemmas.{pair_walked, pair_cmp, pair_cmp_total}
-use Rattle.vault_audit_walk.proofs.PassLemmas.{walk_yes, walk_no, pass_yes, pass_no}
-use Rattle.vault_audit_walk.specs.Beside.{ReportsAbsence}
+use Rattle.vault_audit_rows.specs.Pass.{Takes, Refuses}
+use Rattle.vault_audit_rows.specs.Records.{Checked}
+use Rattle.vault_audit_rows.specs.Walk.{Walked}
+use Rattle.vault_audit_rows.proofs.ScanLemmas.{walked, first_cmp}
+use Rattle.vault_audit_rows.proofs.PairLemmas.{pair_walked, pair_cmp, pair_cmp_total}
+use Rattle.vault_audit_rows.proofs.PassLemmas.{walk_yes, walk_no, pass_yes, pass_no}
+use Rattle.vault_audit_rows.specs.Beside.{ReportsAbsence}
 use Rattle.vault_audit_model.proofs.ValueLemmas.{agrees}
-use Rattle.vault_audit_walk.proofs.BesideLemmas.{agree_texts, beside_row, beside_yes, beside_no, met_yes, met_no, met_as, of_records, of_stored}
+use Rattle.vault_audit_rows.proofs.BesideLemmas.{agree_texts, beside_row, beside_yes, beside_no, met_yes, met_no, met_as, of_records, of_stored}
 use Rattle.vault_audit_records.specs.RulesByPlace.{RulesSoFar, IsNextBucket, with_bucket, AreBucketRows, DecidesBucketRows, IsWhole, ComesNext, with_rule, no_rule, AreRowsOf, DecidesRuns, IsOfOne, DecidesOwners}
 use Rattle.vault_audit_records.proofs.RuleRiseLemmas.{buckets_rise, rules_rise}
 use Rattle.vault_audit_records.proofs.WholeWalkLemmas.{pass_only}

@@ -12,9 +12,9 @@ use Rattle.vault_audit_model.specs.declared.rows.BucketRow.{BucketRow}
 use Rattle.vault_audit_model.specs.declared.rows.RuleRow.{RuleRow}
 use Rattle.vault_audit_model.specs.Rows.{bucket_row, rule_row}
 use Rattle.vault_audit_model.proofs.ValueLemmas.{int_less}
-use Rattle.vault_audit_walk.specs.Pass.{AllFit, after}
-use Rattle.vault_audit_walk.proofs.ScanLemmas.{first_cmp}
-use Rattle.vault_audit_walk.proofs.PairLemmas.{pair_cmp}
+use Rattle.vault_audit_rows.specs.Pass.{AllFit, after}
+use Rattle.vault_audit_rows.proofs.ScanLemmas.{first_cmp}
+use Rattle.vault_audit_rows.proofs.PairLemmas.{pair_cmp}
 use Rattle.vault_audit_records.specs.RulesByPlace.{RulesSoFar, IsAfter, IsNextBucket, with_bucket, IsNext, ComesNext, with_rule}
 
 abbrev pub FitBuckets : Option (List ℕ) → List BucketRow → Type 0

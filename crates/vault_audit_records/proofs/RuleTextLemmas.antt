@@ -12,10 +12,10 @@ use Rattle.vault_audit_model.specs.Queries.{Selects}
 use Rattle.vault_audit_model.specs.Tables.{schema_of, buckets, buckets_tree, rules, rules_tree}
 use Rattle.vault_audit_schema.specs.Selects.{rules_select, rule_terms}
 use Rattle.vault_audit_schema.specs.Texts.{names_of, select_text, terms_of}
-use Rattle.vault_audit_walk.proofs.ScanLemmas.{walk_of}
-use Rattle.vault_audit_walk.proofs.PairLemmas.{pair_walk_of}
-use Rattle.vault_audit_walk.proofs.BesideLemmas.{beside_of}
-use Rattle.vault_audit_walk.specs.Health.{Asks}
+use Rattle.vault_audit_rows.proofs.ScanLemmas.{walk_of}
+use Rattle.vault_audit_rows.proofs.PairLemmas.{pair_walk_of}
+use Rattle.vault_audit_rows.proofs.BesideLemmas.{beside_of}
+use Rattle.vault_audit_rows.specs.Health.{Asks}
 
 abbrev pub buckets_walk : List ℕ
 buckets_walk = select_text buckets (codes " ORDER BY name")

@@ -8,8 +8,8 @@ use Rattle.sqlite_schema.specs.declared.schema.Schema.{Schema}
 use Rattle.sqlite_keyed.proofs.SortLemmas.{sorted_unique}
 use Rattle.sqlite.specs.Effect.{Database}
 use Rattle.sqlite.specs.State.{State, Shown, IsUnchanged}
-use Rattle.vault_audit_walk.specs.Pass.{Takes, Refuses, AllFit, after}
-use Rattle.vault_audit_walk.specs.Walk.{Goes, Walked}
+use Rattle.vault_audit_rows.specs.Pass.{Takes, Refuses, AllFit, after}
+use Rattle.vault_audit_rows.specs.Walk.{Goes, Walked}
 
 module _ {P X : Type 0} (row_of : X → Row) (Fits : P → X → Type 0) (next : P → X → P) (same_row : (x y : X) → row_of x ≡ row_of y → x ≡ y) where
   ends_as : (p r : P) (rows : List Row) (xs : List X) → Goes (Takes row_of Fits next) p rows r → rows ≡ map row_of xs → r ≡ after row_of Fits next p xs

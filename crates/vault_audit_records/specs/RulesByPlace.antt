@@ -12,8 +12,8 @@ use Rattle.vault_audit_model.specs.declared.schema.SchemaVersion.{SchemaVersion}
 use Rattle.vault_audit_model.specs.Limits.{IsBucketRow, IsRuleRow}
 use Rattle.vault_audit_model.specs.Rows.{bucket_row, rule_row, bucket_columns, rule_columns_as}
 use Rattle.vault_audit_model.specs.Tables.{buckets_tree, rules_tree}
-use Rattle.vault_audit_walk.specs.Beside.{Decides}
-use Rattle.vault_audit_walk.specs.Pass.{AllFit, after}
+use Rattle.vault_audit_rows.specs.Beside.{Decides}
+use Rattle.vault_audit_rows.specs.Pass.{AllFit, after}
 pub use Rattle.vault_audit_model.specs.Relations.{IsAfter}
 
 -- ---- buckets

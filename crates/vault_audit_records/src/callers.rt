@@ -6,7 +6,7 @@ ghost use Rattle.vault_core_model.specs.Vault.{Vault};
 ghost use Rattle.vault_audit_model.specs.Spells.{AreSoundAs};
 ghost use Rattle.vault_audit_model.specs.Relations.{IsAfter};
 ghost use Rattle.vault_audit_records.specs.ByName.{DecidesCallers};
-ghost use Rattle.vault_audit_walk.specs.Health.{IsHealthy, IsMemory, IsOfSchemaVersion, OnlyLooks};
+ghost use Rattle.vault_audit_rows.specs.Health.{IsHealthy, IsMemory, IsOfSchemaVersion, OnlyLooks};
 
 use crate::row_check::refused;
 use sqlite::{Alter, Connection, Error, Row};
@@ -14,7 +14,7 @@ use std::marker::Model;
 use vault_audit_model::schema::SchemaVersion;
 use vault_audit_rows::records::read_caller;
 use vault_audit_schema::{callers_columns, select_text};
-use vault_audit_walk::walk::{Pass, walk};
+use vault_audit_rows::walk::{Pass, walk};
 use vault_base::name::CallerName;
 
 /// The check of callers by rising name.
@@ -42,7 +42,7 @@ fn is_after(before: &Option<CallerName>, name: &CallerName) -> bool
 }
 
 impl Pass for CallerPass {
-    ghost use Rattle.vault_audit_walk.specs.Pass.{Takes, Refuses};
+    ghost use Rattle.vault_audit_rows.specs.Pass.{Takes, Refuses};
     ghost use Rattle.vault_audit_model.specs.Rows.{caller_row};
     ghost use Rattle.vault_audit_records.specs.ByName.{IsNextCaller, with_caller};
 

@@ -1,3 +1,11 @@
 pub mod ColumnLemmas
 pub mod LimitLemmas
 pub mod RowLemmas
+pub mod WalkLemmas
+pub mod ScanLemmas
+pub mod PassLemmas
+pub mod RecordLemmas
+pub mod PairLemmas
+pub mod CauseLemmas
+pub mod BesideLemmas
+pub mod JoinLemmas

@@ -16,12 +16,12 @@ use Rattle.vault_audit_model.specs.Relations.{AreBuckets, AreEntries, AreNumbere
 use Rattle.vault_audit_model.specs.Rows.{tenure_row, tenure_columns}
 use Rattle.vault_audit_model.specs.Spells.{entries_in, tenures_in}
 use Rattle.vault_audit_model.specs.Tables.{schema_of, tenures_tree}
-use Rattle.vault_audit_walk.specs.Pass.{Takes, Refuses}
-use Rattle.vault_audit_walk.specs.Records.{Checked}
-use Rattle.vault_audit_walk.specs.Walk.{Walked}
-use Rattle.vault_audit_walk.proofs.PairLemmas.{pair_cmp, pair_cmp_total}
-use Rattle.vault_audit_walk.proofs.PassLemmas.{pass_yes, pass_no}
-use Rattle.vault_audit_walk.specs.Beside.{ReportsAbsence}
+use Rattle.vault_audit_rows.specs.Pass.{Takes, Refuses}
+use Rattle.vault_audit_rows.specs.Records.{Checked}
+use Rattle.vault_audit_rows.specs.Walk.{Walked}
+use Rattle.vault_audit_rows.proofs.PairLemmas.{pair_cmp, pair_cmp_total}
+use Rattle.vault_audit_rows.proofs.PassLemmas.{pass_yes, pass_no}
+use Rattle.vault_audit_rows.specs.Beside.{ReportsAbsence}
 use Rattle.vault_audit_tenures.specs.Decided.{DecidesTenuresBy}
 use Rattle.vault_audit_tenures.specs.declared.owned_tenures.OwnedTenure.{OwnedTenure}
 use Rattle.vault_audit_tenures.specs.declared.chain.TenurePass.{TenurePass}

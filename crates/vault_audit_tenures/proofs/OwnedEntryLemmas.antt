@@ -32,10 +32,10 @@ use Rattle.vault_audit_model.specs.Spells.{bucket_of}
 use Rattle.vault_audit_model.specs.Tables.{schema_of, buckets_tree, entries_tree}
 use Rattle.vault_audit_model.specs.Values.{text_or_null}
 use Rattle.vault_audit_model.proofs.ValueLemmas.{agrees, same_text}
-use Rattle.vault_audit_walk.specs.Records.{ReportsOne}
-use Rattle.vault_audit_walk.proofs.ScanLemmas.{first_cmp}
+use Rattle.vault_audit_rows.specs.Records.{ReportsOne}
+use Rattle.vault_audit_rows.proofs.ScanLemmas.{first_cmp}
 use Rattle.vault_audit_records.proofs.EntryNumberLemmas.{rising}
-use Rattle.vault_audit_walk.proofs.JoinLemmas.{joined_of, shown_joined, shown_by_join, joined_with, IsOrderOf}
+use Rattle.vault_audit_rows.proofs.JoinLemmas.{joined_of, shown_joined, shown_by_join, joined_with, IsOrderOf}
 use Rattle.vault_audit_tenures.specs.OwnedEntries.{owned_row, owned_in, IsOwned}
 use Rattle.vault_audit_tenures.proofs.SumTextLemmas.{owned_text, owned_shown, owned_order, owned_is, owned_plain}
 

@@ -13,9 +13,9 @@ use Rattle.vault_audit_model.specs.Rows.{entry_row, entry_columns, tenure_row, t
 use Rattle.vault_audit_model.specs.Tables.{schema_of, entries_tree, tenures_tree}
 use Rattle.vault_audit_model.specs.Values.{number}
 use Rattle.vault_audit_model.proofs.ValueLemmas.{agrees}
-use Rattle.vault_audit_walk.specs.Records.{Checked}
-use Rattle.vault_audit_walk.specs.Beside.{ReportsAbsence}
-use Rattle.vault_audit_walk.proofs.BesideLemmas.{agree_numbers, beside_row, beside_yes, beside_no, met_yes, met_no, met_as, of_records, of_stored}
+use Rattle.vault_audit_rows.specs.Records.{Checked}
+use Rattle.vault_audit_rows.specs.Beside.{ReportsAbsence}
+use Rattle.vault_audit_rows.proofs.BesideLemmas.{agree_numbers, beside_row, beside_yes, beside_no, met_yes, met_no, met_as, of_records, of_stored}
 use Rattle.vault_audit_tenures.specs.Presence.{AreRowsOf, HasSome, DecidesPresence}
 use Rattle.vault_audit_tenures.proofs.TenureTextLemmas.{tenures_beside, tenures_beside_is}
 use Rattle.vault_audit_model.proofs.ListLemmas.{all_as}

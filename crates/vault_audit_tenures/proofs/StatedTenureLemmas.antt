@@ -30,10 +30,10 @@ use Rattle.vault_audit_model.specs.Spells.{entries_in, tenure_at, tenures_in}
 use Rattle.vault_audit_model.specs.Tables.{schema_of, tenures_tree, entries_tree}
 use Rattle.vault_audit_model.specs.Values.{number}
 use Rattle.vault_audit_model.proofs.ValueLemmas.{int_less}
-use Rattle.vault_audit_walk.specs.Records.{ReportsOne}
+use Rattle.vault_audit_rows.specs.Records.{ReportsOne}
 use Rattle.vault_audit_entries.proofs.BesideLemmas.{is_of, row_beside, beside, beside_is, beside_number}
 use Rattle.vault_audit_entries.proofs.ContentLemmas.{one_each}
-use Rattle.vault_audit_walk.proofs.JoinLemmas.{IsOrderOf}
+use Rattle.vault_audit_rows.proofs.JoinLemmas.{IsOrderOf}
 use Rattle.vault_audit_entries.proofs.JoinLemmas.{beside_of, shown_beside, join_rows, joined}
 use Rattle.vault_audit_tenures.specs.declared.sums.tenures.StatedTenure.{StatedTenure}
 use Rattle.vault_audit_tenures.specs.TenureSums.{stated_row, IsStated}

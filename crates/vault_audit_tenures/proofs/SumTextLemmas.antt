@@ -17,9 +17,9 @@ use Rattle.vault_audit_model.specs.Tables.{schema_of, departments, departments_t
 use Rattle.vault_audit_entries.proofs.JoinLemmas.{beside_of}
 use Rattle.vault_audit_schema.specs.Selects.{departments_select, department_terms}
 use Rattle.vault_audit_schema.specs.Texts.{names_of}
-use Rattle.vault_audit_walk.proofs.JoinLemmas.{joined_of}
-use Rattle.vault_audit_walk.proofs.ScanLemmas.{shows}
-use Rattle.vault_audit_walk.specs.Health.{Asks}
+use Rattle.vault_audit_rows.proofs.JoinLemmas.{joined_of}
+use Rattle.vault_audit_rows.proofs.ScanLemmas.{shows}
+use Rattle.vault_audit_rows.specs.Health.{Asks}
 
 pub departments_scan : (n : SchemaVersion) → Selects (schema_of n) (departments_select n []) (table_scan departments_tree [] (department_terms n))
 unfolding understood everything

@@ -23,8 +23,8 @@ use Rattle.sqlite.specs.State.{State, Shown}
 use Rattle.sqlite.proofs.Callers.{IsPlain, command_of, reads_as}
 use Rattle.vault_audit_model.specs.Tables.{tenures_tree, entries_tree, buckets_tree}
 use Rattle.vault_audit_model.proofs.ValueLemmas.{agrees}
-use Rattle.vault_audit_walk.proofs.JoinLemmas.{with_true, singles}
-use Rattle.vault_audit_walk.proofs.PairLemmas.{pair_cmp}
+use Rattle.vault_audit_rows.proofs.JoinLemmas.{with_true, singles}
+use Rattle.vault_audit_rows.proofs.PairLemmas.{pair_cmp}
 use Rattle.vault_audit_tenures.specs.Chain.{beside, shown_beside, shown_in}
 
 abbrev of_entry : List Term

@@ -6,7 +6,7 @@ use Rattle.sqlite_value.proofs.OrderLemmas.{value_cmp-Int}
 use Rattle.sqlite_trees.specs.Tree.{IsAscending}
 use Rattle.vault_audit_model.proofs.SameRows.{cell, number_same, number_or_null_same, text_same, text_or_null_same}
 use Rattle.vault_audit_model.proofs.ValueLemmas.{int_less}
-use Rattle.vault_audit_walk.proofs.PairLemmas.{pair_cmp}
+use Rattle.vault_audit_rows.proofs.PairLemmas.{pair_cmp}
 use Rattle.vault_audit_entries.proofs.SettingRowLemmas.{int_same}
 use Rattle.vault_audit_tenures.specs.declared.owned_tenures.OwnedTenure.{OwnedTenure}
 use Rattle.vault_audit_tenures.specs.declared.chain.TenurePass.{TenurePass}

@@ -16,10 +16,10 @@ use Rattle.vault_audit_model.specs.declared.schema.SchemaVersion.TheVariants.{Th
 use Rattle.vault_audit_model.specs.Relations.{AreEntries, AreTenuresOf}
 use Rattle.vault_audit_model.specs.Spells.{entries_in}
 use Rattle.vault_audit_model.specs.Tables.{schema_of}
-use Rattle.vault_audit_walk.specs.Records.{ReportsOne}
-use Rattle.vault_audit_walk.specs.Walk.{Goes, Walked}
-use Rattle.vault_audit_walk.proofs.RecordLemmas.{between, front as front_of}
-use Rattle.vault_audit_walk.proofs.ScanLemmas.{goes_on_to}
+use Rattle.vault_audit_rows.specs.Records.{ReportsOne}
+use Rattle.vault_audit_rows.specs.Walk.{Goes, Walked}
+use Rattle.vault_audit_rows.proofs.RecordLemmas.{between, front as front_of}
+use Rattle.vault_audit_rows.proofs.ScanLemmas.{goes_on_to}
 use Rattle.vault_audit_tenures.specs.declared.sums.tenures.Pending.{Pending}
 use Rattle.vault_audit_tenures.specs.declared.sums.tenures.TenurePass.{TenurePass}
 use Rattle.vault_audit_tenures.specs.declared.sums.tenures.StatedTenure.{StatedTenure}

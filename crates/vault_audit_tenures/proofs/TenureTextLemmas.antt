@@ -8,9 +8,9 @@ use Rattle.sqlite_sql.specs.Term.{col}
 use Rattle.vault_audit_model.specs.declared.schema.SchemaVersion.TheVariants.{Third}
 use Rattle.vault_audit_model.specs.Queries.{Selects}
 use Rattle.vault_audit_model.specs.Tables.{schema_of, entries_tree, tenures_tree}
-use Rattle.vault_audit_walk.proofs.BesideLemmas.{beside_of}
+use Rattle.vault_audit_rows.proofs.BesideLemmas.{beside_of}
 use Rattle.vault_audit_tenures.proofs.TenureJoinLemmas.{chain_query}
-use Rattle.vault_audit_walk.specs.Health.{Asks}
+use Rattle.vault_audit_rows.specs.Health.{Asks}
 
 abbrev pub chain_text : List ℕ
 chain_text = codes "SELECT t.id, t.n, t.dept, t.moment, e.admitted, e.removed, b.dept FROM tenures AS t LEFT JOIN entries AS e ON e.id = t.id LEFT JOIN buckets AS b ON b.name = e.bucket ORDER BY t.id, t.n"

@@ -27,10 +27,10 @@ use Rattle.vault_audit_model.specs.Relations.{AreBuckets, AreEntries, AreNumbere
 use Rattle.vault_audit_model.specs.Spells.{entries_in}
 use Rattle.vault_audit_model.specs.Tables.{schema_of}
 use Rattle.vault_audit_model.specs.Tenures.{HasFirstTenures, IsUnmoved, first_tenures}
-use Rattle.vault_audit_walk.specs.Records.{ReportsOne}
-use Rattle.vault_audit_walk.specs.Walk.{Goes, Walked}
-use Rattle.vault_audit_walk.proofs.RecordLemmas.{between, front}
-use Rattle.vault_audit_walk.proofs.ScanLemmas.{first_cmp, first_cmp_total, goes_on_to}
+use Rattle.vault_audit_rows.specs.Records.{ReportsOne}
+use Rattle.vault_audit_rows.specs.Walk.{Goes, Walked}
+use Rattle.vault_audit_rows.proofs.RecordLemmas.{between, front}
+use Rattle.vault_audit_rows.proofs.ScanLemmas.{first_cmp, first_cmp_total, goes_on_to}
 use Rattle.vault_audit_tenures.specs.declared.sums.owned_entries.OwnedEntry.{OwnedEntry}
 use Rattle.vault_audit_tenures.specs.declared.sums.versions.SumPass.{SumPass}
 use Rattle.vault_audit_tenures.specs.OwnedEntries.{owned_row, owned_in, IsOwned}

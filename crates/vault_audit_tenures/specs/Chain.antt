@@ -11,7 +11,7 @@ use Rattle.sqlite_sql.specs.Query.{or_nulls}
 use Rattle.sqlite.specs.Effect.{Database}
 use Rattle.vault_core_model.specs.declared.records.Tenure.{Tenure}
 use Rattle.vault_audit_model.specs.Tables.{tenures_tree, entries_tree, buckets_tree}
-use Rattle.vault_audit_walk.specs.Pass.{AllFit, after}
+use Rattle.vault_audit_rows.specs.Pass.{AllFit, after}
 use Rattle.vault_audit_tenures.specs.declared.owned_tenures.OwnedTenure.{OwnedTenure}
 use Rattle.vault_audit_tenures.specs.declared.chain.TenurePass.{TenurePass}
 use Rattle.vault_audit_tenures.specs.OwnedTenures.{owned_row, IsOwned}

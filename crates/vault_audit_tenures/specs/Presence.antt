@@ -7,7 +7,7 @@ use Rattle.vault_audit_model.specs.declared.rows.TenureRow.{TenureRow}
 use Rattle.vault_audit_model.specs.Relations.{AreEntries}
 use Rattle.vault_audit_model.specs.Rows.{tenure_row, tenure_columns}
 use Rattle.vault_audit_model.specs.Tables.{tenures_tree}
-use Rattle.vault_audit_walk.specs.Beside.{Decides}
+use Rattle.vault_audit_rows.specs.Beside.{Decides}
 
 -- the rows of tenures are these, in any order
 abbrev pub AreRowsOf : Database → List TenureRow → Type 0

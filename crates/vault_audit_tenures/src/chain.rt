@@ -4,12 +4,12 @@ ghost use Rattle.sqlite.specs.State.{HasCleanDisk};
 ghost use Rattle.sqlite.specs.Held.{state};
 ghost use Rattle.vault_audit_model.specs.declared.schema.SchemaVersion.TheVariants.{Third};
 ghost use Rattle.vault_audit_tenures.specs.Chain.{end_at, IsTimely, IsFirst, IsNext, IsLast, Follows, DecidesChains};
-ghost use Rattle.vault_audit_walk.specs.Health.{IsHealthy, IsMemory, IsOfSchemaVersion, OnlyLooks};
+ghost use Rattle.vault_audit_rows.specs.Health.{IsHealthy, IsMemory, IsOfSchemaVersion, OnlyLooks};
 
 use crate::owned_tenures::{OwnedTenure, read_owned};
 use sqlite::{Alter, Connection, Error, ErrorCode, Row};
 use vault_audit_rows::misread::Misread;
-use vault_audit_walk::walk::{Pass, walk};
+use vault_audit_rows::walk::{Pass, walk};
 use vault_base::moment::Moment;
 use vault_core_model::records::Tenure;
 
@@ -95,7 +95,7 @@ fn is_ended(tenure: &Option<OwnedTenure>) -> bool
 }
 
 impl Pass for TenurePass {
-    ghost use Rattle.vault_audit_walk.specs.Pass.{Takes, Refuses};
+    ghost use Rattle.vault_audit_rows.specs.Pass.{Takes, Refuses};
     ghost use Rattle.vault_audit_tenures.specs.Chain.{ComesNext, with_tenure};
     ghost use Rattle.vault_audit_tenures.specs.OwnedTenures.{owned_row};
 

@@ -4,11 +4,11 @@ ghost use Rattle.sqlite.specs.State.{HasCleanDisk};
 ghost use Rattle.sqlite.specs.Held.{state};
 ghost use Rattle.vault_audit_model.specs.declared.schema.SchemaVersion.TheVariants.{Third};
 ghost use Rattle.vault_audit_tenures.specs.Presence.{DecidesPresence};
-ghost use Rattle.vault_audit_walk.specs.Health.{IsHealthy, IsMemory, IsOfSchemaVersion, OnlyLooks};
+ghost use Rattle.vault_audit_rows.specs.Health.{IsHealthy, IsMemory, IsOfSchemaVersion, OnlyLooks};
 
 use sqlite::{Alter, Connection, Error};
-use vault_audit_walk::absence::AbsenceCheck;
-use vault_audit_walk::check::check_rows;
+use vault_audit_rows::absence::AbsenceCheck;
+use vault_audit_rows::check::check_rows;
 
 /// Whether each version has a tenure, and no marker has one.
 pub(crate) fn have_tenures<S: Alter>(conn: &mut Connection<S>) -> Result<bool, Error>

@@ -4,7 +4,7 @@ ghost use Rattle.sqlite.specs.State.{HasCleanDisk};
 ghost use Rattle.sqlite.specs.Held.{state};
 ghost use Rattle.vault_audit_model.specs.declared.schema.SchemaVersion.TheVariants.{Third};
 ghost use Rattle.vault_audit_tenures.specs.Decided.{DamagedUnless, DecidesTenuresBy, DecidesTenuresOf};
-ghost use Rattle.vault_audit_walk.specs.Health.{IsHealthy, IsMemory, IsOfSchemaVersion, OnlyLooks};
+ghost use Rattle.vault_audit_rows.specs.Health.{IsHealthy, IsMemory, IsOfSchemaVersion, OnlyLooks};
 
 use crate::chain::are_chains;
 use crate::present::have_tenures;

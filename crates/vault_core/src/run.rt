@@ -3,11 +3,11 @@ ghost use Rattle.std.specs.Prelude.{◌≡◌, ◌≤◌, ◌+◌, ℕ, List, If
 ghost use Rattle.vault_core_model.specs.LeavesMany.{LeavesByAll};
 ghost use Rattle.vault_core_model.specs.Step.{IsRun, Reached};
 ghost use Rattle.vault_core.specs.StepByStep.{StepByStep};
-ghost use Rattle.vault_core_worm_laws.specs.Once.{Extends};
-ghost use Rattle.vault_core_worm_laws.specs.Removals.{RemovalsWerePermitted};
-ghost use Rattle.vault_core_worm_laws.specs.Repeated.{BeginRun, CompleteRun};
-ghost use Rattle.vault_core_worm_laws.specs.Stored.{EachStandsOnce, stored_bytes, all_stored_bytes};
-ghost use Rattle.vault_core_worm_laws.specs.Worm.{Worm};
+ghost use Rattle.vault_core_run_laws.specs.Once.{Extends};
+ghost use Rattle.vault_core_run_laws.specs.Removals.{RemovalsWerePermitted};
+ghost use Rattle.vault_core_run_laws.specs.Repeated.{BeginRun, CompleteRun};
+ghost use Rattle.vault_core_run_laws.specs.Stored.{EachStandsOnce, stored_bytes, all_stored_bytes};
+ghost use Rattle.vault_core_run_laws.specs.Worm.{Worm};
 ghost use Rattle.vault_core_model.specs.Totals.{admitted_bytes, received_bytes, held_bytes, removed_bytes, handed_bytes, byte_days_at, over_departments, vault_byte_days};
 
 use crate::step::step;

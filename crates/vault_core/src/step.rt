@@ -6,10 +6,10 @@ ghost use Rattle.vault_core_model.specs.declared.reply.Answer.{Answer};
 ghost use Rattle.vault_core_model.specs.Halts.{AnswersAs, is_device, is_device_reply};
 ghost use Rattle.vault_core_model.specs.Step.{Answers, IsStep, Reached};
 ghost use Rattle.vault_core_model.specs.Vault.{Vault};
-ghost use Rattle.vault_core_worm_laws.specs.Once.{Extends};
-ghost use Rattle.vault_core_worm_laws.specs.Removals.{RemovalsWerePermitted};
-ghost use Rattle.vault_core_worm_laws.specs.Repeated.{BeginRun, CompleteRun, one_command};
-ghost use Rattle.vault_core_worm_laws.specs.Worm.{Worm};
+ghost use Rattle.vault_core_run_laws.specs.Once.{Extends};
+ghost use Rattle.vault_core_run_laws.specs.Removals.{RemovalsWerePermitted};
+ghost use Rattle.vault_core_run_laws.specs.Repeated.{BeginRun, CompleteRun, one_command};
+ghost use Rattle.vault_core_run_laws.specs.Worm.{Worm};
 
 use std::alloc::Global;
 use vault_base::moment::Moment;

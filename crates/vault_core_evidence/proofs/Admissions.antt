@@ -78,9 +78,9 @@ use Rattle.vault_core_model.specs.Sound.{HasPeriod, Sound}
 use Rattle.vault_core_model.specs.Step.{Answers, IsRun, IsStep, Reached}
 use Rattle.vault_core_model.specs.Vault.{Vault, caller_of, config_in, config_of, has_department, next_id, note_of, opening, rules_of}
 use Rattle.vault_core_laws.proofs.Lists.{All-push, All-weaker}
-use Rattle.vault_core_worm_laws.specs.Callers.{KeepsCallers}
-use Rattle.vault_core_worm_laws.proofs.Checked.{bind_if, check-is, found-is, IsAsking, asking-is}
-use Rattle.vault_core_worm_laws.proofs.Reached.{run-callers, run-Sound, Sound-opening}
+use Rattle.vault_core_run_laws.specs.Callers.{KeepsCallers}
+use Rattle.vault_core_run_laws.proofs.Checked.{bind_if, check-is, found-is, IsAsking, asking-is}
+use Rattle.vault_core_run_laws.proofs.Reached.{run-callers, run-Sound, Sound-opening}
 use Rattle.vault_core_evidence.specs.Lawful.{department_of, EndsAfter, IsOfDepartment}
 use Rattle.vault_core_evidence.proofs.DefaultEnds.{period_ends}
 

@@ -25,12 +25,12 @@ use Rattle.vault_core_model.specs.declared.records.Setting.{Setting}
 use Rattle.vault_core_model.specs.declared.records.Tenure.{Tenure}
 use Rattle.vault_core_model.specs.Checks.{is_own, permitted}
 use Rattle.vault_core_model.specs.Vault.{Vault, caller_of, last_lock}
-use Rattle.vault_core_worm_laws.specs.Bypass.{has_bypass, MayBypass}
-use Rattle.vault_core_worm_laws.specs.Entitled.{has_right, IsAdmitter, IsSetByRight, IsCausedByRight}
-use Rattle.vault_core_worm_laws.specs.Permits.{IsRetentionSetting, IsHoldSetting, IsPermittedSetting}
-use Rattle.vault_core_worm_laws.specs.Removals.{IsPermittedUnder}
-use Rattle.vault_core_worm_laws.proofs.EntryChanges.{Permitted, permit_under-is}
-use Rattle.vault_core_worm_laws.proofs.LockChanges.{Retained, retainable-is, is-keeps}
+use Rattle.vault_core_run_laws.specs.Bypass.{has_bypass, MayBypass}
+use Rattle.vault_core_run_laws.specs.Entitled.{has_right, IsAdmitter, IsSetByRight, IsCausedByRight}
+use Rattle.vault_core_run_laws.specs.Permits.{IsRetentionSetting, IsHoldSetting, IsPermittedSetting}
+use Rattle.vault_core_run_laws.specs.Removals.{IsPermittedUnder}
+use Rattle.vault_core_run_laws.proofs.EntryChanges.{Permitted, permit_under-is}
+use Rattle.vault_core_run_laws.proofs.LockChanges.{Retained, retainable-is, is-keeps}
 use Rattle.vault_core_evidence.specs.Departments.{Agree}
 use Rattle.vault_core_evidence.specs.Lawful.{EndsAfter, IsLawfulFirst, AreLawfulAfter, AreLawful, IsOfDepartment, department_of, last_at, IsLawfulEnd, IsLawful}
 use Rattle.vault_core_evidence.specs.declared.breach.Law.{Law}

@@ -21,9 +21,9 @@ use Rattle.vault_core_model.specs.Rights.{rights_number}
 use Rattle.vault_core_model.specs.Step.{Reached}
 use Rattle.vault_core_laws.proofs.Lists.{All-push, All-both, All-map, All-weaker}
 use Rattle.vault_core_laws.proofs.Newest.{finds_itself}
-use Rattle.vault_core_worm_laws.specs.Chains.{MayMake}
-use Rattle.vault_core_worm_laws.proofs.Kept.{by_own_id, held-found}
-use Rattle.vault_core_worm_laws.proofs.Reached.{IsRun-keeps, Sound-opening, run-callers}
+use Rattle.vault_core_run_laws.specs.Chains.{MayMake}
+use Rattle.vault_core_run_laws.proofs.Kept.{by_own_id, held-found}
+use Rattle.vault_core_run_laws.proofs.Reached.{IsRun-keeps, Sound-opening, run-callers}
 use Rattle.vault_core_evidence.specs.Departments.{WasOf, removed_at, Agree, AllAgree, DepartmentsAgree}
 use Rattle.vault_core_evidence.specs.Lawful.{has_registrar, is_registrar}
 

@@ -6,9 +6,9 @@ use Rattle.vault_core_model.specs.declared.records.Removal.{Removal}
 use Rattle.vault_core_model.specs.declared.records.Setting.{Setting}
 use Rattle.vault_core_model.specs.Vault.{Vault, last_lock}
 use Rattle.vault_core_laws.proofs.Lists.{All-weaker}
-use Rattle.vault_core_worm_laws.specs.Removals.{WasPermitted, RemovalsWerePermitted}
-use Rattle.vault_core_worm_laws.specs.Worm.{AreKept, HoldIsKept, IsWorm, Worm}
-use Rattle.vault_core_worm_laws.proofs.Settings.{AllBind, IsSafe, all_bind-push, safe-removed, kept-held}
+use Rattle.vault_core_run_laws.specs.Removals.{WasPermitted, RemovalsWerePermitted}
+use Rattle.vault_core_run_laws.specs.Worm.{AreKept, HoldIsKept, IsWorm, Worm}
+use Rattle.vault_core_run_laws.proofs.Settings.{AllBind, IsSafe, all_bind-push, safe-removed, kept-held}
 use Rattle.vault_core_evidence.specs.Lawful.{AreLawfulAfter, AreLawful, last_at, IsLawfulEnd, IsLawful, Lawful}
 
 was_permitted : (v : Vault) (h : History) (o : Option Removal) → IsLawfulEnd v (last_at h.entry.admitted h.settings) (last_lock h.settings) o → WasPermitted v (last_lock h.settings) o

@@ -28,15 +28,15 @@ use Rattle.vault_core_model.specs.Allowed.{HasFirst, IsHeldId, IsNextSetting}
 use Rattle.vault_core_model.specs.Step.{Reached}
 use Rattle.vault_core_laws.proofs.Lists.{All-push, All-weaker, All-both, All-map}
 use Rattle.vault_core_laws.proofs.Newest.{finds_itself}
-use Rattle.vault_core_worm_laws.specs.Bypass.{has_bypass, MayBypass}
-use Rattle.vault_core_worm_laws.specs.Callers.{KeepsCallers}
-use Rattle.vault_core_worm_laws.specs.Chains.{MayMake}
-use Rattle.vault_core_worm_laws.specs.Entitled.{has_right, HasRight, IsAdmitter, IsFirstBy, IsSetByRight, IsCausedByRight}
-use Rattle.vault_core_worm_laws.specs.Permits.{IsRetentionSetting, IsHoldSetting, IsPermittedSetting}
-use Rattle.vault_core_worm_laws.specs.Removals.{IsPermittedUnder}
-use Rattle.vault_core_worm_laws.proofs.Callers.{Callers-changed, keeps_itself}
-use Rattle.vault_core_worm_laws.proofs.Kept.{by_own_id, held-found, lock_of-found}
-use Rattle.vault_core_worm_laws.proofs.Reached.{IsRun-keeps, Sound-opening}
+use Rattle.vault_core_run_laws.specs.Bypass.{has_bypass, MayBypass}
+use Rattle.vault_core_run_laws.specs.Callers.{KeepsCallers}
+use Rattle.vault_core_run_laws.specs.Chains.{MayMake}
+use Rattle.vault_core_run_laws.specs.Entitled.{has_right, HasRight, IsAdmitter, IsFirstBy, IsSetByRight, IsCausedByRight}
+use Rattle.vault_core_run_laws.specs.Permits.{IsRetentionSetting, IsHoldSetting, IsPermittedSetting}
+use Rattle.vault_core_run_laws.specs.Removals.{IsPermittedUnder}
+use Rattle.vault_core_run_laws.proofs.Callers.{Callers-changed, keeps_itself}
+use Rattle.vault_core_run_laws.proofs.Kept.{by_own_id, held-found, lock_of-found}
+use Rattle.vault_core_run_laws.proofs.Reached.{IsRun-keeps, Sound-opening}
 use Rattle.vault_core_evidence.specs.Lawful.{IsLawfulNext, AreLawfulAfter, AreLawful, last_at, IsLawfulEnd, IsLawful, Lawful}
 use Rattle.vault_core_evidence.proofs.Admissions.{HasEnd, IsAdmittedSo, reached-admitted}
 

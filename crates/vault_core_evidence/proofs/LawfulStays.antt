@@ -13,10 +13,10 @@ use Rattle.vault_core_model.specs.Sound.{IsWhole, IsWholeAs, Sound}
 use Rattle.vault_core_model.specs.Step.{IsRun}
 use Rattle.vault_core_model.specs.Vault.{Vault}
 use Rattle.vault_core_laws.proofs.Lists.{All-both, All-map, All-weaker}
-use Rattle.vault_core_worm_laws.specs.Callers.{KeepsCallers}
-use Rattle.vault_core_worm_laws.specs.Chains.{MayMake}
-use Rattle.vault_core_worm_laws.proofs.Callers.{Callers-changed, keeps_itself}
-use Rattle.vault_core_worm_laws.proofs.Reached.{IsRun-keeps}
+use Rattle.vault_core_run_laws.specs.Callers.{KeepsCallers}
+use Rattle.vault_core_run_laws.specs.Chains.{MayMake}
+use Rattle.vault_core_run_laws.proofs.Callers.{Callers-changed, keeps_itself}
+use Rattle.vault_core_run_laws.proofs.Reached.{IsRun-keeps}
 use Rattle.vault_core_evidence.specs.Lawful.{AreLawful, IsLawful}
 use Rattle.vault_core_evidence.specs.Parts.{range}
 use Rattle.vault_core_evidence.proofs.Admissions.{HasEnd, IsAdmittedSo, on, one_moved, one_removed, one_set}

@@ -19,8 +19,8 @@ use Rattle.vault_core_model.specs.Sound.{AreTenures, FollowOn, HasTenures, HasTe
 use Rattle.vault_core_model.specs.Allowed.{HasFirstTenure}
 use Rattle.vault_core_model.specs.Step.{Reached}
 use Rattle.vault_core_laws.proofs.Lists.{All-push, All-both, All-map}
-use Rattle.vault_core_worm_laws.specs.Chains.{MayMake}
-use Rattle.vault_core_worm_laws.proofs.Reached.{IsRun-keeps, Sound-opening}
+use Rattle.vault_core_run_laws.specs.Chains.{MayMake}
+use Rattle.vault_core_run_laws.proofs.Reached.{IsRun-keeps, Sound-opening}
 use Rattle.vault_core_evidence.specs.declared.seen_moves.Move.{Move}
 use Rattle.vault_core_evidence.specs.Moves.{IsByMove, MovesAgree}
 

@@ -21,9 +21,9 @@ use Rattle.vault_core_model.specs.Sound.{AreTenures, HasTenures, HasTenuresAs, S
 use Rattle.vault_core_model.specs.Allowed.{Allows, HasFirst, HasFirstTenure, IsHeldId}
 use Rattle.vault_core_model.specs.Step.{IsRun}
 use Rattle.vault_core_laws.proofs.Newest.{finds_itself}
-use Rattle.vault_core_worm_laws.specs.Chains.{MayMake}
-use Rattle.vault_core_worm_laws.proofs.Kept.{by_own_id, held-found}
-use Rattle.vault_core_worm_laws.proofs.Reached.{IsRun-keeps}
+use Rattle.vault_core_run_laws.specs.Chains.{MayMake}
+use Rattle.vault_core_run_laws.proofs.Kept.{by_own_id, held-found}
+use Rattle.vault_core_run_laws.proofs.Reached.{IsRun-keeps}
 use Rattle.vault_core_evidence.specs.Events.{Admitted, Gone, Event, as_admitted, first_department, later_tenures, admission_of, setting_event, move_event, removal_events, is_before, events_before_of, events_in, events_before}
 
 -- ---- lists

@@ -21,8 +21,8 @@ use Rattle.vault_core_model.specs.declared.records.Setting.{Setting}
 use Rattle.vault_core_model.specs.declared.records.Tenure.{Tenure}
 use Rattle.vault_core_model.specs.Checks.{is_own}
 use Rattle.vault_core_model.specs.Vault.{Vault, caller_of, last_lock}
-use Rattle.vault_core_worm_laws.specs.Bypass.{has_bypass}
-use Rattle.vault_core_worm_laws.specs.Entitled.{has_right}
+use Rattle.vault_core_run_laws.specs.Bypass.{has_bypass}
+use Rattle.vault_core_run_laws.specs.Entitled.{has_right}
 use Rattle.vault_core_evidence.specs.declared.breach.Breach.{Breach}
 use Rattle.vault_core_evidence.specs.declared.breach.Law.{Law}
 use Rattle.vault_core_evidence.specs.declared.breach.Law.TheVariants as law

@@ -13,9 +13,9 @@ use Rattle.vault_core_model.specs.declared.records.Setting.{Setting}
 use Rattle.vault_core_model.specs.declared.records.Tenure.{Tenure}
 use Rattle.vault_core_model.specs.Rights.{rights_number}
 use Rattle.vault_core_model.specs.Vault.{Vault, caller_of, last_lock, registrar, registrar_name}
-use Rattle.vault_core_worm_laws.specs.Entitled.{IsAdmitter, IsFirstBy, IsSetByRight, IsCausedByRight}
-use Rattle.vault_core_worm_laws.specs.Permits.{IsPermittedSetting}
-use Rattle.vault_core_worm_laws.specs.Removals.{IsPermittedUnder}
+use Rattle.vault_core_run_laws.specs.Entitled.{IsAdmitter, IsFirstBy, IsSetByRight, IsCausedByRight}
+use Rattle.vault_core_run_laws.specs.Permits.{IsPermittedSetting}
+use Rattle.vault_core_run_laws.specs.Removals.{IsPermittedUnder}
 
 -- the department of the caller of that name, where the caller is there and has one
 abbrev pub department_of : Vault → List ℕ → Option (List ℕ)

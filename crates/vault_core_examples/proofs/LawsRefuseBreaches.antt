@@ -9,8 +9,8 @@ use Rattle.vault_core_model.specs.declared.records.Cause.TheVariants as cause
 use Rattle.vault_core_model.specs.declared.records.History.{History}
 use Rattle.vault_core_model.specs.declared.records.Setting.{Setting}
 use Rattle.vault_core_model.specs.Vault.{Vault}
-use Rattle.vault_core_worm_laws.specs.Removals.{RemovalsWerePermitted}
-use Rattle.vault_core_worm_laws.specs.Worm.{Worm}
+use Rattle.vault_core_run_laws.specs.Removals.{RemovalsWerePermitted}
+use Rattle.vault_core_run_laws.specs.Worm.{Worm}
 use Rattle.vault_core_examples.specs.Script.{ann, gov, docs, records, start, compliance, governance}
 
 -- ann's version, with these settings, removed at t

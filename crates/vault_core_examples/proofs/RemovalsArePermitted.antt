@@ -10,8 +10,8 @@ use Rattle.vault_core_model.specs.declared.records.History.{History}
 use Rattle.vault_core_model.specs.declared.reply.Answer.TheVariants as answer
 use Rattle.vault_core_model.specs.declared.reply.Reply.TheVariants.{Done}
 use Rattle.vault_core_model.specs.Vault.{Vault, last_lock}
-use Rattle.vault_core_worm_laws.specs.Bypass.{MayBypass}
-use Rattle.vault_core_worm_laws.specs.Removals.{RemovalsWerePermitted}
+use Rattle.vault_core_run_laws.specs.Bypass.{MayBypass}
+use Rattle.vault_core_run_laws.specs.Removals.{RemovalsWerePermitted}
 use Rattle.vault_core_examples.specs.Outcome.{replies_to, vault_after}
 use Rattle.vault_core_examples.specs.Script.{by, ann, gov, start, compliance, governance, rule, put, delete_version, set_rules, run}
 

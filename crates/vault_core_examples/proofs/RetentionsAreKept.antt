@@ -6,7 +6,7 @@ use Rattle.vault_core_model.specs.declared.command.Timed.{Timed}
 use Rattle.vault_core_model.specs.declared.records.History.{History}
 use Rattle.vault_core_model.specs.declared.records.Setting.{Setting}
 use Rattle.vault_core_model.specs.Vault.{Vault}
-use Rattle.vault_core_worm_laws.specs.Worm.{IsLowered, Worm}
+use Rattle.vault_core_run_laws.specs.Worm.{IsLowered, Worm}
 use Rattle.vault_core_examples.specs.Outcome.{vault_after}
 use Rattle.vault_core_examples.specs.Script.{by, ann, gov, start, governance, put, delete_version, set_retention}
 

@@ -3,3 +3,14 @@ pub mod KeyRuns
 pub mod Noncurrent
 pub mod Repeats
 pub mod RunLaws
+pub mod Worm
+pub mod Removals
+pub mod Bypass
+pub mod Permits
+pub mod Entitled
+pub mod Chains
+pub mod Once
+pub mod Stored
+pub mod Callers
+pub mod Repeated
+pub mod SumBounds

@@ -13,8 +13,8 @@ use Rattle.vault_core_model.specs.Reads.{entry_of, removed_entries}
 use Rattle.vault_core_model.specs.Sound.{AreIdsFrom, Sound}
 use Rattle.vault_core_model.specs.Step.{IsRun}
 use Rattle.vault_core_model.specs.Vault.{Vault, history_of}
-use Rattle.vault_core_worm_laws.specs.Once.{Continues, Extends}
-use Rattle.vault_core_worm_laws.proofs.Reached.{run-extends, run-Sound}
+use Rattle.vault_core_run_laws.specs.Once.{Continues, Extends}
+use Rattle.vault_core_run_laws.proofs.Reached.{run-extends, run-Sound}
 use Rattle.vault_core_evidence.proofs.ByIds.{get-drop}
 use Rattle.vault_core_evidence.proofs.PartLemmas.{part-and-rest, part-is-rest}
 use Rattle.vault_core_evidence.specs.Parts.{next_of, part}

@@ -14,7 +14,7 @@ use Rattle.vault_core_model.specs.declared.reply.Reply.{Reply}
 use Rattle.vault_core_model.specs.Sound.{AreIdsFrom, Sound}
 use Rattle.vault_core_model.specs.Step.{IsRun}
 use Rattle.vault_core_model.specs.Vault.{Vault}
-use Rattle.vault_core_worm_laws.proofs.Reached.{run-Sound}
+use Rattle.vault_core_run_laws.proofs.Reached.{run-Sound}
 use Rattle.vault_core_evidence.proofs.Past.{run-past}
 use Rattle.vault_core_evidence.specs.Events.{Event, admission_of, as_admitted, events_before, events_before_of, events_in, events_of, is_before, later_tenures, move_event, removal_events, setting_event}
 use Rattle.vault_files_events.specs.EventsText.{event_rows}

@@ -20,7 +20,7 @@ use Rattle.vault_audit_model.specs.Spells.{AreSoundAs, meta_of, department_in, b
 use Rattle.vault_audit_model.specs.Tables.{vault_schema}
 use Rattle.vault_audit_model.proofs.OutcomeLemmas.{on_ok_then}
 use Rattle.vault_audit_model.proofs.PlaceLemmas.{one_table}
-use Rattle.vault_audit_walk.specs.Walk.{Goes}
+use Rattle.vault_audit_rows.specs.Walk.{Goes}
 use Rattle.vault_store_create.specs.Create.{Moves}
 use Rattle.vault_store_model.specs.Edits.{with_row}
 use Rattle.vault_store_model.specs.Rows.{Rows, AreSameRows, rows_in, rows_of}

@@ -45,7 +45,7 @@ use Rattle.vault_audit_model.specs.Order.{place_of}
 use Rattle.vault_audit_model.specs.Tables.{vault_schema, meta, departments, callers, meta_tree, callers_tree}
 use Rattle.vault_audit_model.proofs.OutcomeLemmas.{same_value}
 use Rattle.vault_audit_model.proofs.ValueLemmas.{cast_null, cast_int}
-use Rattle.vault_audit_walk.specs.Health.{IsHealthy, IsMemory}
+use Rattle.vault_audit_rows.specs.Health.{IsHealthy, IsMemory}
 use Rattle.vault_store_create.specs.Create.{HasAll, HasMetaRow}
 use Rattle.vault_store_create.proofs.InsertLemmas.{task_on, others_empty}
 use Rattle.vault_store_create.proofs.RefusedLemmas.{SaysWith, refused}

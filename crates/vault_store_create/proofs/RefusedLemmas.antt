@@ -22,13 +22,13 @@ use Rattle.vault_audit_model.specs.Tables.{entries}
 use Rattle.vault_audit_model.proofs.CommandLemmas.{commanded_is, statement_is}
 use Rattle.vault_audit_schema.specs.Statements.{IsAlone, IsCreationOf, IsIndexCreation, schema_of_first}
 use Rattle.vault_audit_schema.proofs.TakenLemmas.{table_taken, table_short, index_taken, index_short}
-use Rattle.vault_audit_walk.specs.Health.{IsHealthy, IsMemory}
+use Rattle.vault_audit_rows.specs.Health.{IsHealthy, IsMemory}
 use Rattle.vault_store_create.specs.Create.{HasFirst}
 use Rattle.vault_store_create.proofs.TextLemmas.{uncounted}
 use Rattle.sqlite_value.specs.Order.{Row}
 use Rattle.sqlite_resolve.specs.declared.error.CompileError.{CompileError}
-use Rattle.vault_audit_walk.proofs.CauseLemmas.{by_size}
-pub use Rattle.vault_audit_walk.proofs.CauseLemmas.{by_store}
+use Rattle.vault_audit_rows.proofs.CauseLemmas.{by_size}
+pub use Rattle.vault_audit_rows.proofs.CauseLemmas.{by_store}
 
 -- ---- of the store
 

@@ -14,7 +14,7 @@ use Rattle.vault_audit_model.specs.SchemaVersions.{newest}
 use Rattle.vault_audit_model.specs.Order.{place_of}
 use Rattle.vault_audit_model.specs.Tables.{vault_schema}
 use Rattle.vault_audit_schema.specs.Selects.{table_as}
-use Rattle.vault_audit_walk.specs.Health.{IsHealthy, IsMemory}
+use Rattle.vault_audit_rows.specs.Health.{IsHealthy, IsMemory}
 use Rattle.vault_store_edits.specs.Inserts.{insert_of}
 use Rattle.vault_store_create.specs.Copied.{Refuses}
 use Rattle.vault_store_create.specs.Listings.{putting_of}

@@ -15,8 +15,8 @@ use Rattle.vault_audit_model.specs.Rows.{meta_row, meta_columns_as}
 use Rattle.vault_audit_model.specs.Spells.{AreSoundAs, meta_stated, meta_of}
 use Rattle.vault_audit_model.specs.Tables.{schema_of, meta_tree}
 use Rattle.vault_audit_model.specs.Values.{number}
-use Rattle.vault_audit_walk.proofs.RecordLemmas.{scanned}
-use Rattle.vault_audit_walk.proofs.ScanLemmas.{shows}
+use Rattle.vault_audit_rows.proofs.RecordLemmas.{scanned}
+use Rattle.vault_audit_rows.proofs.ScanLemmas.{shows}
 use Rattle.vault_store_model.proofs.ScanLemmas.{uncovered}
 use Rattle.vault_store_model.specs.Rows.{rows_of}
 use Rattle.vault_store_edits.specs.Trees.{tree_of}

@@ -25,10 +25,10 @@ use Rattle.vault_audit_model.specs.Spells.{AreSoundAs}
 use Rattle.vault_audit_model.specs.Tables.{schema_of, vault_schema}
 use Rattle.vault_audit_model.proofs.CommandLemmas.{meant}
 use Rattle.vault_audit_model.proofs.PlaceLemmas.{one_table}
-use Rattle.vault_audit_walk.proofs.RecordLemmas.{between, front}
-use Rattle.vault_audit_walk.proofs.ScanLemmas.{goes_on_to}
-use Rattle.vault_audit_walk.specs.Health.{IsMemory, Asks}
-use Rattle.vault_audit_walk.specs.Walk.{Goes}
+use Rattle.vault_audit_rows.proofs.RecordLemmas.{between, front}
+use Rattle.vault_audit_rows.proofs.ScanLemmas.{goes_on_to}
+use Rattle.vault_audit_rows.specs.Health.{IsMemory, Asks}
+use Rattle.vault_audit_rows.specs.Walk.{Goes}
 use Rattle.vault_store_model.specs.Rows.{AreSameRows, rows_in, rows_of}
 use Rattle.vault_store_model.specs.Edits.{with_rows}
 use Rattle.vault_store_create.specs.Copied.{PutsRow, HasFirstRows, Refuses, RefusesARow, IsRefusedFor, AsksFor, StopsAt, first_rows}

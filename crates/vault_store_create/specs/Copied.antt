@@ -17,8 +17,8 @@ use Rattle.vault_audit_model.specs.Order.{place_of}
 use Rattle.vault_audit_model.specs.Tables.{vault_schema}
 use Rattle.vault_audit_model.specs.Spells.{AreSoundAs}
 use Rattle.vault_audit_schema.specs.Selects.{table_as}
-use Rattle.vault_audit_walk.specs.Health.{IsHealthy, IsMemory, Asks}
-use Rattle.vault_audit_walk.specs.Walk.{Goes}
+use Rattle.vault_audit_rows.specs.Health.{IsHealthy, IsMemory, Asks}
+use Rattle.vault_audit_rows.specs.Walk.{Goes}
 use Rattle.vault_store_model.specs.Rows.{Rows, AreSameRows, rows_in, rows_of}
 use Rattle.vault_store_model.specs.Edits.{with_row, with_rows}
 use Rattle.vault_store_edits.specs.Inserts.{insert_of}

@@ -17,7 +17,7 @@ use Rattle.vault_audit_model.specs.Tables.{vault_schema, meta_tree}
 use Rattle.vault_audit_model.specs.Rows.{meta_row, meta_columns}
 use Rattle.vault_audit_model.specs.Spells.{meta_of, AreSound}
 use Rattle.vault_audit_schema.specs.Statements.{schema_of_first}
-use Rattle.vault_audit_walk.specs.Health.{IsHealthy, IsMemory}
+use Rattle.vault_audit_rows.specs.Health.{IsHealthy, IsMemory}
 use Rattle.vault_store_create.specs.Copied.{Steps}
 
 -- these tables and no others are there, and none has a row

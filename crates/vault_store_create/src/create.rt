@@ -6,7 +6,7 @@ ghost use Rattle.vault_core_model.specs.Vault.{opening};
 ghost use Rattle.vault_audit_model.specs.Spells.{AreSound};
 ghost use Rattle.vault_audit_model.specs.Tables.{no_schema};
 ghost use Rattle.vault_store_create.specs.Create.{HasFirst, IsFilled, AreOpening, IsFault, without_tables, MovesInside, FailsForMemory};
-ghost use Rattle.vault_audit_walk.specs.Health.{IsHealthy};
+ghost use Rattle.vault_audit_rows.specs.Health.{IsHealthy};
 ghost use Rattle.vault_store_edits.specs.Inside.{CommitsNothing};
 
 use crate::first_rows::{put_meta, put_registrar};

@@ -30,7 +30,7 @@ use Rattle.vault_audit_model.specs.Values.{number}
 use Rattle.vault_audit_model.proofs.SameRows.{same_entry, same_content, same_note}
 use Rattle.vault_audit_laws.proofs.Members.{ascending_numbered}
 use Rattle.vault_audit_laws.proofs.Uniqueness.{ids_numbered}
-use Rattle.vault_audit_walk.specs.Records.{ReportsOne}
+use Rattle.vault_audit_rows.specs.Records.{ReportsOne}
 use Rattle.vault_store_reads.specs.Queries.{FindsRows}
 use Rattle.vault_store_reads.proofs.FindLemmas.{records_found, at_most_one, first_found, none_found, read_found}
 use Rattle.vault_store_reads.proofs.LimitLemmas.{all_found, first_limited}

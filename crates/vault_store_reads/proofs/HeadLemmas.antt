@@ -31,7 +31,7 @@ use Rattle.vault_audit_model.specs.Rows.{head_row, head_columns}
 use Rattle.vault_audit_model.specs.Spells.{head_in}
 use Rattle.vault_audit_model.specs.Tables.{heads_tree}
 use Rattle.vault_audit_model.proofs.SameRows.{number_same}
-use Rattle.vault_audit_walk.specs.Records.{ReportsOne}
+use Rattle.vault_audit_rows.specs.Records.{ReportsOne}
 use Rattle.vault_store_reads.specs.Queries.{FindsRows}
 use Rattle.vault_store_reads.proofs.FindLemmas.{records_found}
 use Rattle.vault_store_reads.proofs.EntryLemmas.{id_of, ascending_ids, same_if}

@@ -9,7 +9,7 @@ use Rattle.vault_audit_model.specs.Rows.{meta_row, meta_columns}
 use Rattle.vault_audit_model.specs.Spells.{meta_of}
 use Rattle.vault_audit_model.specs.Tables.{meta_tree}
 use Rattle.vault_audit_model.proofs.SameRows.{same_meta}
-use Rattle.vault_audit_walk.specs.Records.{ReportsOne}
+use Rattle.vault_audit_rows.specs.Records.{ReportsOne}
 use Rattle.vault_store_reads.specs.Queries.{FindsRows}
 use Rattle.vault_store_reads.proofs.FindLemmas.{records_found, read_found}
 use Rattle.vault_store_reads.proofs.LimitLemmas.{first_limited}

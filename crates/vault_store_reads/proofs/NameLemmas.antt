@@ -29,7 +29,7 @@ use Rattle.vault_audit_model.specs.Spells.{department_in, bucket_of}
 use Rattle.vault_audit_model.specs.Tables.{departments_tree, callers_tree, buckets_tree}
 use Rattle.vault_audit_model.proofs.SameRows.{number_same, same_caller, same_bucket}
 use Rattle.vault_store_model.proofs.DepartmentLemmas.{no_items}
-use Rattle.vault_audit_walk.specs.Records.{ReportsOne}
+use Rattle.vault_audit_rows.specs.Records.{ReportsOne}
 use Rattle.vault_store_reads.specs.Queries.{FindsRows}
 use Rattle.vault_store_reads.proofs.FindLemmas.{records_found, at_most_one, first_found, none_found, read_found}
 use Rattle.vault_store_reads.proofs.LimitLemmas.{all_found, first_limited}

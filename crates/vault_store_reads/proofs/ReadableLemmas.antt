@@ -20,7 +20,7 @@ use Rattle.vault_audit_model.specs.Limits.{IsBucket, IsBucketName, IsHistory, Is
 use Rattle.vault_audit_model.specs.Rows.{rule_row, setting_row, tenure_row}
 use Rattle.vault_audit_model.specs.Spells.{IsKept, rules_in, settings_in, tenures_in}
 use Rattle.vault_audit_model.proofs.ListLemmas.{all_as}
-use Rattle.vault_audit_walk.specs.Records.{ReportsOne}
+use Rattle.vault_audit_rows.specs.Records.{ReportsOne}
 use Rattle.vault_store_reads.specs.Readable.{AreReadable, IsHeldRow, IsLastSetting}
 use Rattle.vault_store_reads.specs.Shown.{entry_shown, held_row, id_row, ids_at, key_row, last_row, name_row, newest_but, without_lock}
 use Rattle.vault_store_reads.proofs.LimitLemmas.{all_given, all_last, all_part, all_reversed, all_taken}

@@ -18,11 +18,11 @@ use Rattle.vault_core_model.specs.Vault.{Vault}
 use Rattle.vault_audit_model.specs.Tables.{vault_schema}
 use Rattle.vault_audit_rows.specs.declared.misread.Misread.{Misread}
 use Rattle.vault_audit_rows.specs.declared.misread.Misread.TheVariants.{Wrong, Memory}
-use Rattle.vault_audit_walk.specs.Health.{IsHealthy, IsMemory}
+use Rattle.vault_audit_rows.specs.Health.{IsHealthy, IsMemory}
 use Rattle.vault_store_model.specs.Keeping.{Keeps}
 use Rattle.vault_store_reads.specs.Wants.{IsQueryWith, IsReadWith, IsAskedWith}
 use Rattle.vault_store_reads.proofs.QueryLemmas.{failed}
-use Rattle.vault_audit_walk.proofs.CauseLemmas.{by_store, by_query}
+use Rattle.vault_audit_rows.proofs.CauseLemmas.{by_store, by_query}
 
 by_command : (limit : Option ℕ) (db : Database) (k : Command) (params : Row) (e : Error) → limit ≡ None → db.schema ≡ vault_schema → IsQueryWith params k → ¬ RefusesToRead limit k db params e
 by_command limit db (Select p columns) params e unlimited has can refused =

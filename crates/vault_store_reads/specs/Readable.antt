@@ -7,7 +7,7 @@ use Rattle.vault_base.specs.Limits.{most_content, most_settings}
 use Rattle.vault_base.specs.Name.{is_version_id}
 use Rattle.vault_core_model.specs.declared.records.LastSetting.{LastSetting}
 use Rattle.vault_audit_model.specs.Limits.{IsRetention}
-use Rattle.vault_audit_walk.specs.Records.{ReportsOne}
+use Rattle.vault_audit_rows.specs.Records.{ReportsOne}
 use Rattle.vault_store_reads.specs.declared.rows_in_order.shown.HeldRow.{HeldRow}
 
 pub record IsLastSetting (s : LastSetting) : Type 0 where

@@ -14,7 +14,7 @@ use Rattle.sqlite.specs.Held.{Held, state}
 use Rattle.sqlite.specs.Listing.{understood}
 use Rattle.vault_core_model.specs.Vault.{Vault}
 use Rattle.vault_audit_model.specs.Tables.{vault_schema}
-use Rattle.vault_audit_walk.specs.Health.{IsHealthy, IsMemory}
+use Rattle.vault_audit_rows.specs.Health.{IsHealthy, IsMemory}
 use Rattle.vault_store_model.specs.Keeping.{Keeps}
 
 -- over the tables of a vault the command is a query whose parameters have the types of what they are compared with, and it sums nothing

@@ -20,8 +20,8 @@ use Rattle.vault_core_model.specs.Vault.{Vault}
 use Rattle.vault_audit_model.specs.Rows.{entry_row}
 use Rattle.vault_audit_model.specs.Tables.{vault_schema}
 use Rattle.vault_audit_model.proofs.SameRows.{same_entry}
-use Rattle.vault_audit_walk.specs.Walk.{Goes}
-use Rattle.vault_audit_walk.proofs.ScanLemmas.{goes_on_to}
+use Rattle.vault_audit_rows.specs.Walk.{Goes}
+use Rattle.vault_audit_rows.proofs.ScanLemmas.{goes_on_to}
 use Rattle.vault_store_model.specs.Keeping.{Keeps}
 use Rattle.vault_store_reads.proofs.QueryLemmas.{finds, keeps_after, unchanged_keeps, was_open}
 use Rattle.vault_store_walks.specs.Handed.{Takes, as_fault}

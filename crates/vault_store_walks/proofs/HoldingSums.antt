@@ -20,7 +20,7 @@ use Rattle.vault_core_model.specs.declared.records.Tenure.{Tenure}
 use Rattle.vault_audit_model.specs.Limits.{IsHistory, IsSizedAs}
 use Rattle.vault_audit_model.specs.Spells.{IsKept}
 use Rattle.vault_audit_model.proofs.ListLemmas.{all_as, all_both}
-use Rattle.vault_audit_walk.specs.Records.{ReportsOne}
+use Rattle.vault_audit_rows.specs.Records.{ReportsOne}
 use Rattle.vault_store_reads.specs.Queries.{FindsRows}
 use Rattle.vault_store_walks.specs.Sized.{IsSizedRow, sized_of, sized_row, sized_with, weight_of}
 use Rattle.vault_store_walks.specs.declared.held.SizedRow.{SizedRow}

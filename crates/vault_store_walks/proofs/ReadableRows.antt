@@ -15,7 +15,7 @@ use Rattle.vault_audit_model.specs.Relations.{AreTenuresInLimits}
 use Rattle.vault_audit_model.specs.Rows.{entry_row}
 use Rattle.vault_audit_model.specs.Spells.{IsKept}
 use Rattle.vault_audit_model.proofs.ListLemmas.{all_as, all_both}
-use Rattle.vault_audit_walk.specs.Records.{ReportsOne}
+use Rattle.vault_audit_rows.specs.Records.{ReportsOne}
 use Rattle.vault_store_reads.specs.Readable.{AreReadable}
 use Rattle.vault_store_reads.proofs.LimitLemmas.{at_seam}
 use Rattle.vault_store_reads.proofs.ReadableLemmas.{reported, small}

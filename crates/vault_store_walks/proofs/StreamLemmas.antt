@@ -15,7 +15,7 @@ use Rattle.vault_core_model.specs.Vault.{Vault}
 use Rattle.vault_audit_model.specs.Tables.{vault_schema}
 use Rattle.vault_audit_model.proofs.CommandLemmas.{commanded_is}
 use Rattle.vault_audit_model.specs.Queries.{Selects}
-use Rattle.vault_audit_walk.proofs.ScanLemmas.{still}
+use Rattle.vault_audit_rows.proofs.ScanLemmas.{still}
 use Rattle.vault_store_model.specs.Keeping.{Keeps}
 use Rattle.vault_store_reads.specs.Queries.{FindsRows}
 use Rattle.vault_store_reads.proofs.QueryLemmas.{finds, keeps_after, unchanged_keeps, was_open}

@@ -2,7 +2,7 @@
 ghost use Rattle.std.specs.Prelude.{◌≡◌, false, map, IfOk, IfErr};
 ghost use Rattle.sqlite.specs.State.{HasCleanDisk};
 ghost use Rattle.sqlite.specs.Held.{state};
-ghost use Rattle.vault_audit_walk.specs.Records.{AreRecords};
+ghost use Rattle.vault_audit_rows.specs.Records.{AreRecords};
 ghost use Rattle.vault_audit_model.specs.Tables.{entries_tree};
 ghost use Rattle.vault_audit_model.specs.Rows.{entry_row, entry_columns};
 ghost use Rattle.vault_core_model.specs.Vault.{Vault};
@@ -10,13 +10,13 @@ ghost use Rattle.vault_audit_model.specs.Spells.{AreSoundAs};
 ghost use Rattle.vault_audit_records.specs.Entries.{IsEntryBy};
 ghost use Rattle.vault_base.specs.declared.refusal.Table.TheVariants as table;
 ghost use Rattle.vault_audit_schema.specs.Places.{BeginTo};
-ghost use Rattle.vault_audit_walk.specs.Health.{IsHealthy, IsMemory, OnlyLooks};
+ghost use Rattle.vault_audit_rows.specs.Health.{IsHealthy, IsMemory, OnlyLooks};
 
 use sqlite::{Alter, Connection, Error};
 use vault_audit_model::schema::SchemaVersion;
 use vault_audit_records::entries::row::EntryCheck;
 use vault_audit_schema::{entries_columns, select_text};
-use vault_audit_walk::check::check_rows;
+use vault_audit_rows::check::check_rows;
 use vault_base::moment::Moment;
 
 /// Whether each row of `entries` holds an entry in its limits, none after the last moment and none

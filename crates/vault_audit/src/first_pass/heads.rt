@@ -7,7 +7,7 @@ ghost use Rattle.vault_core_model.specs.Vault.{Vault};
 ghost use Rattle.vault_audit_model.specs.Spells.{AreSoundAs};
 ghost use Rattle.vault_audit_schema.specs.Places.{BeginTo};
 ghost use Rattle.vault_audit.specs.InOrder.{AreRowsRight};
-ghost use Rattle.vault_audit_walk.specs.Health.{IsHealthy, IsMemory, OnlyLooks};
+ghost use Rattle.vault_audit_rows.specs.Health.{IsHealthy, IsMemory, OnlyLooks};
 
 use crate::first_pass::record::{Record, check_table};
 use sqlite::{Alter, Connection, Error, Row};

@@ -9,7 +9,7 @@ ghost use Rattle.vault_audit_schema.specs.Places.{BeginTo};
 ghost use Rattle.vault_audit_records.specs.Meta.{IsMetaOf};
 ghost use Rattle.vault_audit.specs.InOrder.{AreRowsRight, ReportedInOrder};
 ghost use Rattle.vault_audit.specs.Looks.{Differs};
-ghost use Rattle.vault_audit_walk.specs.Health.{IsHealthy, IsMemory, OnlyLooks};
+ghost use Rattle.vault_audit_rows.specs.Health.{IsHealthy, IsMemory, OnlyLooks};
 
 use crate::first_pass::buckets::check_buckets;
 use crate::first_pass::callers::check_callers;

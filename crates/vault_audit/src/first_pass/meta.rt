@@ -8,14 +8,14 @@ ghost use Rattle.vault_audit_records.specs.Meta.{IsMetaOf};
 ghost use Rattle.vault_base.specs.declared.refusal.Table.TheVariants as table;
 ghost use Rattle.vault_audit_schema.specs.Places.{BeginTo};
 ghost use Rattle.vault_audit_schema.specs.Selects.{meta_select};
-ghost use Rattle.vault_audit_walk.specs.Health.{IsHealthy, IsMemory, OnlyLooks};
+ghost use Rattle.vault_audit_rows.specs.Health.{IsHealthy, IsMemory, OnlyLooks};
 
 use sqlite::{Alter, Connection, Error};
 use vault_audit_model::rows::MetaRow;
 use vault_audit_model::schema::SchemaVersion;
 use vault_audit_records::meta::row::MetaPass;
 use vault_audit_schema::{earlier_select_text, meta_columns, select_text};
-use vault_audit_walk::walk::walk;
+use vault_audit_rows::walk::walk;
 
 /// The query for the rows of `meta`. What a schema version has no column for is 0.
 fn meta_query(schema_version: SchemaVersion) -> &'static str

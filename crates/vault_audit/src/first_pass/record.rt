@@ -5,15 +5,15 @@ ghost use Rattle.sqlite.specs.Held.{state};
 ghost use Rattle.vault_core_model.specs.Vault.{Vault};
 ghost use Rattle.vault_audit_model.specs.Spells.{AreSoundAs};
 ghost use Rattle.vault_audit_schema.specs.Places.{BeginTo};
-ghost use Rattle.vault_audit_walk.specs.Health.{IsHealthy, IsMemory, OnlyLooks};
-ghost use Rattle.vault_audit_walk.specs.Records.{AreRecords};
+ghost use Rattle.vault_audit_rows.specs.Health.{IsHealthy, IsMemory, OnlyLooks};
+ghost use Rattle.vault_audit_rows.specs.Records.{AreRecords};
 
 use sqlite::{Alter, Connection, Error, Row};
 use std::marker::PhantomData;
 use vault_audit_model::schema::SchemaVersion;
 use vault_audit_records::row_check::refused;
 use vault_audit_rows::misread::Misread;
-use vault_audit_walk::check::{Check, check_rows};
+use vault_audit_rows::check::{Check, check_rows};
 
 /// A record that is one row of a table, whatever the other rows are.
 pub trait Record: Sized + Drop {
@@ -28,7 +28,7 @@ pub trait Record: Sized + Drop {
     ghost use Rattle.vault_audit_model.specs.declared.schema.SchemaVersion.{SchemaVersion as SchemaVersions};
     ghost use Rattle.vault_audit_model.specs.Spells.{AreSoundAs};
     ghost use Rattle.vault_audit_schema.specs.Places.{BeginTo};
-    ghost use Rattle.vault_audit_walk.specs.Records.{AreRecords};
+    ghost use Rattle.vault_audit_rows.specs.Records.{AreRecords};
     ghost use Rattle.vault_audit.specs.ShowsAll.{ShowsAll};
 
     // The table, where its rows are kept, and which schema versions have it.
@@ -73,7 +73,7 @@ struct RecordCheck<R> {
 }
 
 impl<R: Record> Check for RecordCheck<R> {
-    ghost use Rattle.vault_audit_walk.specs.Records.{ReportsOne};
+    ghost use Rattle.vault_audit_rows.specs.Records.{ReportsOne};
 
     ghost takes = { λ _. ReportsOne R.as_row R.is_in_limits };
 

@@ -8,8 +8,8 @@ ghost use Rattle.vault_audit_model.specs.Limits.{IsTenureRow};
 ghost use Rattle.vault_audit_model.specs.Rows.{tenure_row};
 ghost use Rattle.vault_audit_model.specs.Spells.{AreSoundAs, tenure_rows_in};
 ghost use Rattle.vault_audit_schema.specs.Places.{BeginTo};
-ghost use Rattle.vault_audit_walk.specs.Health.{IsHealthy, IsMemory, OnlyLooks};
-ghost use Rattle.vault_audit_walk.specs.Records.{AreRecords};
+ghost use Rattle.vault_audit_rows.specs.Health.{IsHealthy, IsMemory, OnlyLooks};
+ghost use Rattle.vault_audit_rows.specs.Records.{AreRecords};
 
 use crate::first_pass::record::{Record, check_table};
 use sqlite::{Alter, Connection, Error, Row};

@@ -5,7 +5,7 @@ ghost use Rattle.sqlite.specs.Held.{state};
 ghost use Rattle.vault_core_model.specs.declared.records.Entry.{Entry};
 ghost use Rattle.vault_audit_model.specs.Relations.{AreEntries};
 ghost use Rattle.vault_audit.specs.Looks.{Reported, VersionsFound};
-ghost use Rattle.vault_audit_walk.specs.Health.{IsHealthy, IsMemory, IsOfSchemaVersion, OnlyLooks};
+ghost use Rattle.vault_audit_rows.specs.Health.{IsHealthy, IsMemory, IsOfSchemaVersion, OnlyLooks};
 
 use sqlite::{Alter, Connection, Error};
 use vault_audit_entries::contents::second_look::check_held_contents;

@@ -7,14 +7,14 @@ ghost use Rattle.vault_audit_model.specs.declared.rows.ContentRow.{ContentRow as
 ghost use Rattle.vault_audit_model.specs.Limits.{IsContentRow};
 ghost use Rattle.vault_audit_model.specs.Relations.{AreEntries};
 ghost use Rattle.vault_audit_entries.specs.Contents.{held_row, DecidesHeld};
-ghost use Rattle.vault_audit_walk.specs.Health.{IsHealthy, IsMemory, IsOfSchemaVersion, OnlyLooks};
+ghost use Rattle.vault_audit_rows.specs.Health.{IsHealthy, IsMemory, IsOfSchemaVersion, OnlyLooks};
 
 use sqlite::{Alter, Connection, Error, ErrorCode, Row};
 use vault_audit_model::rows::ContentRow;
 use vault_audit_model::schema::SchemaVersion;
 use vault_audit_rows::cell::{bytes, content, is_null, number, version_id};
 use vault_audit_rows::misread::Misread;
-use vault_audit_walk::walk::{Pass, walk};
+use vault_audit_rows::walk::{Pass, walk};
 use vault_base::limits::MOST_CONTENT;
 
 /// The check of bytes by rising id.
@@ -63,7 +63,7 @@ impl ContentPass {
 }
 
 impl Pass for ContentPass {
-    ghost use Rattle.vault_audit_walk.specs.Pass.{Takes, Refuses};
+    ghost use Rattle.vault_audit_rows.specs.Pass.{Takes, Refuses};
     ghost use Rattle.vault_audit_entries.specs.Contents.{held_row};
     ghost use Rattle.vault_audit_entries.specs.ContentPasses.{ComesLater, with_content};
 

@@ -10,7 +10,7 @@ ghost use Rattle.vault_audit_model.specs.Limits.{IsHeadRow};
 ghost use Rattle.vault_audit_model.specs.Spells.{AreSoundAs};
 ghost use Rattle.vault_audit_model.specs.Values.{number as value};
 ghost use Rattle.vault_audit_entries.specs.Heads.{headed_row, head_cmp, IsAfter, DecidesHeadRows};
-ghost use Rattle.vault_audit_walk.specs.Health.{IsHealthy, IsMemory, IsOfSchemaVersion, OnlyLooks};
+ghost use Rattle.vault_audit_rows.specs.Health.{IsHealthy, IsMemory, IsOfSchemaVersion, OnlyLooks};
 
 use sqlite::{Alter, Connection, Error, ErrorCode, Row};
 use std::cmp::Ordering;
@@ -19,7 +19,7 @@ use vault_audit_model::schema::SchemaVersion;
 use vault_audit_rows::cell::{is_null, number, text, version_id};
 use vault_audit_rows::misread::Misread;
 use vault_audit_rows::name::{bucket_name, object_key};
-use vault_audit_walk::walk::{Pass, walk};
+use vault_audit_rows::walk::{Pass, walk};
 use vault_core_model::records::Head;
 
 /// The check of heads by rising bucket and key.
@@ -94,7 +94,7 @@ fn is_after(last: &Option<HeadRow>, found: &HeadRow) -> bool
 }
 
 impl Pass for HeadPass {
-    ghost use Rattle.vault_audit_walk.specs.Pass.{Takes, Refuses};
+    ghost use Rattle.vault_audit_rows.specs.Pass.{Takes, Refuses};
     ghost use Rattle.vault_audit_entries.specs.Heads.{headed_row};
     ghost use Rattle.vault_audit_entries.specs.HeadPasses.{ComesAfter, with_head};
 

@@ -4,12 +4,12 @@ ghost use Rattle.std.specs.Prelude.{IfOk, IfErr};
 ghost use Rattle.sqlite.specs.State.{HasCleanDisk};
 ghost use Rattle.sqlite.specs.Held.{state};
 ghost use Rattle.vault_audit_entries.specs.HeadCounts.{DecidesCountRows};
-ghost use Rattle.vault_audit_walk.specs.Health.{IsHealthy, IsMemory, IsOfSchemaVersion, OnlyLooks};
+ghost use Rattle.vault_audit_rows.specs.Health.{IsHealthy, IsMemory, IsOfSchemaVersion, OnlyLooks};
 
 use sqlite::{Alter, Connection, Error, Row};
 use vault_audit_model::schema::SchemaVersion;
 use vault_audit_rows::cell::number;
-use vault_audit_walk::check::{Check, check_rows};
+use vault_audit_rows::check::{Check, check_rows};
 
 /// The check that a row shows one number twice.
 pub struct CountCheck {}

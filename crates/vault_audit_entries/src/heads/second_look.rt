@@ -6,7 +6,7 @@ ghost use Rattle.sqlite.specs.Held.{state};
 ghost use Rattle.vault_core_model.specs.Vault.{Vault};
 ghost use Rattle.vault_audit_model.specs.Spells.{AreSoundAs};
 ghost use Rattle.vault_audit_entries.specs.Keys.{DecidesHeadsOf};
-ghost use Rattle.vault_audit_walk.specs.Health.{IsHealthy, IsMemory, IsOfSchemaVersion, OnlyLooks};
+ghost use Rattle.vault_audit_rows.specs.Health.{IsHealthy, IsMemory, IsOfSchemaVersion, OnlyLooks};
 
 use crate::heads::by_key::check_heads_by_key;
 use crate::heads::counts::check_counts;

@@ -3,7 +3,7 @@ ghost use Rattle.std.specs.Prelude.{◌↔◌, IsTrue, IfOk, IfErr};
 ghost use Rattle.sqlite.specs.State.{HasCleanDisk};
 ghost use Rattle.sqlite.specs.Held.{state};
 ghost use Rattle.vault_audit_entries.specs.SettingPlaces.{IsNext, DecidesPlaces};
-ghost use Rattle.vault_audit_walk.specs.Health.{IsHealthy, IsMemory, IsOfSchemaVersion, OnlyLooks};
+ghost use Rattle.vault_audit_rows.specs.Health.{IsHealthy, IsMemory, IsOfSchemaVersion, OnlyLooks};
 
 use sqlite::{Alter, Connection, Error, ErrorCode, Row};
 use vault_audit_model::rows::SettingRow;
@@ -11,7 +11,7 @@ use vault_audit_model::schema::SchemaVersion;
 use vault_audit_rows::misread::Misread;
 use vault_audit_rows::records::read_setting;
 use vault_audit_schema::{select_text, settings_columns};
-use vault_audit_walk::walk::{Pass, walk};
+use vault_audit_rows::walk::{Pass, walk};
 
 /// The check of settings by rising id and place.
 #[derive(Drop)]
@@ -34,7 +34,7 @@ impl SettingPass {
 }
 
 impl Pass for SettingPass {
-    ghost use Rattle.vault_audit_walk.specs.Pass.{Takes, Refuses};
+    ghost use Rattle.vault_audit_rows.specs.Pass.{Takes, Refuses};
     ghost use Rattle.vault_audit_model.specs.Rows.{setting_row};
     ghost use Rattle.vault_audit_entries.specs.SettingPlaces.{ComesNext, with_setting};
 

@@ -7,7 +7,7 @@ ghost use Rattle.vault_audit_model.specs.Spells.{AreSoundAs};
 ghost use Rattle.vault_audit_model.specs.Relations.{IsAfter};
 ghost use Rattle.vault_audit_schema.specs.Selects.{departments_select};
 ghost use Rattle.vault_audit_records.specs.ByName.{DecidesDepartments};
-ghost use Rattle.vault_audit_walk.specs.Health.{IsHealthy, IsMemory, IsOfSchemaVersion, OnlyLooks};
+ghost use Rattle.vault_audit_rows.specs.Health.{IsHealthy, IsMemory, IsOfSchemaVersion, OnlyLooks};
 
 use crate::row_check::refused;
 use sqlite::{Alter, Connection, Error, Row};
@@ -15,7 +15,7 @@ use std::marker::Model;
 use vault_audit_model::schema::SchemaVersion;
 use vault_audit_rows::records::read_department;
 use vault_audit_schema::{departments_columns, earlier_select_text, select_text};
-use vault_audit_walk::walk::{Pass, walk};
+use vault_audit_rows::walk::{Pass, walk};
 use vault_base::name::DeptName;
 
 /// The check of departments by rising name.
@@ -43,7 +43,7 @@ fn is_after(before: &Option<DeptName>, name: &DeptName) -> bool
 }
 
 impl Pass for DepartmentPass {
-    ghost use Rattle.vault_audit_walk.specs.Pass.{Takes, Refuses};
+    ghost use Rattle.vault_audit_rows.specs.Pass.{Takes, Refuses};
     ghost use Rattle.vault_audit_model.specs.Rows.{department_row};
     ghost use Rattle.vault_audit_records.specs.ByName.{IsNextDepartment, with_department};
 

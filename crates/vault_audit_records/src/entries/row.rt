@@ -6,7 +6,7 @@ ghost use Rattle.vault_audit_model.specs.Relations.{IsPast};
 use crate::row_check::refused;
 use sqlite::{Error, Row};
 use vault_audit_rows::records::read_entry;
-use vault_audit_walk::check::Check;
+use vault_audit_rows::check::Check;
 use vault_base::moment::Moment;
 use vault_core_model::records::{Entry, Removal};
 
@@ -36,7 +36,7 @@ fn is_past(last: Moment, entry: &Entry) -> bool
 
 impl Check for EntryCheck {
     ghost use Rattle.vault_audit_model.specs.Rows.{entry_row};
-    ghost use Rattle.vault_audit_walk.specs.Records.{ReportsOne};
+    ghost use Rattle.vault_audit_rows.specs.Records.{ReportsOne};
     ghost use Rattle.vault_audit_records.specs.Entries.{IsEntryBy};
 
     ghost takes = { λ c. ReportsOne entry_row (IsEntryBy c.last) };

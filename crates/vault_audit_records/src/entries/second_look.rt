@@ -6,14 +6,14 @@ ghost use Rattle.vault_core_model.specs.Vault.{Vault, next_id};
 ghost use Rattle.vault_audit_model.specs.Spells.{AreSoundAs};
 ghost use Rattle.vault_audit_model.specs.Relations.{IsNextEntry};
 ghost use Rattle.vault_audit_records.specs.EntriesByNumber.{AreEntriesUpTo};
-ghost use Rattle.vault_audit_walk.specs.Health.{IsHealthy, IsMemory, IsOfSchemaVersion, OnlyLooks};
+ghost use Rattle.vault_audit_rows.specs.Health.{IsHealthy, IsMemory, IsOfSchemaVersion, OnlyLooks};
 
 use crate::row_check::refused;
 use sqlite::{Alter, Connection, Error, Row};
 use vault_audit_model::schema::SchemaVersion;
 use vault_audit_rows::records::read_entry;
 use vault_audit_schema::{entries_columns, select_text};
-use vault_audit_walk::walk::{Pass, walk};
+use vault_audit_rows::walk::{Pass, walk};
 use vault_core_model::records::Entry;
 
 /// The check of entries by rising id.
@@ -35,7 +35,7 @@ impl NumberPass {
 }
 
 impl Pass for NumberPass {
-    ghost use Rattle.vault_audit_walk.specs.Pass.{Takes, Refuses};
+    ghost use Rattle.vault_audit_rows.specs.Pass.{Takes, Refuses};
     ghost use Rattle.vault_audit_model.specs.Rows.{entry_row};
     ghost use Rattle.vault_audit_records.specs.EntriesByNumber.{ComesNext, with_entry};
 

@@ -4,7 +4,7 @@ use sqlite::{Error, Row};
 use vault_audit_model::rows::MetaRow;
 use vault_audit_model::schema::SchemaVersion;
 use vault_audit_rows::records::read_meta;
-use vault_audit_walk::walk::Pass;
+use vault_audit_rows::walk::Pass;
 
 /// The check of `meta`, and the row that it met.
 #[derive(Drop)]
@@ -14,7 +14,7 @@ pub struct MetaPass {
 }
 
 impl Pass for MetaPass {
-    ghost use Rattle.vault_audit_walk.specs.Pass.{Takes, Refuses};
+    ghost use Rattle.vault_audit_rows.specs.Pass.{Takes, Refuses};
     ghost use Rattle.vault_audit_model.specs.Rows.{meta_row};
     ghost use Rattle.vault_audit_records.specs.Meta.{IsFirstMeta, with_meta};
 

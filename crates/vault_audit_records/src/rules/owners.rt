@@ -3,12 +3,12 @@ ghost use Rattle.std.specs.Prelude.{IfOk, IfErr};
 ghost use Rattle.sqlite.specs.State.{HasCleanDisk};
 ghost use Rattle.sqlite.specs.Held.{state};
 ghost use Rattle.vault_audit_records.specs.RulesByPlace.{DecidesOwners};
-ghost use Rattle.vault_audit_walk.specs.Health.{IsHealthy, IsMemory, IsOfSchemaVersion, OnlyLooks};
+ghost use Rattle.vault_audit_rows.specs.Health.{IsHealthy, IsMemory, IsOfSchemaVersion, OnlyLooks};
 
 use sqlite::{Alter, Connection, Error};
 use vault_audit_model::schema::SchemaVersion;
-use vault_audit_walk::absence::AbsenceCheck;
-use vault_audit_walk::check::check_rows;
+use vault_audit_rows::absence::AbsenceCheck;
+use vault_audit_rows::check::check_rows;
 
 /// Whether each rule is of a bucket.
 pub(crate) fn have_buckets<S: Alter>(

@@ -4,7 +4,7 @@ ghost use Rattle.sqlite.specs.State.{HasCleanDisk};
 ghost use Rattle.sqlite.specs.Held.{state};
 ghost use Rattle.vault_audit_records.specs.RulesByPlace.{IsWhole, DecidesRuns};
 ghost use Rattle.vault_audit_schema.specs.Selects.{rules_select};
-ghost use Rattle.vault_audit_walk.specs.Health.{IsHealthy, IsMemory, IsOfSchemaVersion, OnlyLooks};
+ghost use Rattle.vault_audit_rows.specs.Health.{IsHealthy, IsMemory, IsOfSchemaVersion, OnlyLooks};
 
 use crate::buckets::is_after;
 use sqlite::{Alter, Connection, Error, ErrorCode, Row};
@@ -16,7 +16,7 @@ use vault_audit_model::schema::SchemaVersion;
 use vault_audit_rows::misread::Misread;
 use vault_audit_rows::records::read_rule;
 use vault_audit_schema::{earlier_select_text, rules_columns, select_text};
-use vault_audit_walk::walk::{Pass, walk};
+use vault_audit_rows::walk::{Pass, walk};
 use vault_base::name::BucketName;
 use vault_rules::rule::Rule;
 use vault_rules::rule_set::RuleSet;
@@ -63,7 +63,7 @@ impl RulePass {
 }
 
 impl Pass for RulePass {
-    ghost use Rattle.vault_audit_walk.specs.Pass.{Takes, Refuses};
+    ghost use Rattle.vault_audit_rows.specs.Pass.{Takes, Refuses};
     ghost use Rattle.vault_audit_model.specs.Rows.{rule_row};
     ghost use Rattle.vault_audit_records.specs.RulesByPlace.{ComesNext, with_rule};
 

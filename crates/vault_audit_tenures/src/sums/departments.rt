@@ -4,7 +4,7 @@ ghost use Rattle.sqlite.specs.State.{HasCleanDisk};
 ghost use Rattle.sqlite.specs.Held.{state};
 ghost use Rattle.vault_audit_tenures.specs.DepartmentSums.{HaveTotals};
 ghost use Rattle.vault_audit_tenures.specs.Totals.{total_of};
-ghost use Rattle.vault_audit_walk.specs.Health.{IsHealthy, IsMemory, IsOfSchemaVersion, OnlyLooks};
+ghost use Rattle.vault_audit_rows.specs.Health.{IsHealthy, IsMemory, IsOfSchemaVersion, OnlyLooks};
 
 use crate::sums::totals::Totals;
 use sqlite::{Alter, Connection, Error, Row};
@@ -13,7 +13,7 @@ use vault_audit_model::schema::SchemaVersion;
 use vault_audit_records::departments::query::departments_query;
 use vault_audit_records::row_check::refused;
 use vault_audit_rows::records::read_department;
-use vault_audit_walk::check::{Check, check_rows};
+use vault_audit_rows::check::{Check, check_rows};
 
 /// The check that a row of `departments` has these sums.
 #[derive(Drop)]
@@ -34,7 +34,7 @@ fn has_total(totals: &Totals, department: &DepartmentRow) -> bool
 impl Check for SumsCheck {
     ghost use Rattle.vault_audit_model.specs.Rows.{department_row};
     ghost use Rattle.vault_audit_tenures.specs.DepartmentSums.{HasTotal};
-    ghost use Rattle.vault_audit_walk.specs.Records.{ReportsOne};
+    ghost use Rattle.vault_audit_rows.specs.Records.{ReportsOne};
 
     ghost takes = { λ c. ReportsOne department_row (HasTotal c.totals) };
 

@@ -7,7 +7,7 @@ ghost use Rattle.vault_core_model.specs.Vault.{Vault};
 ghost use Rattle.vault_audit_model.specs.Relations.{AreBuckets, AreEntries, AreTenuresOf, IsPast, DecidesSums};
 ghost use Rattle.vault_audit_model.specs.Spells.{AreSoundAs, entries_in};
 ghost use Rattle.vault_audit_tenures.specs.Totals.{AreTotals};
-ghost use Rattle.vault_audit_walk.specs.Health.{IsHealthy, IsMemory, IsOfSchemaVersion, OnlyLooks};
+ghost use Rattle.vault_audit_rows.specs.Health.{IsHealthy, IsMemory, IsOfSchemaVersion, OnlyLooks};
 
 use crate::sums::departments::{SumsCheck, check_totals};
 use crate::sums::tenures::sum_tenures;

@@ -8,7 +8,7 @@ ghost use Rattle.vault_audit_model.specs.Spells.{entries_in};
 ghost use Rattle.vault_audit_tenures.specs.declared.sums.tenures.StatedTenure.{StatedTenure as Reported};
 ghost use Rattle.vault_audit_tenures.specs.TenureSums.{stated_row, IsStated, begins, share_as, last_share, share_before, CountsShare, CountsPending, CountsLast};
 ghost use Rattle.vault_audit_tenures.specs.Totals.{AreTotals};
-ghost use Rattle.vault_audit_walk.specs.Health.{IsHealthy, IsMemory, IsOfSchemaVersion, OnlyLooks};
+ghost use Rattle.vault_audit_rows.specs.Health.{IsHealthy, IsMemory, IsOfSchemaVersion, OnlyLooks};
 
 use crate::sums::totals::{Span, Totals};
 use sqlite::{Alter, Connection, Error, Row};
@@ -18,7 +18,7 @@ use vault_audit_records::row_check::refused;
 use vault_audit_rows::cell::{moment, moment_or_null, number, number_within, version_id};
 use vault_audit_rows::misread::Misread;
 use vault_audit_rows::name::dept_name;
-use vault_audit_walk::walk::{Pass, walk};
+use vault_audit_rows::walk::{Pass, walk};
 use vault_base::limits::MOST_MOVES;
 use vault_base::moment::Moment;
 use vault_base::name::VersionId;

@@ -3,7 +3,7 @@ ghost use Rattle.std.specs.Prelude.{◌≡◌, ◌++◌, ◌∷◌, [], ℕ, Lis
 ghost use Rattle.vault_base.specs.Days.{day as day_of};
 ghost use Rattle.vault_tally.specs.Row.{Item, is_dated};
 ghost use Rattle.vault_audit_tenures.specs.Totals.{item_of, empty_sums, total_of, IsTotal, CountsFor};
-ghost use Rattle.vault_audit_walk.specs.Health.{IsMemory};
+ghost use Rattle.vault_audit_rows.specs.Health.{IsMemory};
 
 use sqlite::Error;
 use std::alloc::Global;

@@ -9,7 +9,7 @@ ghost use Rattle.vault_audit_model.specs.Spells.{entries_in};
 ghost use Rattle.vault_audit_model.specs.Tenures.{IsUnmoved};
 ghost use Rattle.vault_audit_tenures.specs.Totals.{AreTotals};
 ghost use Rattle.vault_audit_tenures.specs.VersionSums.{CountsEntry};
-ghost use Rattle.vault_audit_walk.specs.Health.{IsHealthy, IsMemory, IsOfSchemaVersion, OnlyLooks};
+ghost use Rattle.vault_audit_rows.specs.Health.{IsHealthy, IsMemory, IsOfSchemaVersion, OnlyLooks};
 
 use crate::sums::owned_entries::{OwnedEntry, read_owned};
 use crate::sums::totals::{Span, Totals};
@@ -17,7 +17,7 @@ use sqlite::{Alter, Connection, Error, Row};
 use std::alloc::Global;
 use vault_audit_model::schema::SchemaVersion;
 use vault_audit_records::row_check::refused;
-use vault_audit_walk::walk::{Pass, walk};
+use vault_audit_rows::walk::{Pass, walk};
 
 /// The sums of the departments, taken over the entries one by one.
 #[derive(Drop)]

@@ -6,7 +6,7 @@ ghost use Rattle.sqlite.specs.State.{HasCleanDisk, Survives};
 ghost use Rattle.vault_core_model.specs.Vault.{Vault};
 ghost use Rattle.vault_audit_model.specs.Spells.{AreSound, AreSoundAs};
 ghost use Rattle.vault_audit_model.specs.Tables.{no_schema};
-ghost use Rattle.vault_audit_walk.specs.Health.{IsHealthy, IsOfSchemaVersion, OnlyLooks};
+ghost use Rattle.vault_audit_rows.specs.Health.{IsHealthy, IsOfSchemaVersion, OnlyLooks};
 ghost use Rattle.vault_store_create.specs.Create.{Moves, HasFirst, IsFault};
 ghost use Rattle.vault_store_create.specs.Copied.{HasCopied, IsRefusedFor, RefusesARow};
 

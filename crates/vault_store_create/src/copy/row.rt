@@ -4,7 +4,7 @@ ghost use Rattle.sqlite_value.specs.Value.{owned};
 ghost use Rattle.sqlite.specs.Held.{state};
 ghost use Rattle.sqlite.specs.State.{HasCleanDisk, Survives};
 ghost use Rattle.vault_audit_model.specs.Tables.{vault_schema};
-ghost use Rattle.vault_audit_walk.specs.Health.{IsHealthy, IsMemory};
+ghost use Rattle.vault_audit_rows.specs.Health.{IsHealthy, IsMemory};
 ghost use Rattle.vault_store_create.specs.Copied.{Steps, PutsRow, Refuses};
 ghost use Rattle.vault_store_create.specs.RowsOf.{IsRowOf};
 

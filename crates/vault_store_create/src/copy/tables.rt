@@ -6,9 +6,9 @@ ghost use Rattle.sqlite.specs.State.{HasCleanDisk, Survives, Shown};
 ghost use Rattle.sqlite.specs.Given.{IsPlain};
 ghost use Rattle.sqlite.specs.Listing.{understood};
 ghost use Rattle.vault_audit_model.specs.Order.{place_of};
-ghost use Rattle.vault_audit_walk.specs.Walk.{Goes};
+ghost use Rattle.vault_audit_rows.specs.Walk.{Goes};
 ghost use Rattle.vault_audit_model.specs.Tables.{vault_schema};
-ghost use Rattle.vault_audit_walk.specs.Health.{IsHealthy, IsMemory, IsOfSchemaVersion, OnlyLooks};
+ghost use Rattle.vault_audit_rows.specs.Health.{IsHealthy, IsMemory, IsOfSchemaVersion, OnlyLooks};
 ghost use Rattle.vault_store_create.specs.Create.{Moves};
 ghost use Rattle.vault_store_create.specs.Copied.{Steps, PutsRow, HasCopied, AsksFor, StopsAt, FailsForARow};
 

@@ -6,8 +6,8 @@ ghost use Rattle.vault_audit_model.specs.declared.rows.SettingRow.{SettingRow};
 ghost use Rattle.vault_audit_model.specs.declared.rows.TenureRow.{TenureRow};
 ghost use Rattle.vault_audit_model.specs.Rows.{rule_row, setting_row, tenure_row};
 ghost use Rattle.vault_audit_model.specs.Limits.{IsObjectKey, IsRuleRow, IsSettingRow, IsTenureRow};
-ghost use Rattle.vault_audit_walk.specs.Health.{IsMemory};
-ghost use Rattle.vault_audit_walk.specs.Records.{ReportsOne};
+ghost use Rattle.vault_audit_rows.specs.Health.{IsMemory};
+ghost use Rattle.vault_audit_rows.specs.Records.{ReportsOne};
 ghost use Rattle.vault_store_reads.specs.Readable.{AreReadable, IsHeldRow};
 ghost use Rattle.vault_store_reads.specs.Shown.{held_row, key_row, set_of};
 

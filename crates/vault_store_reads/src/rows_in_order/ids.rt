@@ -6,7 +6,7 @@
 ghost use Rattle.std.specs.Prelude.{◌≡◌, map, filter, take, nat_lt, None, Some, IfOk, IfErr, IsTrue};
 ghost use Rattle.vault_base.specs.Name.{is_version_id};
 ghost use Rattle.vault_core_model.specs.Reads.{ids_before};
-ghost use Rattle.vault_audit_walk.specs.Health.{IsMemory};
+ghost use Rattle.vault_audit_rows.specs.Health.{IsMemory};
 ghost use Rattle.vault_store_reads.specs.Quiet.{ReadsQuietly, IsOpenIfOk, SaysOf};
 ghost use Rattle.vault_store_reads.specs.Readable.{AreReadable};
 ghost use Rattle.vault_store_reads.specs.Shown.{id_row, ids_at};

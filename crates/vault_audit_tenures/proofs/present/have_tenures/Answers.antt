@@ -1,7 +1,7 @@
 use Rattle.std.proofs.Common.{sym, subst, arith}
 use Rattle.sqlite.specs.Held.{state}
 use Rattle.sqlite.specs.State.{HasCleanDisk}
-use Rattle.vault_audit_walk.specs.Health.{Asks}
+use Rattle.vault_audit_rows.specs.Health.{Asks}
 use Rattle.sqlite.specs.Given.{IsPlain}
 use Rattle.sqlite.specs.Listing.{understood}
 use Rattle.vault_audit_tenures.proofs.DecisionLemmas.{presence_if_ok}

@@ -1,6 +1,6 @@
 use Rattle.std.proofs.Common.{rules}
 use Rattle.sqlite.specs.Held.{state}
-use Rattle.vault_audit_walk.proofs.ScanLemmas.{still}
+use Rattle.vault_audit_rows.proofs.ScanLemmas.{still}
 use Rattle.vault_audit_tenures.proofs.SoundLemmas.{if_older, if_third, damaged_if_ok}
 use Rattle.vault_audit_tenures.proofs.second_look.check_tenures.Goals as goal
 

@@ -4,10 +4,10 @@ use Rattle.vault_core_model.specs.declared.command.Timed.{Timed}
 use Rattle.vault_core_laws.proofs.Runs.{IsRun-append}
 use Rattle.vault_core_laws.proofs.Balance.{conserved, moved, one_place}
 use Rattle.vault_core_laws.proofs.Telescope.{days_joined}
-use Rattle.vault_core_worm_laws.proofs.Once.{extends_itself}
-use Rattle.vault_core_worm_laws.proofs.Repeated.{run-begins, run-completes}
-use Rattle.vault_core_worm_laws.proofs.Reached.{reached-permitted, reached-Worm, run-extends}
-use Rattle.vault_core_worm_laws.proofs.Stored.{Sound-stands_once, Sound-conserved, Sound-all_conserved}
+use Rattle.vault_core_run_laws.proofs.Once.{extends_itself}
+use Rattle.vault_core_run_laws.proofs.Repeated.{run-begins, run-completes}
+use Rattle.vault_core_run_laws.proofs.Reached.{reached-permitted, reached-Worm, run-extends}
+use Rattle.vault_core_run_laws.proofs.Stored.{Sound-stands_once, Sound-conserved, Sound-all_conserved}
 use Rattle.vault_core.specs.StepByStep.{StepByStep}
 use Rattle.vault_core.proofs.StepLemmas.{push, honest, is_run, counted}
 use Rattle.vault_core.proofs.run.run.Goals as goal

@@ -1,5 +1,5 @@
-use Rattle.vault_core_worm_laws.proofs.Reached.{reached-permitted, reached-Worm, step-reached, step-extends}
-use Rattle.vault_core_worm_laws.proofs.Repeated.{step-begins, step-completes}
+use Rattle.vault_core_run_laws.proofs.Reached.{reached-permitted, reached-Worm, step-reached, step-extends}
+use Rattle.vault_core_run_laws.proofs.Repeated.{step-begins, step-completes}
 use Rattle.vault_core.proofs.step.step.Goals as goal
 
 -- the run to the vault before, and then this step

@@ -1,5 +1,5 @@
 use Rattle.std.proofs.Common.{sym, rules}
-use Rattle.vault_audit_walk.specs.Health.{IsMemory}
+use Rattle.vault_audit_rows.specs.Health.{IsMemory}
 use Rattle.vault_store_reads.proofs.EntryLemmas.{content_limited, content_read, no_content}
 use Rattle.vault_store_reads.proofs.TextLemmas.{content_selects}
 use Rattle.vault_store_reads.proofs.AskedLemmas.{content_asked}

@@ -1,5 +1,5 @@
 use Rattle.std.proofs.Common.{sym, rules}
-use Rattle.vault_audit_walk.specs.Health.{IsMemory}
+use Rattle.vault_audit_rows.specs.Health.{IsMemory}
 use Rattle.vault_store_reads.proofs.EntryLemmas.{entry_limited, entry_read, no_entry}
 use Rattle.vault_store_reads.proofs.TextLemmas.{entry_selects}
 use Rattle.vault_store_reads.proofs.AskedLemmas.{entry_asked}

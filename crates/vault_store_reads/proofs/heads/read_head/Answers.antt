@@ -1,5 +1,5 @@
 use Rattle.std.proofs.Common.{sym, rules}
-use Rattle.vault_audit_walk.specs.Health.{IsMemory}
+use Rattle.vault_audit_rows.specs.Health.{IsMemory}
 use Rattle.vault_store_reads.proofs.HeadLemmas.{head_limited, head_read, no_head}
 use Rattle.vault_store_reads.proofs.TextLemmas.{head_selects}
 use Rattle.vault_store_reads.proofs.AskedLemmas.{head_asked}

@@ -1,5 +1,5 @@
 use Rattle.std.proofs.Common.{sym, rules}
-use Rattle.vault_audit_walk.specs.Health.{IsMemory}
+use Rattle.vault_audit_rows.specs.Health.{IsMemory}
 use Rattle.vault_store_reads.proofs.MetaLemmas.{meta_limited, meta_there, meta_read, kept_sound}
 use Rattle.vault_store_reads.proofs.TextLemmas.{meta_selects}
 use Rattle.vault_store_reads.proofs.AskedLemmas.{meta_asked}

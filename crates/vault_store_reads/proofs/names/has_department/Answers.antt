@@ -1,5 +1,5 @@
 use Rattle.std.proofs.Common.{◌∙◌, ◌==◌, ap, not, rules}
-use Rattle.vault_audit_walk.specs.Health.{IsMemory}
+use Rattle.vault_audit_rows.specs.Health.{IsMemory}
 use Rattle.vault_store_reads.proofs.NameLemmas.{department_there}
 use Rattle.vault_store_reads.proofs.TextLemmas.{department_selects}
 use Rattle.vault_store_reads.proofs.AskedLemmas.{department_asked}

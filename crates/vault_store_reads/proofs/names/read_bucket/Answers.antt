@@ -1,5 +1,5 @@
 use Rattle.std.proofs.Common.{sym, rules}
-use Rattle.vault_audit_walk.specs.Health.{IsMemory}
+use Rattle.vault_audit_rows.specs.Health.{IsMemory}
 use Rattle.vault_store_reads.proofs.NameLemmas.{bucket_limited, config_read, no_config}
 use Rattle.vault_store_reads.proofs.TextLemmas.{bucket_selects}
 use Rattle.vault_store_reads.proofs.AskedLemmas.{bucket_asked}

@@ -1,5 +1,5 @@
 use Rattle.std.proofs.Common.{sym, rules}
-use Rattle.vault_audit_walk.specs.Health.{IsMemory}
+use Rattle.vault_audit_rows.specs.Health.{IsMemory}
 use Rattle.vault_store_reads.proofs.NameLemmas.{caller_limited, caller_read, no_caller}
 use Rattle.vault_store_reads.proofs.TextLemmas.{caller_selects}
 use Rattle.vault_store_reads.proofs.AskedLemmas.{caller_asked}

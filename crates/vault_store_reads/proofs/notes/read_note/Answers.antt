@@ -1,5 +1,5 @@
 use Rattle.std.proofs.Common.{sym, rules}
-use Rattle.vault_audit_walk.specs.Health.{IsMemory}
+use Rattle.vault_audit_rows.specs.Health.{IsMemory}
 use Rattle.vault_store_reads.proofs.EntryLemmas.{note_limited, note_read, no_note}
 use Rattle.vault_store_reads.proofs.TextLemmas.{note_selects}
 use Rattle.vault_store_reads.proofs.AskedLemmas.{note_asked}

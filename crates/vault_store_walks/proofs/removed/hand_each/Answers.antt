@@ -8,9 +8,9 @@ use Rattle.sqlite.proofs.StateLemmas.{survives_then}
 use Rattle.vault_core_model.specs.Handing.{TakesSome}
 use Rattle.vault_core_model.specs.Reads.{removed_entries}
 use Rattle.vault_core_model.specs.Vault.{Vault}
-use Rattle.vault_audit_walk.specs.Health.{IsHealthy, IsMemory}
-use Rattle.vault_audit_walk.specs.Walk.{Goes}
-use Rattle.vault_audit_walk.proofs.WalkLemmas.{goes_on}
+use Rattle.vault_audit_rows.specs.Health.{IsHealthy, IsMemory}
+use Rattle.vault_audit_rows.specs.Walk.{Goes}
+use Rattle.vault_audit_rows.proofs.WalkLemmas.{goes_on}
 use Rattle.vault_store_model.specs.Keeping.{Keeps}
 use Rattle.vault_store_reads.specs.Quiet.{IsQuiet}
 use Rattle.vault_store_walks.proofs.RemovedLemmas.{removed_query}

@@ -4,7 +4,7 @@ use Rattle.sqlite.specs.State.{HasCleanDisk, IsUnchanged, Survives}
 use Rattle.sqlite.specs.Held.{state}
 use Rattle.sqlite.specs.Given.{HasGiven}
 use Rattle.vault_core_model.specs.Vault.{Vault}
-use Rattle.vault_audit_walk.specs.Walk.{Goes}
+use Rattle.vault_audit_rows.specs.Walk.{Goes}
 use Rattle.vault_store_model.specs.Keeping.{Keeps}
 use Rattle.vault_store_reads.specs.Quiet.{IsQuiet}
 use Rattle.vault_store_walks.proofs.WalkTexts.{removed_text}

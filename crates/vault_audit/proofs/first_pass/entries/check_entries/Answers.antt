@@ -4,11 +4,11 @@ use Rattle.sqlite.specs.State.{HasCleanDisk}
 use Rattle.vault_core_model.specs.Vault.{Vault}
 use Rattle.vault_audit_model.specs.Spells.{AreSoundAs}
 use Rattle.vault_audit_model.specs.Tables.{entries_tree}
-use Rattle.vault_audit_walk.specs.Records.{AreRecords}
+use Rattle.vault_audit_rows.specs.Records.{AreRecords}
 use Rattle.vault_audit_records.proofs.DamageLemmas.{refused_if_ok, no_entries}
 use Rattle.vault_audit_model.specs.Rows.{entry_row, entry_columns}
 use Rattle.vault_audit_records.specs.Entries.{IsEntryBy}
-use Rattle.vault_audit_walk.proofs.RecordLemmas.{records_if_ok}
+use Rattle.vault_audit_rows.proofs.RecordLemmas.{records_if_ok}
 use Rattle.vault_audit.proofs.TextLemmas.{entries_scan, entries_asks}
 use Rattle.vault_audit.proofs.first_pass.entries.check_entries.Goals as goal
 

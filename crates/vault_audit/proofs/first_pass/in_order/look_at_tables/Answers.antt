@@ -5,7 +5,7 @@ use Rattle.sqlite.specs.Held.{state}
 use Rattle.sqlite.proofs.Callers.{unchanged_then}
 use Rattle.vault_base.specs.declared.refusal.Table.TheVariants.{Meta}
 use Rattle.vault_audit_model.specs.Order.{place_of}
-use Rattle.vault_audit_walk.proofs.ScanLemmas.{still}
+use Rattle.vault_audit_rows.proofs.ScanLemmas.{still}
 use Rattle.vault_audit.specs.Looks.{Differs}
 use Rattle.vault_audit.proofs.OrderLemmas.{AreRightTo, IsFrom, all_right, at_table, begin_at, begin_meta, after_meta, from_after, from_next, is_not, meta_right, no_difference, place_after, right_more, right_row, survives_itself, survives_more, stated_by_form, stated_by_rows}
 use Rattle.vault_audit.proofs.first_pass.in_order.look_at_tables.Goals as goal

@@ -4,8 +4,8 @@ use Rattle.sqlite.specs.Held.{state}
 use Rattle.sqlite.specs.State.{HasCleanDisk}
 use Rattle.vault_core_model.specs.Vault.{Vault}
 use Rattle.vault_audit_model.specs.Spells.{AreSoundAs}
-use Rattle.vault_audit_walk.specs.Records.{AreRecords}
-use Rattle.vault_audit_walk.proofs.RecordLemmas.{records_if_ok}
+use Rattle.vault_audit_rows.specs.Records.{AreRecords}
+use Rattle.vault_audit_rows.proofs.RecordLemmas.{records_if_ok}
 use Rattle.vault_audit_records.proofs.DamageLemmas.{refused_if_ok}
 use Rattle.vault_audit.proofs.first_pass.record.check_table.Goals as goal
 

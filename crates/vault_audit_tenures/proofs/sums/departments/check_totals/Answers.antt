@@ -5,9 +5,9 @@ use Rattle.sqlite.specs.Given.{IsPlain}
 use Rattle.sqlite.specs.Listing.{understood}
 use Rattle.vault_audit_model.specs.Rows.{department_row}
 use Rattle.vault_audit_schema.specs.Selects.{departments_select}
-use Rattle.vault_audit_walk.specs.Health.{Asks}
-use Rattle.vault_audit_walk.specs.Records.{AreRecords}
-use Rattle.vault_audit_walk.proofs.RecordLemmas.{records_if_ok}
+use Rattle.vault_audit_rows.specs.Health.{Asks}
+use Rattle.vault_audit_rows.specs.Records.{AreRecords}
+use Rattle.vault_audit_rows.proofs.RecordLemmas.{records_if_ok}
 use Rattle.vault_audit_tenures.proofs.SumTextLemmas.{departments_scan, departments_asks, departments_shows}
 use Rattle.vault_audit_tenures.specs.DepartmentSums.{HasTotal}
 use Rattle.vault_audit_tenures.proofs.sums.departments.check_totals.Goals as goal

@@ -3,7 +3,7 @@ use Rattle.sqlite.specs.Held.{state}
 use Rattle.sqlite.specs.State.{HasCleanDisk}
 use Rattle.sqlite.specs.Given.{IsPlain}
 use Rattle.sqlite.specs.Listing.{understood}
-use Rattle.vault_audit_walk.specs.Health.{Asks, IsMemory}
+use Rattle.vault_audit_rows.specs.Health.{Asks, IsMemory}
 use Rattle.vault_audit_tenures.proofs.SumTextLemmas.{tenures_text, tenures_plain, tenures_asks}
 use Rattle.vault_audit_tenures.proofs.TenureSumLemmas.{tenures_yes, tenures_no}
 use Rattle.vault_audit_tenures.proofs.sums.tenures.sum_tenures.Goals as goal

@@ -2,7 +2,7 @@ use Rattle.std.proofs.Common.{◌∙◌, inl, rules, arith}
 use Rattle.sqlite.specs.Held.{state}
 use Rattle.sqlite.specs.State.{HasCleanDisk}
 use Rattle.vault_audit_model.proofs.OutcomeLemmas.{on_ok_then}
-use Rattle.vault_audit_walk.specs.Health.{IsMemory}
+use Rattle.vault_audit_rows.specs.Health.{IsMemory}
 use Rattle.vault_store_create.specs.Copied.{IsRefusedFor}
 use Rattle.vault_store_create.proofs.FillLemmas.{none_copied}
 use Rattle.vault_store_create.proofs.copy.begin.put_copy.Goals as goal

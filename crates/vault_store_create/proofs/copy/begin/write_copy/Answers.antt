@@ -2,7 +2,7 @@ use Rattle.std.proofs.Common.{sym, ap, subst, ◌∙◌, rules, arith}
 use Rattle.std.specs.Prelude.{IsTrue}
 use Rattle.sqlite.specs.Held.{Held, state}
 use Rattle.sqlite.specs.State.{IsRolledBack, Survives}
-use Rattle.vault_audit_walk.specs.Health.{IsHealthy}
+use Rattle.vault_audit_rows.specs.Health.{IsHealthy}
 use Rattle.vault_store_create.specs.Create.{HasFirst}
 use Rattle.vault_store_create.specs.Copied.{IsRefusedFor}
 use Rattle.vault_store_create.proofs.copy.begin.write_copy.Goals as goal

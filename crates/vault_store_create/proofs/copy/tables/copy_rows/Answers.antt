@@ -5,10 +5,10 @@ use Rattle.sqlite.specs.State.{HasCleanDisk, IsUnchanged, Survives, Shown, Commi
 use Rattle.sqlite.specs.Held.{Held, state}
 use Rattle.sqlite.specs.Given.{HasGiven}
 use Rattle.sqlite.proofs.Callers.{begun_plain, given_begin, unchanged_then}
-use Rattle.vault_audit_walk.specs.Health.{IsHealthy, IsMemory}
-use Rattle.vault_audit_walk.specs.Walk.{Goes}
-use Rattle.vault_audit_walk.proofs.CauseLemmas.{cause_of, cause_later}
-use Rattle.vault_audit_walk.proofs.WalkLemmas.{commits_nothing, shown_from, goes_on}
+use Rattle.vault_audit_rows.specs.Health.{IsHealthy, IsMemory}
+use Rattle.vault_audit_rows.specs.Walk.{Goes}
+use Rattle.vault_audit_rows.proofs.CauseLemmas.{cause_of, cause_later}
+use Rattle.vault_audit_rows.proofs.WalkLemmas.{commits_nothing, shown_from, goes_on}
 use Rattle.vault_store_create.specs.Copied.{PutsRow, StopsAt}
 use Rattle.vault_store_create.proofs.StopLemmas.{stopped}
 use Rattle.vault_store_edits.proofs.QueryLemmas.{survives_itself, survives_more}

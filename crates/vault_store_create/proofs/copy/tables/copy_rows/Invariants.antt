@@ -3,7 +3,7 @@ use Rattle.sqlite_value.specs.Order.{Row}
 use Rattle.sqlite.specs.State.{HasCleanDisk, IsUnchanged, Survives}
 use Rattle.sqlite.specs.Held.{state}
 use Rattle.sqlite.specs.Given.{HasGiven}
-use Rattle.vault_audit_walk.specs.Walk.{Goes}
+use Rattle.vault_audit_rows.specs.Walk.{Goes}
 use Rattle.vault_store_create.specs.Copied.{PutsRow}
 use Rattle.vault_store_create.proofs.copy.tables.copy_rows.Given as goal
 

@@ -1,6 +1,6 @@
 use Rattle.std.proofs.Common.{sym, ◌∙◌, rules}
 use Rattle.vault_core_model.specs.Places.{held_at}
-use Rattle.vault_audit_walk.specs.Health.{IsMemory}
+use Rattle.vault_audit_rows.specs.Health.{IsMemory}
 use Rattle.vault_store_reads.proofs.QueryLemmas.{if_shown}
 use Rattle.vault_store_reads.proofs.HeadLemmas.{head_limited, head_read, no_head}
 use Rattle.vault_store_reads.proofs.TextLemmas.{head_selects}

@@ -1,4 +1,4 @@
-use Rattle.vault_audit_walk.specs.Records.{ReportsOne}
+use Rattle.vault_audit_rows.specs.Records.{ReportsOne}
 use Rattle.vault_store_reads.specs.Readable.{IsHeldRow}
 use Rattle.vault_store_reads.specs.Shown.{held_row}
 use Rattle.vault_store_reads.proofs.LimitLemmas.{at_place}

@@ -1,7 +1,7 @@
 use Rattle.std.proofs.Common.{rules}
 use Rattle.vault_audit_model.specs.Limits.{IsObjectKey}
-use Rattle.vault_audit_walk.specs.Records.{ReportsOne}
-use Rattle.vault_audit_walk.specs.Health.{IsMemory}
+use Rattle.vault_audit_rows.specs.Records.{ReportsOne}
+use Rattle.vault_audit_rows.specs.Health.{IsMemory}
 use Rattle.vault_store_reads.specs.Shown.{key_row}
 use Rattle.vault_store_reads.proofs.LimitLemmas.{at_place}
 use Rattle.vault_store_reads.proofs.rows_in_order.decode.decode_keys.Goals as goal

@@ -3,8 +3,8 @@ use Rattle.std.proofs.lemmas.List.{map-append}
 use Rattle.vault_audit_model.specs.declared.rows.TenureRow.{TenureRow}
 use Rattle.vault_audit_model.specs.Limits.{IsTenureRow}
 use Rattle.vault_audit_model.specs.Rows.{tenure_row}
-use Rattle.vault_audit_walk.specs.Records.{ReportsOne}
-use Rattle.vault_audit_walk.specs.Health.{IsMemory}
+use Rattle.vault_audit_rows.specs.Records.{ReportsOne}
+use Rattle.vault_audit_rows.specs.Health.{IsMemory}
 use Rattle.vault_store_reads.proofs.LimitLemmas.{at_place}
 use Rattle.vault_store_reads.proofs.OrderedListLemmas.{stated_more}
 use Rattle.vault_store_reads.proofs.rows_in_order.decode.decode_tenures.Goals as goal

@@ -1,6 +1,6 @@
 use Rattle.std.proofs.Common.{◌≡◌, length, ◌∙◌, arith, rules}
 use Rattle.vault_core_model.specs.Places.{held_at}
-use Rattle.vault_audit_walk.specs.Health.{IsMemory}
+use Rattle.vault_audit_rows.specs.Health.{IsMemory}
 use Rattle.vault_store_reads.specs.Shown.{held_row}
 use Rattle.vault_store_reads.proofs.CountLemmas.{none_shown, shown_in_order}
 use Rattle.vault_store_reads.proofs.OpenLemmas.{quiet_then}

@@ -1,8 +1,8 @@
 use Rattle.std.proofs.Common.{sym, rules}
 use Rattle.vault_audit_model.specs.Limits.{IsTenureRow}
 use Rattle.vault_audit_model.specs.Rows.{tenure_row}
-use Rattle.vault_audit_walk.specs.Records.{ReportsOne}
-use Rattle.vault_audit_walk.specs.Health.{IsMemory}
+use Rattle.vault_audit_rows.specs.Records.{ReportsOne}
+use Rattle.vault_audit_rows.specs.Health.{IsMemory}
 use Rattle.vault_store_reads.proofs.LimitLemmas.{at_first}
 use Rattle.vault_store_reads.proofs.rows_in_order.find.find_last_tenure.Goals as goal
 

@@ -1,5 +1,5 @@
 use Rattle.std.proofs.Common.{sym}
-use Rattle.vault_audit_walk.specs.Records.{ReportsOne}
+use Rattle.vault_audit_rows.specs.Records.{ReportsOne}
 use Rattle.vault_store_reads.specs.Readable.{IsLastSetting}
 use Rattle.vault_store_reads.specs.Shown.{last_row}
 use Rattle.vault_store_reads.proofs.LimitLemmas.{at_first}

@@ -1,5 +1,5 @@
 use Rattle.std.proofs.Common.{◌≡◌, [], ◌∷◌, ◌++◌, rules}
-use Rattle.vault_audit_walk.specs.Health.{IsMemory}
+use Rattle.vault_audit_rows.specs.Health.{IsMemory}
 use Rattle.vault_store_reads.specs.Shown.{with_lock_in}
 use Rattle.vault_store_reads.proofs.OrderedListLemmas.{made_more}
 use Rattle.vault_store_reads.proofs.OpenLemmas.{quiet_then}

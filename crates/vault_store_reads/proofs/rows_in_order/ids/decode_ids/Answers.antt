@@ -1,6 +1,6 @@
 use Rattle.std.proofs.Common.{IsTrue}
 use Rattle.vault_base.specs.Name.{is_version_id}
-use Rattle.vault_audit_walk.specs.Records.{ReportsOne}
+use Rattle.vault_audit_rows.specs.Records.{ReportsOne}
 use Rattle.vault_store_reads.specs.Shown.{id_row}
 use Rattle.vault_store_reads.proofs.LimitLemmas.{at_place}
 use Rattle.vault_store_reads.proofs.rows_in_order.ids.decode_ids.Goals as goal

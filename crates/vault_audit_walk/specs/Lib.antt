@@ -1,5 +1,0 @@
-pub mod Walk
-pub mod Pass
-pub mod Records
-pub mod Beside
-pub mod Health

@@ -1,5 +1,0 @@
-use Rattle.vault_core_worm_laws.proofs.Reached.{run-callers}
-use Rattle.vault_core_worm_laws.proofs.callers_keep_their_rights.Goals as goal
-
-pub returns : goal.returns
-returns c = run-callers

@@ -1,5 +1,0 @@
-use Rattle.vault_core_worm_laws.proofs.Reached.{reached-Worm}
-use Rattle.vault_core_worm_laws.proofs.retention_and_holds_are_kept.Goals as goal
-
-pub returns : goal.returns
-returns c = reached-Worm
