@@ -88,7 +88,10 @@ impl Pass for HeldCount {
 }
 
 /// How many of `entries` are held, and how many of these are versions.
-pub fn count_held<S: Alter>(conn: &mut Connection<S>, schema_version: SchemaVersion) -> Result<HeldCount, Error>
+pub fn count_held<S: Alter>(
+    conn: &mut Connection<S>,
+    schema_version: SchemaVersion,
+) -> Result<HeldCount, Error>
     requires { IsOfSchemaVersion S.Store conn.old schema_version }
     ensures reported { HasCleanDisk (state S.Store conn.new) → IfOk result (CountsRows (state S.Store conn.new).now) }
     ensures look { OnlyLooks S.Store conn.old conn.new result }

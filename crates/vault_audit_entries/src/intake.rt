@@ -148,7 +148,10 @@ impl Pass for NotePass {
 
 /// Whether each row of `intake` holds a note of a version of its bucket, key, size and digest, and no
 /// two are of one line of a batch. It is meant for entries whose ids are 1, 2, 3 and so on.
-pub fn check_notes<S: Alter>(conn: &mut Connection<S>, schema_version: SchemaVersion) -> Result<bool, Error>
+pub fn check_notes<S: Alter>(
+    conn: &mut Connection<S>,
+    schema_version: SchemaVersion,
+) -> Result<bool, Error>
     requires { IsOfSchemaVersion S.Store conn.old schema_version }
     ensures reported { HasCleanDisk (state S.Store conn.new) → IfOk result (λ b. (es : List Entry) → AreEntries (state S.Store conn.new).now es → DecidesNotes (state S.Store conn.new).now es b) }
     ensures damaged { HasCleanDisk (state S.Store conn.new) → IfOk result (λ found. found ≡ false → (v : Vault) → ¬ AreSoundAs schema_version (state S.Store conn.new).now v) }

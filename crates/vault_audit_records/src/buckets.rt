@@ -10,8 +10,8 @@ use std::marker::Model;
 use vault_audit_model::schema::SchemaVersion;
 use vault_audit_rows::misread::Misread;
 use vault_audit_rows::records::read_bucket;
-use vault_audit_schema::{buckets_columns, select_text};
 use vault_audit_rows::walk::{Pass, walk};
+use vault_audit_schema::{buckets_columns, select_text};
 use vault_base::name::BucketName;
 
 /// Whether a name comes after another, or there is no other.

@@ -13,8 +13,8 @@ use sqlite::{Alter, Connection, Error, Row};
 use std::marker::Model;
 use vault_audit_model::schema::SchemaVersion;
 use vault_audit_rows::records::read_caller;
-use vault_audit_schema::{callers_columns, select_text};
 use vault_audit_rows::walk::{Pass, walk};
+use vault_audit_schema::{callers_columns, select_text};
 use vault_base::name::CallerName;
 
 /// The check of callers by rising name.

@@ -1,8 +1,8 @@
 //! A check of rows that are to say whether a row of another table stands beside one.
 
+use crate::cell::{flag, is_null};
 use crate::check::Check;
 use sqlite::{Error, Row};
-use crate::cell::{flag, is_null};
 
 /// The check of such rows: the first value is whether the second is NULL.
 pub struct AbsenceCheck {}

@@ -11,13 +11,13 @@ ghost use Rattle.vault_http.specs.declared.fault.ServeFault.TheVariants as fault
 use crate::answer::head::Allow;
 use crate::answer::reply::{refusal_bytes, reply_bytes};
 use crate::fault::ServeFault;
-use vault_core::hearing::Hears;
 use crate::send::send;
 use std::alloc::Global;
 use std::io::Write;
 use vault_base::moment::Moment;
 use vault_base::name::CallerName;
 use vault_base::refusal::Refusal;
+use vault_core::hearing::Hears;
 use vault_core::step::step;
 use vault_core_model::command::Command;
 use vault_core_model::keeper::Keeper;

@@ -17,7 +17,7 @@ use vault_base::moment::Moment;
 use vault_base::refusal::Refusal;
 use vault_http_request::host::{Hosts, is_for};
 use vault_http_request::operation::Resource;
-use vault_http_request::plan::{Planned, Plan, asked_of};
+use vault_http_request::plan::{Plan, Planned, asked_of};
 use vault_http_request::read::head::{Front, read_head};
 use vault_values::fault::LineFault;
 

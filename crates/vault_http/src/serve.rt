@@ -11,12 +11,12 @@ ghost use Rattle.vault_http.specs.declared.fault.ServeFault.TheVariants as fault
 use crate::carrying::{Denial, RequestContext, conclude, deny};
 use crate::command::command_after;
 use crate::fault::ServeFault;
-use vault_core::hearing::{Hears, Nobody};
 use crate::judging::{Judgement, judge_request};
 use crate::send::send_interim;
 use std::alloc::Global;
 use std::io::{Read, Write};
 use vault_base::moment::Moment;
+use vault_core::hearing::{Hears, Nobody};
 use vault_core_model::keeper::Keeper;
 use vault_http_request::host::Hosts;
 use vault_http_request::plan::Plan;

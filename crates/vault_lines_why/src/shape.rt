@@ -3,9 +3,9 @@ use crate::cause::{Cause, Explained, Names};
 use crate::nearest::Nearest;
 use serde_json::{Map, Value};
 use std::alloc::{AllocError, Global};
-use vault_lines_read::verb::{VERBS, Verb};
 use vault_lines_json::members::as_whole;
 use vault_lines_json::shape::{Kind, has_one_content};
+use vault_lines_read::verb::{VERBS, Verb};
 
 /// The members of a rule that aren't objects.
 const RULE: [(&str, Kind); 5] = [

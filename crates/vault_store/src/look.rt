@@ -14,7 +14,7 @@ use crate::laws::connection_is_at_rest;
 use sqlite::{Alter, Connection};
 use std::alloc::Global;
 use vault_audit::audit;
-use vault_audit_model::schema::{SchemaVersion, NEWEST};
+use vault_audit_model::schema::{NEWEST, SchemaVersion};
 use vault_base::refusal::Refusal;
 
 /// Ends the transaction that is open, if there is one.

@@ -25,7 +25,7 @@ use std::alloc::Global;
 use vault_audit::audit;
 use vault_audit_laws::connection::tables_obey_their_schema;
 use vault_audit_model::faults::refusal_of;
-use vault_audit_model::schema::{SchemaVersion, NEWEST};
+use vault_audit_model::schema::{NEWEST, SchemaVersion};
 use vault_base::refusal::Refusal;
 use vault_store_create::copy::begin::begin_copy;
 

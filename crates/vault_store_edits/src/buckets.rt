@@ -7,9 +7,9 @@ ghost use Rattle.vault_store_model.specs.Edits.{with_row, with_changed};
 ghost use Rattle.vault_store_model.specs.Tests.{is_named, with_default_columns, with_owner};
 ghost use Rattle.vault_store_edits.specs.Inside.{IsEdit, IsEditOfSound};
 
-use crate::rowids::check_rowids;
 use crate::parameters::{default_days, default_mode, default_years};
 use crate::put::{Put, put_row};
+use crate::rowids::check_rowids;
 use sqlite::{Alter, Error, Transaction, params};
 use vault_audit_schema::{buckets_columns, insert_text};
 use vault_base::name::{BucketName, DeptName};

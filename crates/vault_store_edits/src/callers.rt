@@ -7,9 +7,9 @@ ghost use Rattle.vault_store_model.specs.Edits.{with_row, with_changed};
 ghost use Rattle.vault_store_model.specs.Tests.{is_named, closed_row};
 ghost use Rattle.vault_store_edits.specs.Inside.{IsEdit, IsEditOfSound};
 
-use crate::rowids::check_rowids;
 use crate::parameters::{dept_text, rights_number};
 use crate::put::{Put, put_row};
+use crate::rowids::check_rowids;
 use sqlite::{Alter, Error, Transaction, params};
 use vault_audit_schema::{callers_columns, insert_text};
 use vault_base::name::CallerName;

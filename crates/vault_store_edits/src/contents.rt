@@ -6,8 +6,8 @@ ghost use Rattle.vault_store_model.specs.Edits.{with_row, without};
 ghost use Rattle.vault_store_model.specs.Tests.{is_numbered};
 ghost use Rattle.vault_store_edits.specs.Inside.{IsEdit};
 
-use crate::rowids::check_id;
 use crate::put::{Put, put_row};
+use crate::rowids::check_id;
 use sqlite::{Alter, Error, Transaction, params};
 use vault_audit_schema::{contents_columns, insert_text};
 use vault_base::content::Content;

@@ -8,9 +8,9 @@ ghost use Rattle.vault_store_model.specs.Tests.{is_named, with_sums};
 ghost use Rattle.vault_store_edits.specs.Inside.{IsEdit, IsEditOfSound};
 ghost use Rattle.vault_store_edits.specs.NewRows.{new_department};
 
-use crate::rowids::check_rowids;
 use crate::parameters::whole;
 use crate::put::{Put, put_row};
+use crate::rowids::check_rowids;
 use sqlite::{Alter, Error, Transaction, params};
 use vault_audit_schema::{departments_columns, insert_text};
 use vault_base::name::DeptName;

@@ -8,13 +8,13 @@ ghost use Rattle.vault_store_model.specs.Tests.{is_numbered, removed_row};
 ghost use Rattle.vault_store_edits.specs.Inside.{IsEdit, IsEditOfSound};
 ghost use Rattle.vault_store_edits.specs.Typed.{IsTypedEntry};
 
-use crate::rowids::check_id;
 use crate::entry_parameters::{
     author_text, cause_number, cause_text, digest_bytes, is_rule, removal_at, removal_by,
     removal_cause,
 };
 use crate::parameters::{seconds, whole};
 use crate::put::{Put, put_row};
+use crate::rowids::check_id;
 use sqlite::{Alter, Error, Transaction, params};
 use vault_audit_schema::{entries_columns, insert_text};
 use vault_base::name::VersionId;

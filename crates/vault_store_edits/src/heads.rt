@@ -6,9 +6,9 @@ ghost use Rattle.vault_store_model.specs.Edits.{with_row, with_changed, without}
 ghost use Rattle.vault_store_model.specs.Tests.{is_of_key, with_head_columns};
 ghost use Rattle.vault_store_edits.specs.Inside.{IsEdit, IsEditOfSound};
 
-use crate::rowids::check_rowids;
 use crate::parameters::whole;
 use crate::put::{Put, put_row};
+use crate::rowids::check_rowids;
 use sqlite::{Alter, Error, Transaction, params};
 use vault_audit_schema::{heads_columns, insert_text};
 use vault_base::name::{BucketName, ObjectKey};

@@ -5,7 +5,6 @@
 //! column can't take, or a failure of the store.
 #![tactic(auto)]
 
-pub mod rowids;
 pub mod buckets;
 pub mod callers;
 pub mod contents;
@@ -18,6 +17,7 @@ mod laws;
 pub mod meta;
 pub mod parameters;
 mod put;
+pub mod rowids;
 pub mod rules;
 pub mod settings;
 pub mod tenures;

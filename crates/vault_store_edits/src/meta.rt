@@ -6,8 +6,8 @@ ghost use Rattle.vault_store_model.specs.Edits.{with_changed};
 ghost use Rattle.vault_store_model.specs.Tests.{every, with_last, with_last_and_moves, with_last_and_next};
 ghost use Rattle.vault_store_edits.specs.Inside.{IsEditOfSound};
 
-use crate::rowids::check_rowids;
 use crate::parameters::{seconds, whole};
+use crate::rowids::check_rowids;
 use sqlite::{Alter, Error, Transaction, params};
 use vault_base::moment::Moment;
 use vault_base::refusal::Table;

@@ -13,9 +13,9 @@ ghost use Rattle.vault_store_model.specs.Tests.{is_named};
 ghost use Rattle.vault_store_edits.specs.Inside.{CommitsNothing, IsEdit};
 ghost use Rattle.vault_store_edits.specs.Typed.{IsTypedRule};
 
-use crate::rowids::check_rowids;
 use crate::parameters::{bound, noncurrent_days, noncurrent_newer};
 use crate::put::{Put, put_row};
+use crate::rowids::check_rowids;
 use sqlite::{Alter, Error, ErrorCode, Transaction, params};
 use vault_audit_schema::{insert_text, rules_columns};
 use vault_base::name::BucketName;

@@ -4,9 +4,9 @@ ghost use Rattle.std.specs.Prelude.{◌≡◌, nat_lt};
 use std::alloc::Global;
 use vault_base::moment::Moment;
 use vault_base::name::CallerName;
+use vault_core::hearing::Hears;
 use vault_core_model::command::Command;
 use vault_core_model::reply::Reply;
-use vault_core::hearing::Hears;
 
 /// Counts the commands of which it hears, and lets no more be carried out once it has heard of `most`.
 #[derive(Drop)]

@@ -14,8 +14,8 @@ use vault_base::moment::Moment;
 use vault_base::name::CallerName;
 use vault_core_model::command::Command;
 use vault_core_model::reply::Reply;
-use vault_lines_print::command_line::command_line;
 use vault_io::writing::write_bytes;
+use vault_lines_print::command_line::command_line;
 
 /// The last line of a journal whose next change no line makes again. `replay` refuses it.
 const END: &str = "# The journal ends here: no line makes the next change again.\n";

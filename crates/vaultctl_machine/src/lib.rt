@@ -2,10 +2,10 @@
 #![tactic(auto)]
 
 pub mod crashes;
-mod schema_versions;
-pub mod vault_counts;
 mod looks;
 pub mod migration;
 pub mod open_error;
+mod schema_versions;
 pub mod starts;
+pub mod vault_counts;
 pub mod vaults;

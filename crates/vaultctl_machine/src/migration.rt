@@ -20,9 +20,9 @@ ghost use Rattle.vaultctl_machine.specs.VaultCounts.{with_copied};
 ghost use Rattle.vaultctl_machine.specs.Places.{after_a_look};
 ghost use Rattle.vaultctl_machine.specs.Refusals.{FailsForItsRow, IsUncopied, IsUncopiedFrom, LetsBothGo, LetsGo, RefusesItsRowEarlier, Reports};
 
-use crate::schema_versions::{schema_version_of, why_uncopied};
 use crate::looks::{is_one_file, looked_at};
 use crate::open_error::OpenError;
+use crate::schema_versions::{schema_version_of, why_uncopied};
 use crate::starts::Starts;
 use crate::vaults::{
     FileVault, Machine, VaultStore, close_keeper, connect_new, connect_there, let_go, refused,

@@ -28,10 +28,10 @@ ghost use Rattle.vaultctl_machine.specs.Openings.{IsOpenedFrom};
 ghost use Rattle.vaultctl_machine.specs.Places.{after_a_look};
 ghost use Rattle.vaultctl_machine.specs.Refusals.{IsRefusedOver, IsUnmade, IsUnmadeOver, LetsGo, Reports};
 
-use crate::schema_versions::why_unsound;
-use crate::vault_counts::VaultCounts;
 use crate::looks::{cause_of_kind, looked_at};
 use crate::open_error::{OpenError, with_cause};
+use crate::schema_versions::why_unsound;
+use crate::vault_counts::VaultCounts;
 use http_server::Log;
 use sqlite::{Alter, Connection, Error, ErrorCode, FileStore, Files, Start};
 use sqlite_disk::Disk;

@@ -6,10 +6,10 @@ use std::alloc::Global;
 use std::io::Write;
 use vault_base::moment::Moment;
 use vault_base::name::CallerName;
+use vault_core::hearing::Hears;
 use vault_core_model::command::Command;
 use vault_core_model::reply::Reply;
 use vault_lines_read::read_line::Line;
-use vault_core::hearing::Hears;
 use vault_lines_why::explain_line;
 use vaultctl_replay::observer::Observer;
 

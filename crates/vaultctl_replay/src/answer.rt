@@ -13,11 +13,11 @@ use crate::writing::write_bytes;
 use std::alloc::{AllocError, Global};
 use std::io::Write;
 use vault_base::refusal::Refusal;
+use vault_core::hearing::Hears;
 use vault_core::step::step;
 use vault_core_model::command::Timed;
 use vault_core_model::keeper::Keeper;
 use vault_core_model::reply::Reply;
-use vault_core::hearing::Hears;
 use vault_lines_read::read_line::{Line, read_line};
 use vault_lines_reply::reply_line::reply_line;
 

@@ -21,8 +21,8 @@ pub use fault::ReplayFault;
 use std::alloc::Global;
 use std::io::{Read, Write};
 use vault_base::limits::LONGEST_LINE;
-use vault_core_model::keeper::Keeper;
 use vault_core::hearing::Nobody;
+use vault_core_model::keeper::Keeper;
 use vault_io::retry::read_retrying;
 
 /// How many bytes of a line are kept: one more than a line may have, so that a longer one is seen

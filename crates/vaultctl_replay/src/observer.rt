@@ -1,7 +1,7 @@
 //! Who hears of the lines of a script.
 use std::alloc::Global;
-use vault_lines_read::read_line::Line;
 use vault_core::hearing::{Hears, Nobody};
+use vault_lines_read::read_line::Line;
 
 /// Hears of each line of a script, in their order, before it is answered, and of its command once that was carried out.
 pub trait Observer: Hears {

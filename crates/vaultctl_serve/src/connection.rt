@@ -21,8 +21,8 @@ use crate::timed::{TimedAnswer, TimedRequest};
 use std::alloc::Global;
 use std::io::{BufReader, Write};
 use std::time::{Clock, Duration, Instant};
-use vault_core_model::keeper::Keeper;
 use vault_core::hearing::Hears;
+use vault_core_model::keeper::Keeper;
 use vault_http::{Occasion, ServeFault, serve_for};
 
 /// Serves the one request of a connection, which has to be for one of the hosts: what is answered is what comes in time,

@@ -21,8 +21,8 @@ use std::io::Write;
 use std::net::{Ipv4Addr, Net, TcpListener, TcpStream};
 use std::time::Clock;
 use vault_base::moment::Moment;
-use vault_core_model::keeper::Keeper;
 use vault_core::hearing::Hears;
+use vault_core_model::keeper::Keeper;
 use vault_http::{Hosts, Occasion, ServeFault};
 use vaultctl_log::entry::{Door, Trouble};
 

@@ -13,8 +13,8 @@ ghost use Rattle.vaultctl_serve_lines.specs.Doors.{line_trouble, ServedInTurns, 
 use crate::doors::{Arrived, Doors};
 use std::time::{Clock, Duration, Instant};
 use vault_base::moment::Moment;
-use vault_core_model::keeper::Keeper;
 use vault_core::hearing::Hears;
+use vault_core_model::keeper::Keeper;
 use vault_http::Occasion;
 use vaultctl_log::entry::Trouble;
 use vaultctl_replay::ReplayFault;

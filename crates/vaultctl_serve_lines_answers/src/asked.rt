@@ -7,9 +7,9 @@ use std::alloc::{AllocError, Global};
 use vault_base::moment::Moment;
 use vault_base::name::CallerName;
 use vault_base::refusal::Refusal;
+use vault_lines_door::inquiry::{About, Inquiry, read_inquiry};
 use vault_lines_read::read_line::Line;
 use vault_lines_read::stamped::{closer, stamp_line};
-use vault_lines_door::inquiry::{About, Inquiry, read_inquiry};
 use vault_values::fault::LineFault;
 
 /// What a line of the second door asks for.

@@ -29,13 +29,13 @@ use vault_core_model::keeper::Keeper;
 use vault_core_model::reply::{Answer, Reply};
 use vault_files_events::page::{TextPage, events_page};
 use vault_files_events::register_page::register_page;
-use vault_lines_reply::reply_line::reply_line;
+use vault_io::writing::write_bytes;
 use vault_lines_door::buckets_line::{BucketNames, BucketsPage, buckets_line};
 use vault_lines_door::inquiry::{About, After};
 use vault_lines_door::lawful_line::{breach_line, clean_line};
 use vault_lines_door::page_line::page_line;
 use vault_lines_door::status_line::{Status, status_line};
-use vault_io::writing::write_bytes;
+use vault_lines_reply::reply_line::reply_line;
 use vaultctl_replay::ReplayFault;
 
 /// What is answered to what only this door has.

@@ -56,7 +56,10 @@ impl Record for ContentRow {
 }
 
 /// Whether each row of `contents` holds a record in its limits.
-pub fn check_contents<S: Alter>(conn: &mut Connection<S>, schema_version: SchemaVersion) -> Result<bool, Error>
+pub fn check_contents<S: Alter>(
+    conn: &mut Connection<S>,
+    schema_version: SchemaVersion,
+) -> Result<bool, Error>
     requires { HasCleanDisk (state S.Store conn.old) → BeginTo schema_version (state S.Store conn.old).now.schema.tables table.Contents }
     ensures reported { HasCleanDisk (state S.Store conn.new) → IfOk result (AreRowsRight schema_version (state S.Store conn.new).now table.Contents) }
     ensures damaged { HasCleanDisk (state S.Store conn.new) → IfOk result (λ stated. stated ≡ false → (v : Vault) → ¬ AreSoundAs schema_version (state S.Store conn.new).now v) }

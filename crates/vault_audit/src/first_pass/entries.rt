@@ -15,8 +15,8 @@ ghost use Rattle.vault_audit_rows.specs.Health.{IsHealthy, IsMemory, OnlyLooks};
 use sqlite::{Alter, Connection, Error};
 use vault_audit_model::schema::SchemaVersion;
 use vault_audit_records::entries::row::EntryCheck;
-use vault_audit_schema::{entries_columns, select_text};
 use vault_audit_rows::check::check_rows;
+use vault_audit_schema::{entries_columns, select_text};
 use vault_base::moment::Moment;
 
 /// Whether each row of `entries` holds an entry in its limits, none after the last moment and none

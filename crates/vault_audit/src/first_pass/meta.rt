@@ -14,15 +14,18 @@ use sqlite::{Alter, Connection, Error};
 use vault_audit_model::rows::MetaRow;
 use vault_audit_model::schema::SchemaVersion;
 use vault_audit_records::meta::row::MetaPass;
-use vault_audit_schema::{earlier_select_text, meta_columns, select_text};
 use vault_audit_rows::walk::walk;
+use vault_audit_schema::{earlier_select_text, meta_columns, select_text};
 
 /// The query for the rows of `meta`. What a schema version has no column for is 0.
 fn meta_query(schema_version: SchemaVersion) -> &'static str
     ensures { result.now ≡ meta_select schema_version (codes " ORDER BY one") }
 {
     match schema_version {
-        SchemaVersion::First | SchemaVersion::Second => meta_columns!(earlier_select_text, " ORDER BY one"),
+        SchemaVersion::First | SchemaVersion::Second => meta_columns!(
+            earlier_select_text,
+            " ORDER BY one"
+        ),
         SchemaVersion::Third => meta_columns!(select_text, " ORDER BY one"),
     }
 }

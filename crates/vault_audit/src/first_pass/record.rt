@@ -12,8 +12,8 @@ use sqlite::{Alter, Connection, Error, Row};
 use std::marker::PhantomData;
 use vault_audit_model::schema::SchemaVersion;
 use vault_audit_records::row_check::refused;
-use vault_audit_rows::misread::Misread;
 use vault_audit_rows::check::{Check, check_rows};
+use vault_audit_rows::misread::Misread;
 
 /// A record that is one row of a table, whatever the other rows are.
 pub trait Record: Sized + Drop {

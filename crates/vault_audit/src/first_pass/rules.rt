@@ -59,7 +59,10 @@ impl Record for RuleRow {
 }
 
 /// Whether each row of `rules` holds a record in its limits.
-pub fn check_rules<S: Alter>(conn: &mut Connection<S>, schema_version: SchemaVersion) -> Result<bool, Error>
+pub fn check_rules<S: Alter>(
+    conn: &mut Connection<S>,
+    schema_version: SchemaVersion,
+) -> Result<bool, Error>
     requires { HasCleanDisk (state S.Store conn.old) → BeginTo schema_version (state S.Store conn.old).now.schema.tables table.Rules }
     ensures reported { HasCleanDisk (state S.Store conn.new) → IfOk result (AreRowsRight schema_version (state S.Store conn.new).now table.Rules) }
     ensures damaged { HasCleanDisk (state S.Store conn.new) → IfOk result (λ stated. stated ≡ false → (v : Vault) → ¬ AreSoundAs schema_version (state S.Store conn.new).now v) }

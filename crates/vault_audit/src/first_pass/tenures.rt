@@ -58,7 +58,10 @@ impl Record for TenureRow {
 }
 
 /// Whether each row of `tenures` holds a record in its limits. A schema version without that table has none.
-pub fn check_tenures<S: Alter>(conn: &mut Connection<S>, schema_version: SchemaVersion) -> Result<bool, Error>
+pub fn check_tenures<S: Alter>(
+    conn: &mut Connection<S>,
+    schema_version: SchemaVersion,
+) -> Result<bool, Error>
     requires begin { HasCleanDisk (state S.Store conn.old) → BeginTo schema_version (state S.Store conn.old).now.schema.tables table.Tenures }
     requires open { HasCleanDisk (state S.Store conn.old) → IsTrue (state S.Store conn.old).is_open }
     ensures reported { HasCleanDisk (state S.Store conn.new) → IfOk result (AreRecords tenure_row IsTenureRow (tenure_rows_in schema_version (state S.Store conn.new).now)) }

@@ -33,7 +33,10 @@ impl Check for CountCheck {
 
 /// Whether each row of `heads` has the number of held entries of its bucket and key that are no newer than the one that
 /// it names. It is meant for entries whose ids are 1, 2, 3 and so on, and of heads that the rows hold.
-pub fn check_counts<S: Alter>(conn: &mut Connection<S>, schema_version: SchemaVersion) -> Result<bool, Error>
+pub fn check_counts<S: Alter>(
+    conn: &mut Connection<S>,
+    schema_version: SchemaVersion,
+) -> Result<bool, Error>
     requires { IsOfSchemaVersion S.Store conn.old schema_version }
     ensures reported { HasCleanDisk (state S.Store conn.new) → IfOk result (DecidesCountRows (state S.Store conn.new).now) }
     ensures look { OnlyLooks S.Store conn.old conn.new result }

@@ -16,7 +16,10 @@ use vault_audit_model::schema::SchemaVersion;
 
 /// Whether `heads` has exactly a row for each key that holds an entry, with its newest id and how many it
 /// holds. It is meant for a vault with the entries of the rows, whose ids are 1, 2, 3 and so on.
-pub fn check_heads<S: Alter>(conn: &mut Connection<S>, schema_version: SchemaVersion) -> Result<bool, Error>
+pub fn check_heads<S: Alter>(
+    conn: &mut Connection<S>,
+    schema_version: SchemaVersion,
+) -> Result<bool, Error>
     requires { IsOfSchemaVersion S.Store conn.old schema_version }
     ensures reported { HasCleanDisk (state S.Store conn.new) → IfOk result (DecidesHeadsOf (state S.Store conn.new).now) }
     ensures damaged { HasCleanDisk (state S.Store conn.new) → IfOk result (λ found. found ≡ false → (v : Vault) → ¬ AreSoundAs schema_version (state S.Store conn.new).now v) }

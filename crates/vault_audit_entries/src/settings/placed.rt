@@ -10,8 +10,8 @@ use vault_audit_model::rows::SettingRow;
 use vault_audit_model::schema::SchemaVersion;
 use vault_audit_rows::misread::Misread;
 use vault_audit_rows::records::read_setting;
-use vault_audit_schema::{select_text, settings_columns};
 use vault_audit_rows::walk::{Pass, walk};
+use vault_audit_schema::{select_text, settings_columns};
 
 /// The check of settings by rising id and place.
 #[derive(Drop)]

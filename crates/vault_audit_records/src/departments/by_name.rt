@@ -14,8 +14,8 @@ use sqlite::{Alter, Connection, Error, Row};
 use std::marker::Model;
 use vault_audit_model::schema::SchemaVersion;
 use vault_audit_rows::records::read_department;
-use vault_audit_schema::{departments_columns, earlier_select_text, select_text};
 use vault_audit_rows::walk::{Pass, walk};
+use vault_audit_schema::{departments_columns, earlier_select_text, select_text};
 use vault_base::name::DeptName;
 
 /// The check of departments by rising name.

@@ -5,8 +5,8 @@ ghost use Rattle.vault_audit_model.specs.Relations.{IsPast};
 
 use crate::row_check::refused;
 use sqlite::{Error, Row};
-use vault_audit_rows::records::read_entry;
 use vault_audit_rows::check::Check;
+use vault_audit_rows::records::read_entry;
 use vault_base::moment::Moment;
 use vault_core_model::records::{Entry, Removal};
 

@@ -12,8 +12,8 @@ use crate::row_check::refused;
 use sqlite::{Alter, Connection, Error, Row};
 use vault_audit_model::schema::SchemaVersion;
 use vault_audit_rows::records::read_entry;
-use vault_audit_schema::{entries_columns, select_text};
 use vault_audit_rows::walk::{Pass, walk};
+use vault_audit_schema::{entries_columns, select_text};
 use vault_core_model::records::Entry;
 
 /// The check of entries by rising id.

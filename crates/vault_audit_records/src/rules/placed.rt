@@ -15,8 +15,8 @@ use vault_audit_model::rows::RuleRow;
 use vault_audit_model::schema::SchemaVersion;
 use vault_audit_rows::misread::Misread;
 use vault_audit_rows::records::read_rule;
-use vault_audit_schema::{earlier_select_text, rules_columns, select_text};
 use vault_audit_rows::walk::{Pass, walk};
+use vault_audit_schema::{earlier_select_text, rules_columns, select_text};
 use vault_base::name::BucketName;
 use vault_rules::rule::Rule;
 use vault_rules::rule_set::RuleSet;
@@ -106,7 +106,10 @@ fn rules_walk(schema_version: SchemaVersion) -> &'static str
 {
     match schema_version {
         SchemaVersion::First => rules_columns!(earlier_select_text, " ORDER BY bucket, n"),
-        SchemaVersion::Second | SchemaVersion::Third => rules_columns!(select_text, " ORDER BY bucket, n"),
+        SchemaVersion::Second | SchemaVersion::Third => rules_columns!(
+            select_text,
+            " ORDER BY bucket, n"
+        ),
     }
 }
 

@@ -12,8 +12,8 @@ use vault_audit_model::rows::DepartmentRow;
 use vault_audit_model::schema::SchemaVersion;
 use vault_audit_records::departments::query::departments_query;
 use vault_audit_records::row_check::refused;
-use vault_audit_rows::records::read_department;
 use vault_audit_rows::check::{Check, check_rows};
+use vault_audit_rows::records::read_department;
 
 /// The check that a row of `departments` has these sums.
 #[derive(Drop)]

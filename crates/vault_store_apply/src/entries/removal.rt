@@ -15,8 +15,8 @@ ghost use Rattle.vault_store_reads.specs.Quiet.{OnlyReads, IsOpenIfOk};
 ghost use Rattle.vault_store_edits.specs.Commits.{KeepsIfErr};
 
 use crate::commit::commit_part;
-use crate::entries::removal_context::read_removal_context;
 use crate::entries::context::read_context;
+use crate::entries::removal_context::read_removal_context;
 use crate::parts::entry::RemovedEntry;
 use sqlite::{Alter, Connection, Error};
 use vault_base::moment::Moment;
