@@ -20,3 +20,4 @@ pub mod Sound
 pub mod Step
 pub mod Totals
 pub mod Vault
+pub mod Wrapping

@@ -11,3 +11,4 @@ pub mod kept;
 pub mod records;
 pub mod reply;
 pub mod rights;
+pub mod wrapper;

@@ -9,3 +9,4 @@ pub mod migration;
 pub mod open_error;
 pub mod starts;
 pub mod vaults;
+pub mod watched_keeper;
