@@ -68,7 +68,7 @@ pub trait Wrapper: Kept {
         ensures { result ≡ Self.count self.now };
 
     /// Sees what is about to be read.
-    fn before_read(&mut self, _read: Read<'_>)
+    fn before_read(&mut self, _read: &Read<'_>)
         ensures { HasSeen Self.Kept within self.old self.new false }
     {}
 
@@ -109,63 +109,63 @@ impl<W: Wrapper> Keeper for W {
     }
 
     fn last(&mut self) -> Result<Moment, Fault> {
-        self.before_read(Read::Last);
+        self.before_read(&Read::Last);
         self.below().last()
     }
 
     fn next_id(&mut self) -> Result<u64, Fault> {
-        self.before_read(Read::NextId);
+        self.before_read(&Read::NextId);
         let id = self.below().next_id();
         self.shown_id(id)
     }
 
     fn caller(&mut self, name: &CallerName) -> Result<Option<Caller>, Fault> {
-        self.before_read(Read::Caller(name));
+        self.before_read(&Read::Caller(name));
         self.below().caller(name)
     }
 
     fn dept(&mut self, name: &DeptName) -> Result<bool, Fault> {
-        self.before_read(Read::Dept(name));
+        self.before_read(&Read::Dept(name));
         self.below().dept(name)
     }
 
     fn bucket(&mut self, name: &BucketName) -> Result<Option<BucketConfig>, Fault> {
-        self.before_read(Read::Bucket(name));
+        self.before_read(&Read::Bucket(name));
         self.below().bucket(name)
     }
 
     fn rules(&mut self, bucket: &BucketName) -> Result<Option<RuleSet>, Fault> {
-        self.before_read(Read::Rules(bucket));
+        self.before_read(&Read::Rules(bucket));
         self.below().rules(bucket)
     }
 
     fn head(&mut self, bucket: &BucketName, key: &ObjectKey) -> Result<Option<Head>, Fault> {
-        self.before_read(Read::Head(key));
+        self.before_read(&Read::Head(key));
         self.below().head(bucket, key)
     }
 
     fn entries(&mut self, bucket: &BucketName, key: &ObjectKey) -> Result<Vec<Held>, Fault> {
-        self.before_read(Read::Entries(key));
+        self.before_read(&Read::Entries(key));
         self.below().entries(bucket, key)
     }
 
     fn entry(&mut self, id: VersionId) -> Result<Option<Entry>, Fault> {
-        self.before_read(Read::Entry(id));
+        self.before_read(&Read::Entry(id));
         self.below().entry(id)
     }
 
     fn setting(&mut self, id: VersionId) -> Result<Option<LastSetting>, Fault> {
-        self.before_read(Read::Setting(id));
+        self.before_read(&Read::Setting(id));
         self.below().setting(id)
     }
 
     fn settings(&mut self, id: VersionId) -> Result<Settings, Fault> {
-        self.before_read(Read::Settings(id));
+        self.before_read(&Read::Settings(id));
         self.below().settings(id)
     }
 
     fn content(&mut self, id: VersionId) -> Result<Option<Content>, Fault> {
-        self.before_read(Read::Content(id));
+        self.before_read(&Read::Content(id));
         self.below().content(id)
     }
 
@@ -175,7 +175,7 @@ impl<W: Wrapper> Keeper for W {
         after: &KeyPrefix,
         most: u32,
     ) -> Result<Vec<ObjectKey>, Fault> {
-        self.before_read(Read::Keys(after, most));
+        self.before_read(&Read::Keys(after, most));
         self.below().keys(bucket, after, most)
     }
 
@@ -186,12 +186,12 @@ impl<W: Wrapper> Keeper for W {
         than: Option<VersionId>,
         most: u32,
     ) -> Result<Vec<VersionId>, Fault> {
-        self.before_read(Read::Ids(key, than.as_ref().copied(), most));
+        self.before_read(&Read::Ids(key, than.as_ref().copied(), most));
         self.below().ids(bucket, key, than, most)
     }
 
     fn buckets(&mut self, after: &str, most: u32) -> Result<Vec<BucketName>, Fault> {
-        self.before_read(Read::Buckets(after, most));
+        self.before_read(&Read::Buckets(after, most));
         self.below().buckets(after, most)
     }
 
@@ -201,33 +201,33 @@ impl<W: Wrapper> Keeper for W {
         batch: &BatchName,
         line: u32,
     ) -> Result<Option<Note>, Fault> {
-        self.before_read(Read::Note(batch, line));
+        self.before_read(&Read::Note(batch, line));
         self.below().note(bucket, batch, line)
     }
 
     fn walk_removed<S: Sink>(&mut self, sink: &mut S) -> Result<bool, Fault> {
-        self.before_read(Read::Removed);
+        self.before_read(&Read::Removed);
         self.below().walk_removed(sink)
     }
 
     fn moves(&mut self) -> Result<u32, Fault> {
-        self.before_read(Read::Moves);
+        self.before_read(&Read::Moves);
         let moves = self.below().moves();
         self.shown_moves(moves)
     }
 
     fn tenures(&mut self, id: VersionId) -> Result<Tenures, Fault> {
-        self.before_read(Read::Tenures(id));
+        self.before_read(&Read::Tenures(id));
         self.below().tenures(id)
     }
 
     fn bucket_held(&mut self, bucket: &BucketName) -> Result<(u64, u64), Fault> {
-        self.before_read(Read::BucketHeld(bucket));
+        self.before_read(&Read::BucketHeld(bucket));
         self.below().bucket_held(bucket)
     }
 
     fn totals(&mut self, dept: &DeptName) -> Result<Row, Fault> {
-        self.before_read(Read::Totals(dept));
+        self.before_read(&Read::Totals(dept));
         let totals = self.below().totals(dept);
         self.shown_totals(totals)
     }

@@ -2,7 +2,7 @@
 use std::alloc::Global;
 use std::test::Fail;
 use vault_core_model::keeper::Keeper;
-use vault_tests_doubles::watched_keeper::WatchedKeeper;
+use vault_tests_doubles::noting_keeper::NotingKeeper;
 use vault_transcript::transcript::play;
 use vault_transcript::trial::{Trial, try_after};
 
@@ -33,7 +33,7 @@ struct Full {
 
 impl Full {
     fn play<K: Keeper>(&self, alloc: Global, keeper: &mut K) -> Result<(), Fail> {
-        let mut full = WatchedKeeper::new(alloc, keeper, self.ids);
+        let mut full = NotingKeeper::new(alloc, keeper, self.ids);
         play(alloc, &mut full, self.transcript)
     }
 }

@@ -2,5 +2,5 @@
 #![tactic(auto)]
 
 pub mod fillings;
+pub mod noting_keeper;
 pub mod rigged_keeper;
-pub mod watched_keeper;

@@ -1,18 +1,9 @@
 //! A keeper that lies, for tests of limits that no vault can be filled up to.
-use vault_base::content::Content;
-use vault_base::moment::Moment;
-use vault_base::name::{
-    BatchName, BucketName, CallerName, DeptName, KeyPrefix, ObjectKey, VersionId,
-};
 use vault_core_model::change::Change;
 use vault_core_model::halt::Fault;
-use vault_core_model::keeper::{Keeper, Sink};
+use vault_core_model::keeper::Keeper;
 use vault_core_model::kept::Kept;
-use vault_core_model::records::{
-    BucketConfig, Caller, Entry, Head, LastSetting, Note, Settings, Tenures,
-};
-use vault_rules::plan::Held;
-use vault_rules::rule_set::RuleSet;
+use vault_core_model::wrapper::Wrapper;
 use vault_tally::row::Row;
 
 /// Answers what the keeper below does, but for the bytes admitted, the next id and the number of moves, and
@@ -56,115 +47,49 @@ impl<K: Kept> Kept for RiggedKeeper<'_, K> {
     ghost sound = { λ _ never. absurd never };
 }
 
-impl<K: Keeper> Keeper for RiggedKeeper<'_, K> {
-    fn faults(&self) -> u64 {
+impl<K: Keeper> Wrapper for RiggedKeeper<'_, K> {
+    type Below = K;
+
+    ghost use Rattle.std.specs.Prelude.{refl};
+
+    ghost within = { λ k. k.keeper.now };
+
+    ghost with_below = { λ k below. record k { keeper = record k.keeper { now = below } } };
+
+    ghost wraps = { record {
+      put = λ _ _. refl;
+      vault = λ _. refl;
+      trusts = λ _ never. absurd never;
+      honest = λ _ _ _ never. never;
+      counted = λ _ _ _ is. is;
+    } };
+
+    fn below(&mut self) -> &mut K {
+        self.keeper
+    }
+
+    fn all_faults(&self) -> u64 {
         self.keeper.faults()
     }
 
-    fn last(&mut self) -> Result<Moment, Fault> {
-        self.keeper.last()
+    fn before_change(&mut self, _change: &Change) -> Result<(), Fault> {
+        self.asked = self.asked.saturating_add(1);
+        Err(Fault::Memory)
     }
 
-    fn next_id(&mut self) -> Result<u64, Fault> {
+    fn shown_id(&self, id: Result<u64, Fault>) -> Result<u64, Fault> {
+        let _ = id?;
         Ok(self.next_id)
     }
 
-    fn caller(&mut self, name: &CallerName) -> Result<Option<Caller>, Fault> {
-        self.keeper.caller(name)
-    }
-
-    fn dept(&mut self, name: &DeptName) -> Result<bool, Fault> {
-        self.keeper.dept(name)
-    }
-
-    fn bucket(&mut self, name: &BucketName) -> Result<Option<BucketConfig>, Fault> {
-        self.keeper.bucket(name)
-    }
-
-    fn rules(&mut self, bucket: &BucketName) -> Result<Option<RuleSet>, Fault> {
-        self.keeper.rules(bucket)
-    }
-
-    fn head(&mut self, bucket: &BucketName, key: &ObjectKey) -> Result<Option<Head>, Fault> {
-        self.keeper.head(bucket, key)
-    }
-
-    fn entries(&mut self, bucket: &BucketName, key: &ObjectKey) -> Result<Vec<Held>, Fault> {
-        self.keeper.entries(bucket, key)
-    }
-
-    fn entry(&mut self, id: VersionId) -> Result<Option<Entry>, Fault> {
-        self.keeper.entry(id)
-    }
-
-    fn setting(&mut self, id: VersionId) -> Result<Option<LastSetting>, Fault> {
-        self.keeper.setting(id)
-    }
-
-    fn settings(&mut self, id: VersionId) -> Result<Settings, Fault> {
-        self.keeper.settings(id)
-    }
-
-    fn content(&mut self, id: VersionId) -> Result<Option<Content>, Fault> {
-        self.keeper.content(id)
-    }
-
-    fn keys(
-        &mut self,
-        bucket: &BucketName,
-        after: &KeyPrefix,
-        most: u32,
-    ) -> Result<Vec<ObjectKey>, Fault> {
-        self.keeper.keys(bucket, after, most)
-    }
-
-    fn ids(
-        &mut self,
-        bucket: &BucketName,
-        key: &ObjectKey,
-        than: Option<VersionId>,
-        most: u32,
-    ) -> Result<Vec<VersionId>, Fault> {
-        self.keeper.ids(bucket, key, than, most)
-    }
-
-    fn buckets(&mut self, after: &str, most: u32) -> Result<Vec<BucketName>, Fault> {
-        self.keeper.buckets(after, most)
-    }
-
-    fn note(
-        &mut self,
-        bucket: &BucketName,
-        batch: &BatchName,
-        line: u32,
-    ) -> Result<Option<Note>, Fault> {
-        self.keeper.note(bucket, batch, line)
-    }
-
-    fn walk_removed<S: Sink>(&mut self, sink: &mut S) -> Result<bool, Fault> {
-        self.keeper.walk_removed(sink)
-    }
-
-    fn moves(&mut self) -> Result<u32, Fault> {
+    fn shown_moves(&self, moves: Result<u32, Fault>) -> Result<u32, Fault> {
+        let _ = moves?;
         Ok(self.moves)
     }
 
-    fn tenures(&mut self, id: VersionId) -> Result<Tenures, Fault> {
-        self.keeper.tenures(id)
-    }
-
-    fn bucket_held(&mut self, bucket: &BucketName) -> Result<(u64, u64), Fault> {
-        self.keeper.bucket_held(bucket)
-    }
-
-    fn totals(&mut self, dept: &DeptName) -> Result<Row, Fault> {
-        let mut row = self.keeper.totals(dept)?;
+    fn shown_totals(&self, totals: Result<Row, Fault>) -> Result<Row, Fault> {
+        let mut row = totals?;
         row.admitted = self.admitted;
         Ok(row)
-    }
-
-    fn apply(&mut self, _at: Moment, _change: &Change) -> Result<(), Fault> {
-        self.asked = self.asked.saturating_add(1);
-        Err(Fault::Memory)
     }
 }

@@ -1,5 +1,6 @@
 pub mod CarriedLemmas
 mod ClosingLemmas
+pub mod Failures
 mod FoundLemmas
 mod MigrationLemmas
 mod OpeningLemmas

@@ -6,3 +6,4 @@ pub mod Openings
 pub mod Places
 pub mod Refusals
 pub mod Faults
+pub mod Watched

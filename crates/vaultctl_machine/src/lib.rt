@@ -9,3 +9,4 @@ mod schema_versions;
 pub mod starts;
 pub mod vault_counts;
 pub mod vaults;
+pub mod watched_keeper;

@@ -5,4 +5,4 @@
 pub mod cause;
 pub mod opened_files;
 pub mod places;
-pub mod watched_keeper;
+pub mod watch;

@@ -2,7 +2,7 @@
 ghost use Rattle.std.specs.Prelude.{◌≡◌, ◌≢◌, ◌↔◌, IsTrue, IfOk, OnErr, false};
 ghost use Rattle.std.specs.IoError.{error_kind};
 
-use crate::watched_keeper::Watch;
+use crate::watch::Watch;
 use std::fs;
 use std::io::{self, ErrorKind, Write};
 use std::os::unix::fs::MetadataExt;
