@@ -2,9 +2,9 @@
 use std::alloc::Global;
 use std::test::Fail;
 use vault_core_model::keeper::Keeper;
-use vault_tests_doubles::fillings::{FILLINGS, Filling, fill, text_of};
-use vault_tests_doubles::watched_keeper::calls_of;
+use vault_transcript::fillings::{FILLINGS, Filling, fill, text_of};
 use vault_transcript::trial::{Trial, compare, try_after};
+use vault_transcript::watched_keeper::calls_of;
 
 const RULES: &str = r#"
 {"at":"2014-01-01T00:00:00Z","as":"ann","do":"set-rules","bucket":"docs","rules":[{"ID":"r1","Status":"Enabled","Expiration":{"Days":1}}]}

@@ -3,9 +3,9 @@
 use std::alloc::Global;
 use std::test::Fail;
 use vault_core_model::keeper::Keeper;
-use vault_tests_doubles::fillings::{FILLINGS, fill};
-use vault_tests_doubles::watched_keeper::calls_of;
+use vault_transcript::fillings::{FILLINGS, fill};
 use vault_transcript::trial::{Trial, compare, try_after};
+use vault_transcript::watched_keeper::calls_of;
 
 /// The keys are `k1001` to `k1600`, each with one version.
 const KEYS: u32 = 600;

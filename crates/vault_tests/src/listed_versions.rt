@@ -3,9 +3,9 @@
 use std::alloc::Global;
 use std::test::Fail;
 use vault_core_model::keeper::Keeper;
-use vault_tests_doubles::watched_keeper::calls_of;
 use vault_transcript::transcript::play;
 use vault_transcript::trial::{Trial, compare, try_on_new};
+use vault_transcript::watched_keeper::calls_of;
 
 /// How many versions the key `v` has, with the ids from 1, a listing of it, and what that asks of its keeper.
 struct Listing {
