@@ -22,9 +22,11 @@ jobs some of those after the vault is open; with `--long` each of them. A run is
 
   - The reply is the refusal `Memory`, and the vault is unchanged.
   - A lifecycle run was stopped by `Memory`.
+  - An intake of three rows, of which the second is refused, was stopped by `Memory` after some of them. These are in the
+    vault, and the same words given again take in the others.
   - The program ended with status 1 and `words: Memory`, `open: Memory`, or its own name with `Memory`, and the job is done or
     not. An `init` or a `migrate` that isn't done is done by the same words given again.
-  - Nothing differs from the untroubled run.
+  - Nothing differs from the untroubled run, or nothing is said in words of the refused row.
 """
 
 import collections
@@ -38,6 +40,7 @@ import shutil
 import sqlite3
 import sys
 from concurrent.futures import ThreadPoolExecutor
+from typing import NamedTuple
 
 from trials.program import EXAMPLES, IS_LONG, PROGRAM, Case, Ran, check, make_office, needs, printed, ran_words
 from proved import Loaded, first_number
@@ -301,6 +304,14 @@ EARLIER = EXAMPLES / "earlier" / "schema2" / "rows.sql"
 Tables = dict[str, list[str]]
 
 
+class Ended(NamedTuple):
+    """What a job came to: what the vaults hold then, and once the words of an intake that was stopped were given again."""
+
+    ran: Ran
+    left: Tables
+    again: Tables
+
+
 def tables_in(folder: pathlib.Path) -> Tables:
     """What the vaults of a folder hold. A file without a table holds what a missing one does."""
     found: Tables = {}
@@ -310,21 +321,34 @@ def tables_in(folder: pathlib.Path) -> Tables:
     return found
 
 
-def judge_job(name: str, before: Tables, whole: tuple[Ran, Tables], here: tuple[Ran, Tables]) -> str:
+def judge_intake(before: Tables, whole: Ended, here: Ended) -> str:
+    """How an intake ended that out of memory stopped: after how many of its rows. Given again it takes in the others."""
+    *done, stopped = here.ran.out.splitlines()
+    check(stopped == "stopped Memory" and done == whole.ran.out.splitlines()[:len(done)], "its rows")
+    check("intake: memory ran out; given again, the same intake goes on" in here.ran.err, "its words")
+    check((here.left == before) == (not done) and here.left != whole.left, "what it left")
+    check(here.again == whole.left, "what it came to when it was given again")
+    return f"stopped after {len(done)} rows"
+
+
+def judge_job(name: str, before: Tables, whole: Ended, here: Ended) -> str:
     """How a job ended of which an allocation was refused; `none` where nothing differs from the untroubled run."""
     if here == whole:
         return "none"
-    (ran, left), (done, after) = here, whole
-    said = ran.err.partition("\n")[0]
+    ran, left = here.ran, here.left
+    said = next((it for it in ran.err.splitlines() if not it.startswith("row ")), "")
     check(ran.status == 1, "its status")
-    if ran.out in (f"{MEMORY}\n", "stopped Memory\n"):
+    if name == "intake" and "stopped Memory" in ran.out:
+        return judge_intake(before, whole, here)
+    if ran.out == f"{MEMORY}\n":
         check(left == before, "it was refused, and changed something")
-        check(MEMORY in ran.out or "intake: memory ran out; given again, the same intake goes on" in ran.err, "its words")
         return "refused"
+    if not said and (ran.out, left) == (whole.ran.out, whole.left):
+        return "nothing said of a row"
     if STOPPED.fullmatch(ran.out.strip()):
         return "stopped"
     check(said in (NO_WORDS, "open: Memory", f"{name}: Memory"), "what is said of it")
-    check(done.out.startswith(ran.out) and left in (before, after), "what was done of it")
+    check(whole.ran.out.startswith(ran.out) and left in (before, whole.left), "what was done of it")
     return said
 
 
@@ -337,38 +361,42 @@ class Jobs(Case):
         make_office(self.made / "v", "put", "config", "delete-version", "run", "report", at=["--at", "2024-01-15T09:00:00Z"])
         printed("dept", self.made / "v", "court", "--as", "registrar", "--at", "2024-01-15T09:00:00Z")
         printed("replay", self.made / "v", given=MADE)
-        (self.made / "list.csv").write_text("file,key,mode,until,hold\nlist.csv,c,,,\n")
+        (self.made / "list.csv").write_text("file,key,mode,until,hold\nlist.csv,c,,,\nnone.csv,d,,,\nlist.csv,e,,,\n")
         with contextlib.closing(sqlite3.connect(self.made / "early")) as base:
             base.executescript(EARLIER.read_text())
 
-    def carried_out(self, name: str, number: int) -> tuple[Ran, Tables]:
-        """What a job comes to with that allocation refused, and what the vaults hold then."""
+    def carried_out(self, name: str, number: int) -> Ended:
+        """What a job comes to with that allocation refused."""
         place = self.folder / f"{name}-{number}"
         shutil.copytree(self.made, place)
         with self.loaded.refusing(number) as words:
             ran = ran_words(*words, name, *WORDS_OF[name], cwd=place, env={}, timeout=LIMIT)
-        found = ran, tables_in(place)
-        if name in MAKING and ran.status == 1 and not any("CREATE TABLE" in it for it in found[1]["new"]):
+        left = tables_in(place)
+        if name in MAKING and ran.status == 1 and not any("CREATE TABLE" in it for it in left["new"]):
             again = ran_words(PROGRAM, name, *WORDS_OF[name], cwd=place, timeout=LIMIT)
             check(again.status == 0, f"{name} after the refusal of allocation {number}: {again}")
+        if "stopped Memory" in ran.out:
+            ran_words(PROGRAM, name, *WORDS_OF[name], cwd=place, timeout=LIMIT)
+        found = Ended(ran, left, tables_in(place) if "stopped Memory" in ran.out else left)
         shutil.rmtree(place)
         return found
 
     def first(self, name: str) -> int:
         """The first allocation of a job after its vault is open."""
-        return first_number(lambda it: not self.carried_out(name, it)[0].err.startswith("open: Memory"), EARLIEST)
+        return first_number(lambda it: not self.carried_out(name, it).ran.err.startswith("open: Memory"), EARLIEST)
 
     def look_at(self, name: str, numbers: range, pool: ThreadPoolExecutor) -> collections.Counter[str]:
         """Judges a run for each of these allocations, up to the last one of the job; how often each ending came."""
         before, whole = tables_in(self.made), self.carried_out(name, NEVER)
-        check(whole[0].status == 0, f"{name}: {whole[0]}")
+        # Of the intake a row is refused.
+        check(whole.ran.status == (name == "intake"), f"{name}: {whole.ran}")
         ways, untroubled = collections.Counter[str](), 0
         for some in (numbers[at:at + UNTROUBLED] for at in itertools.count(0, UNTROUBLED)):
             for number, here in zip(some, pool.map(lambda it: self.carried_out(name, it), some)):
                 try:
                     way = judge_job(name, before, whole, here)
                 except AssertionError as wrong:
-                    raise AssertionError(f"{name}, allocation {number}: {wrong}: {here[0]}") from None
+                    raise AssertionError(f"{name}, allocation {number}: {wrong}: {here.ran}") from None
                 untroubled = untroubled + 1 if way == "none" else 0
                 ways[way] += 1
             if untroubled >= UNTROUBLED:

@@ -17,6 +17,7 @@ Forty commands and two kills of each kind are tried; by `--long` a thousand comm
 """
 
 import contextlib
+import itertools
 import json
 import os
 import pathlib
@@ -309,13 +310,13 @@ class Calls(Both):
         return ["strace", "-qq", "-o", self.folder / "trace", "-P", self.folder / "first" / path, "-e", what, *more]
 
     def test_kills_before_the_journal(self) -> None:
-        """A kill between a change and its line: the vault has that one more, which wasn't answered."""
-        for number in range(1, TIMES + 1):
-            with self.subTest(number):
+        """A kill between a change and its line: the vault has that one more, which wasn't answered, at either door."""
+        for number, by_line in itertools.product(range(1, TIMES + 1), (True, False)):
+            with self.subTest(number, by_line=by_line):
                 server = self.serve(*self.traced("trace=write", "journal", "-e", f"inject=write:signal=KILL:when={number}"))
                 for count in range(1, number + 1):
                     line = {"do": "put", "bucket": "docs", "key": f"n/{count}", "text": "hello"}
-                    answer = server.ask(**line)
+                    answer = server.ask(**line) if by_line else server.request("PUT", f"/docs/n/{count}", "hello")
                     self.assertEqual(answer is None, count == number)
                 self.assertIn(server.ended(), KILLED)
                 copy = self.carried_out(server.journal)

@@ -180,8 +180,10 @@ class Reads(Case):
         self.server.start()
         self.addCleanup(self.server.serving.stderr.close)
         self.addCleanup(self.server.end)
-        counts = {it["do"]: self.look_at(it) for it in ASKED}
-        self.assertGreater(min(counts.values()), 2, f"the reads of each line: {counts}")
+        counts = [(it["do"], self.look_at(it)) for it in ASKED]
+        self.assertGreater(min(count for _, count in counts), 2, f"the reads of each line: {counts}")
+        failures = self.reply(line("registrar", "status"))["ok"]["failures"]
+        self.assertEqual(failures, sum(count for _, count in counts), "the failures that the server reports")
         self.assertEqual(self.reply(line("registrar", "close")), {"ok": {}})
         self.assertEqual(self.server.serving.wait(60), 0)
         self.is_sound(self.file)

@@ -3,7 +3,7 @@
 A text is `examples/requests/NAME.txt`. It has requests, each a line, and after them the answer to each of these,
 in a line that begins with two spaces; an empty line goes before requests of another answer. `|` stands for CR LF, `\\n`
 for a line feed, `\\t` for a tab, NOTHING for no byte at all, and ` .. ` in an answer for whatever is between its
-beginning and its end. Where an answer is to have `date: NOW` or `"admitted":"NOW"`, it has a moment, as RFC 9110 writes
+beginning and its end; `{TEXT*N}` is that text N times. Where an answer is to have `date: NOW` or `"admitted":"NOW"`, it has a moment, as RFC 9110 writes
 a date or as `YYYY-MM-DDTHH:MM:SSZ`, that is the machine's but for two minutes. Lines that begin with `#` say something.
 
 Each text has a vault of its own, which begins with the lines of `examples/requests/opening.jsonl`, and each request a
@@ -27,6 +27,7 @@ MOMENTS = (
     (re.compile(rb'(?<="admitted":")[^"]*'), "%Y-%m-%dT%H:%M:%SZ"),
 )
 NEAR = timedelta(minutes=2)
+REPEATED = re.compile(r"\{([^{}*]+)\*(\d+)\}")
 
 
 def exchanges(text):
@@ -43,6 +44,7 @@ def bytes_of(text):
     """What a request or an answer stands for."""
     if text == "NOTHING":
         return b""
+    text = REPEATED.sub(lambda it: it[1] * int(it[2]), text)
     for mark, meant in STANDS_FOR:
         text = text.replace(mark, meant)
     return text.encode()

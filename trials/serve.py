@@ -16,6 +16,7 @@ late all the same is tried again; what is late three times is wrong.
 import contextlib
 import os
 import pathlib
+import random
 import select
 import shutil
 import socket
@@ -252,6 +253,33 @@ def half_closed(server):
             peer.sendall(sent)
             peer.shutdown(socket.SHUT_WR)
             server.wants(server.read_at_once(peer), status, text, f"half-closed after {len(sent)} bytes")
+    server.check()
+
+
+def large_bodies(server):
+    """Of a large body that breaks off nothing is kept. A whole one is what was sent, in whatever pieces, and what comes
+    after it is no part of it."""
+    content = random.Random(1).randbytes(40_000)
+    request = put("large", content)
+    head = len(request) - len(content)
+    for size in (0, 1, 4_096, 16_383, 16_384, 16_385, 32_768, 39_999):
+        with server.connect() as peer:
+            peer.sendall(request[:head + size])
+            peer.shutdown(socket.SHUT_WR)
+            server.wants(server.read_at_once(peer), 400, b"MalformedBody", f"a body that ends after {size} bytes")
+        peer = server.connect()
+        peer.sendall(request[:head + size])
+        reset(peer)
+    server.wants(server.ask(get("large")), 404, b"NoSuchKey", "a get of what broke off")
+    for piece in (1_000, 4_097, 16_384, len(request)):
+        with server.connect() as peer:
+            peer.setsockopt(socket.IPPROTO_TCP, socket.TCP_NODELAY, 1)
+            for begin in range(0, len(request), piece):
+                peer.sendall(request[begin:begin + piece])
+            peer.sendall(get("large"))
+            server.wants(server.read_at_once(peer), 200, b"x-amz-version-id: ", f"a body in pieces of {piece} bytes")
+        if content_of(server.ask(get("large"))) != content:
+            wrong(f"a get of a body that came in pieces of {piece} bytes")
     server.check()
 
 
@@ -553,6 +581,7 @@ TRIALS = {
     "slow-head": (slow_head, []),
     "slow-body": (slow_body, []),
     "half-closed": (half_closed, []),
+    "large-bodies": (large_bodies, []),
     "resetting": (resetting, []),
     "oversized": (oversized, []),
     "endless": (endless, []),

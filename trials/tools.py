@@ -7,11 +7,6 @@ GROWTHS = "tools/refuse-growths"
 TOOLS = {
     "kill_while_serving": ["bench/kill-while-serving", "--program", str(PROGRAM), "--rounds", "100"],
     "growths_of_requests": [GROWTHS, "vault_tests_http", "growths::a_refused_growth_is_no_other_answer"],
-    "growths_of_a_run": [GROWTHS, "vault_tests", "growths::a_refused_growth_stops_a_run"],
-    "growths_of_an_intake": [GROWTHS, "vault_tests_files", "faults::growths::a_refused_growth_stops_an_intake"],
-    "growths_of_a_printed_intake": [
-        GROWTHS, "vault_tests_files", "faults::growths::a_refused_growth_in_an_intake_that_is_printed",
-    ],
     "wrong_answers": ["tools/wrong-bodies"],
     "turned_lines": ["tools/wrong-bodies", "--lines", "--seconds", "60"],
     "edits": ["tools/try-edits"],

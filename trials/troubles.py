@@ -5,7 +5,8 @@ server ends it. Then a server answers a line and a request, and in each run one 
 reading of its monotonic clock fails: the answers say what was done, the log has an entry with the right result for each,
 and the vault is sound.
 
-Where the machine's clock shows a moment before 1970 or after 9999, each job, request and line that needs one is refused.
+Where the machine's clock shows a moment before 1970 or after 9999, each job, request and line that needs one is refused;
+so is a request where it shows one before the vault's last change.
 """
 
 import collections
@@ -23,7 +24,7 @@ from typing import Any, Callable, Iterable
 
 from trials.door import LIMIT, Server, get, line, put
 from trials.program import IS_LONG, PROGRAM, Case, Ran, check, make_office, needs, printed
-from trials.servers import HOST, answer_to, read_all
+from trials.servers import HOST, answer_to, ended, free_port, read_all, started
 from trials.trail import request
 from proved import Loaded, first_number
 
@@ -40,6 +41,20 @@ END = line("registrar", "close")
 # What a clock shows, in seconds after the beginning of 1970: a second before that, and the first second after 9999.
 NO_MOMENTS = (-1, 253_402_300_800)
 NO_MOMENT = '{"error":{"code":"ClockOutOfRange","n":2}}\n'
+# What a whole request and a part of a head get then: without a moment there is no date.
+UNDATED = [
+    b"HTTP/1.1 503 Service Unavailable\r\nconnection: close\r\ncontent-type: application/json\r\ncontent-length: 32\r\n\r\n"
+    b'{"code":"ClockOutOfRange","n":2}',
+    b"HTTP/1.1 400 Bad Request\r\nconnection: close\r\ncontent-type: application/json\r\ncontent-length: 33\r\n\r\n"
+    b'{"code":"InvalidArgument","n":10}',
+]
+# 2100-01-01T00:00:00Z, and what a request gets a second before it of a vault that was changed then.
+CHANGED_AT = 4_102_444_800
+TOO_EARLY = (
+    b"HTTP/1.1 503 Service Unavailable\r\ndate: Thu, 31 Dec 2099 23:59:59 GMT\r\nconnection: close\r\n"
+    b"content-type: application/json\r\ncontent-length: 26\r\n\r\n"
+    b'{"code":"ClockBack","n":1}'
+)
 WHY = "the time lies outside 1970 to 9999, or the machine's clock can't be read: correct --at, or set the clock\n"
 
 
@@ -269,14 +284,30 @@ class NoMoment(Case):
             server = Server(self.folder)
             server.start("--log", front=self.loaded.front(shown))
             try:
-                answer = answer_to(server.port, request("GET", "/docs/a"))
+                answers = [answer_to(server.port, it) for it in (request("GET", "/docs/a"), b"GET\r\n")]
                 asked = [put("a"), get("a"), line("registrar", "status"), END]
                 replies = server.lines(b"".join(asked))
             finally:
                 server.end()
-            check(answer.startswith(b"HTTP/1.1 503 ") and b'"code":"ClockOutOfRange"' in answer, f"a request gets {answer!r}")
+            self.assertEqual(answers, UNDATED)
             self.assertEqual(replies, [NO_MOMENT.encode().rstrip()] * len(asked))
             assert server.serving.stderr is not None
             found = entries(server.serving.stderr.read())
-            wanted = [(door, "ClockOutOfRange", False) for door in ("http", *["lines"] * len(asked))]
+            wanted = [("http", "ClockOutOfRange", False), ("http", "InvalidArgument", False)]
+            wanted += [("lines", "ClockOutOfRange", False)] * len(asked)
             self.assertEqual([(it["door"], it["result"], "at" in it) for it in found], wanted)
+
+    def test_earlier(self) -> None:
+        """Two changes at one reading are fine, and at an earlier one nothing is answered but that."""
+        for shown, asked, wanted in (
+            (CHANGED_AT, request("PUT", "/docs/a", body=b"hello"), b"x-amz-version-id: 1\r\n\r\n"),
+            (CHANGED_AT, request("PUT", "/docs/a", body=b"again"), b"x-amz-version-id: 2\r\n\r\n"),
+            (CHANGED_AT - 1, request("GET", "/docs/a"), TOO_EARLY),
+        ):
+            port = free_port()
+            server = started(FILE, port, folder=self.folder, front=self.loaded.front(shown))
+            try:
+                answer = answer_to(port, asked)
+            finally:
+                ended(server)
+            check(answer.endswith(wanted), f"where the clock shows {shown} a request gets {answer!r}")

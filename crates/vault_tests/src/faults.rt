@@ -1,12 +1,12 @@
-//! What a fault of the reader, the writer or the device leaves.
+//! What a fault of the reader or the writer leaves.
 use std::alloc::Global;
-use std::io::{self, BufWriter, ErrorKind, Read, Write};
+use std::io::{BufWriter, Read, Write};
 use std::test::Fail;
 use vault_core_list::list_keeper::ListKeeper;
 use vault_core_model::keeper::Keeper;
 use vault_failing::streams::{FailingReader, FailingWriter};
-use vault_transcript::transcript::{play, replies};
-use vault_transcript::trial::{Trial, compare, try_on_failing};
+use vault_transcript::transcript::replies;
+use vault_transcript::trial::{Trial, compare};
 use vaultctl_replay::{ReplayFault, replay};
 
 const SCRIPT: &str = r#"{"at":"2014-01-01T00:00:00Z","as":"registrar","do":"add-dept","dept":"d"}
@@ -141,53 +141,6 @@ fn a_reader_that_fails(rt: HostRuntime) -> Result<(), Fail> {
     Ok(())
 }
 
-/// Gives one byte at a time, with a signal that interrupts it before each.
-#[derive(Drop)]
-struct InterruptedReader<'a> {
-    bytes: &'a [u8],
-    is_interrupted: bool,
-}
-
-impl Read for InterruptedReader<'_> {
-    fn read(&mut self, buf: &mut [u8]) -> io::Result<usize> {
-        self.is_interrupted = !self.is_interrupted;
-        if self.is_interrupted {
-            return Err(io::Error::from(ErrorKind::Interrupted));
-        }
-        let size = buf.len().min(1);
-        self.bytes.read(&mut buf[..size])
-    }
-}
-
-/// The script with 1,000 empty lines after it.
-fn with_empty_lines(alloc: Global) -> Result<String, Fail> {
-    let mut input = String::new(alloc);
-    input.push_str(SCRIPT)?;
-    for _ in 0..1_000 {
-        input.push('\n')?;
-    }
-    Ok(input)
-}
-
-struct Interrupted;
-
-impl Trial for Interrupted {
-    fn carry_out<K: Keeper>(&self, alloc: Global, keeper: &mut K) -> Result<(), Fail> {
-        let input = with_empty_lines(alloc)?;
-        let mut reader = InterruptedReader {
-            bytes: input.as_bytes(),
-            is_interrupted: false,
-        };
-        compare_read(alloc, keeper, &mut reader, Ok(()), REPLIES.len())
-    }
-}
-
-/// The script with 1,000 empty lines after it, in pieces of one byte: a signal is no fault of the reader.
-#[test]
-fn a_reader_that_is_interrupted(rt: HostRuntime) -> Result<(), Fail> {
-    try_on_empty(rt.alloc(), &Interrupted)
-}
-
 /// n writes, each of one reply, after which the writer fails.
 #[derive(Clone, Copy)]
 struct CutWriter {
@@ -251,93 +204,4 @@ impl Trial for HeldBack {
 #[test]
 fn a_writer_that_holds_back(rt: HostRuntime) -> Result<(), Fail> {
     try_on_empty(rt.alloc(), &HeldBack)
-}
-
-/// A transcript over a vault whose device fails once meanwhile.
-#[derive(Clone, Copy)]
-struct FailsOnce {
-    transcript: &'static str,
-}
-
-fn compare_faults<K: Keeper>(keeper: &K, wanted: u64) -> Result<(), Fail> {
-    let faults = keeper.faults();
-    if faults == wanted {
-        return Ok(());
-    }
-    Err(Fail::new(format_args!("wanted {wanted} faults, got {faults}")))
-}
-
-impl Trial for FailsOnce {
-    fn carry_out<K: Keeper>(&self, alloc: Global, keeper: &mut K) -> Result<(), Fail> {
-        compare_faults(keeper, 0)?;
-        play(alloc, keeper, self.transcript)?;
-        compare_faults(keeper, 1)
-    }
-}
-
-const PUT: &str = r#"
-{"at":"2024-01-15T10:30:00Z","as":"ann","do":"put","bucket":"docs","key":"a","text":"hello"}
-  {"error":{"code":"Device","n":23}}
-{"at":"2014-01-01T00:00:00Z","as":"ann","do":"get","bucket":"docs","key":"a"}
-  {"error":{"code":"NoSuchKey","marker":false,"n":5}}
-{"at":"2014-01-01T00:00:00Z","as":"ann","do":"report","dept":"records"}
-  {"ok":{"admitted":0,"at":"2014-01-01T00:00:00Z","byte_days":0,"dept":"records","handed":0,"held":0,"received":0,"removed":0}}
-{"at":"2024-01-15T10:30:00Z","as":"ann","do":"put","bucket":"docs","key":"a","text":"hello"}
-  {"ok":{"version_id":1}}
-"#;
-
-/// A removal that the device refused leaves the version held.
-const REMOVAL: &str = r#"
-{"at":"2024-01-15T10:30:00Z","as":"ann","do":"put","bucket":"docs","key":"a","text":"hello"}
-  {"ok":{"version_id":1}}
-{"at":"2024-01-16T00:00:00Z","as":"ann","do":"delete-version","bucket":"docs","key":"a","id":1}
-  {"error":{"code":"Device","n":23}}
-{"at":"2024-01-15T10:30:00Z","as":"ann","do":"report","dept":"records"}
-  {"ok":{"admitted":5,"at":"2024-01-15T10:30:00Z","byte_days":0,"dept":"records","handed":0,"held":5,"received":0,"removed":0}}
-{"at":"2024-01-16T00:00:00Z","as":"ann","do":"delete-version","bucket":"docs","key":"a","id":1}
-  {"ok":{"cause":"request","delete_marker":false,"version_id":1}}
-"#;
-
-/// A bucket stays whose it was where the device refused its move, and the same line given again moves it.
-const MOVE: &str = r#"
-{"at":"2014-01-01T00:00:00Z","as":"registrar","do":"add-dept","dept":"court"}
-  {"ok":{}}
-{"at":"2024-01-15T10:30:00Z","as":"ann","do":"put","bucket":"docs","key":"a","text":"hello"}
-  {"ok":{"version_id":1}}
-{"at":"2024-01-17T00:00:00Z","as":"registrar","do":"move-bucket","bucket":"docs","dept":"court"}
-  {"error":{"code":"Device","n":23}}
-{"at":"2024-01-15T10:30:00Z","as":"ann","do":"head","bucket":"docs","key":"a"}
-  {"ok":{"admitted":"2024-01-15T10:30:00Z","hold":"OFF","retention":null,"sha256":"2cf24dba5fb0a30e26e83b2ac5b9e29e1b161e5c1fa7425e73043362938b9824","size":5,"version_id":1}}
-{"at":"2024-01-17T00:00:00Z","as":"registrar","do":"report","dept":"records"}
-  {"ok":{"admitted":5,"at":"2024-01-17T00:00:00Z","byte_days":10,"dept":"records","handed":0,"held":5,"received":0,"removed":0}}
-{"at":"2024-01-17T00:00:00Z","as":"registrar","do":"report","dept":"court"}
-  {"ok":{"admitted":0,"at":"2024-01-17T00:00:00Z","byte_days":0,"dept":"court","handed":0,"held":0,"received":0,"removed":0}}
-{"at":"2024-01-17T00:00:00Z","as":"registrar","do":"move-bucket","bucket":"docs","dept":"court"}
-  {"ok":{"bytes":5}}
-{"at":"2024-01-17T00:00:00Z","as":"ann","do":"head","bucket":"docs","key":"a"}
-  {"error":{"code":"AccessDenied","n":3,"reason":"department"}}
-{"at":"2024-01-18T00:00:00Z","as":"registrar","do":"report","dept":"records"}
-  {"ok":{"admitted":5,"at":"2024-01-18T00:00:00Z","byte_days":10,"dept":"records","handed":5,"held":0,"received":0,"removed":0}}
-{"at":"2024-01-18T00:00:00Z","as":"registrar","do":"report","dept":"court"}
-  {"ok":{"admitted":0,"at":"2024-01-18T00:00:00Z","byte_days":5,"dept":"court","handed":0,"held":5,"received":5,"removed":0}}
-"#;
-
-/// After how many changes the device refuses one.
-const DEVICES: [(u64, FailsOnce); 3] = [
-    (0, FailsOnce { transcript: PUT }),
-    (
-        1,
-        FailsOnce {
-            transcript: REMOVAL,
-        },
-    ),
-    (2, FailsOnce { transcript: MOVE }),
-];
-
-#[test]
-fn a_device_that_fails_once(rt: HostRuntime) -> Result<(), Fail> {
-    for (changes, once) in &DEVICES {
-        try_on_failing(rt.alloc(), *changes, once)?;
-    }
-    Ok(())
 }

@@ -2,8 +2,8 @@
 use std::alloc::Global;
 use std::test::Fail;
 use vault_core_model::keeper::Keeper;
-use vault_tests_doubles::fillings::{FILLINGS, Filling, fill, text_of};
-use vault_tests_doubles::noting_keeper::calls_of;
+use vault_transcript::fillings::{FILLINGS, Filling, fill, text_of};
+use vault_transcript::noting_keeper::calls_of;
 use vault_transcript::trial::{Trial, compare, try_after};
 
 const RULES: &str = r#"

@@ -3,8 +3,8 @@
 use std::alloc::Global;
 use std::test::Fail;
 use vault_core_model::keeper::Keeper;
-use vault_tests_doubles::fillings::{FILLINGS, fill};
-use vault_tests_doubles::noting_keeper::calls_of;
+use vault_transcript::fillings::{FILLINGS, fill};
+use vault_transcript::noting_keeper::calls_of;
 use vault_transcript::trial::{Trial, compare, try_after};
 
 /// The keys are `k1001` to `k1600`, each with one version.

@@ -3,7 +3,7 @@
 use std::alloc::Global;
 use std::test::Fail;
 use vault_core_model::keeper::Keeper;
-use vault_tests_doubles::noting_keeper::calls_of;
+use vault_transcript::noting_keeper::calls_of;
 use vault_transcript::transcript::play;
 use vault_transcript::trial::{Trial, compare, try_on_new};
 

@@ -12,7 +12,7 @@ pub const GO_ON: &str = "HTTP/1.1 100 Continue\r\n\r\n";
 const NO_HEAD: &str =
     "HTTP/1.1 400 Bad Request\r\ndate: Mon, 15 Jan 2024 10:30:00 GMT\r\nconnection: close\r\ncontent-type: application/json\r\ncontent-length: 33\r\n\r\n{\"code\":\"InvalidArgument\",\"n\":10}";
 
-pub const NO_BODY: &str =
+const NO_BODY: &str =
     "HTTP/1.1 400 Bad Request\r\ndate: Mon, 15 Jan 2024 10:30:00 GMT\r\nconnection: close\r\ncontent-type: application/json\r\ncontent-length: 31\r\n\r\n{\"code\":\"MalformedBody\",\"n\":12}";
 
 /// The same after `GO_ON`.

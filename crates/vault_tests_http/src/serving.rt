@@ -9,9 +9,6 @@ use vault_transcript::requests::wire;
 /// 2024-01-15T10:30:00Z.
 pub const READING: i64 = 1_705_314_600;
 
-/// Asks for the one key that the tests of bodies and readings put.
-pub const GET: &str = "GET /docs/a HTTP/1.1|x-vault-caller: ann||";
-
 /// The headers that come first in each answer at that reading.
 const FIRST: &str = "date: Mon, 15 Jan 2024 10:30:00 GMT|connection: close";
 
@@ -47,30 +44,4 @@ pub fn answer<R: Read, K: Keeper>(
         return Err(Fail::from(AllocError));
     }
     Ok(text)
-}
-
-/// Whether an answer is the wanted one. Of that just the beginning and the end are reported where ` .. ` stands between.
-fn is_wanted(given: &str, wanted: &str) -> bool {
-    match wanted.split_once(" .. ") {
-        Some((front, end)) => given.starts_with(front) && given.ends_with(end),
-        None => given == wanted,
-    }
-}
-
-/// Sends a request at a reading, and fails where its answer isn't the wanted one.
-pub fn exchange<K: Keeper>(
-    alloc: Global,
-    keeper: &mut K,
-    reading: i64,
-    request: &str,
-    wanted: &str,
-) -> Result<(), Fail> {
-    let request = spelled(alloc, request)?;
-    let mut reader = request.as_bytes();
-    let given = answer(alloc, &mut reader, keeper, reading)?;
-    let wanted = spelled(alloc, wanted)?;
-    if is_wanted(given.as_str(), wanted.as_str()) {
-        return Ok(());
-    }
-    Err(Fail::new(format_args!("wanted {wanted}, got {given}, to {request}")))
 }

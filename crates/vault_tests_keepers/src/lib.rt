@@ -1,5 +1,5 @@
-//! Tests over tables, in memory and in files: runs and moves that a device stops, over the list too; commands from tables to
-//! tables; how many steps a read takes; how often files are read; and files that fail from some call on, for each call.
+//! Tests over tables, in memory and in files: commands from tables to tables; how many steps a read takes; how often files
+//! are read; and files that fail from some call on, for each call.
 #![tactic(auto)]
 
 #[cfg(test)]
@@ -11,8 +11,4 @@ mod in_tables;
 #[cfg(test)]
 mod lookups;
 #[cfg(test)]
-mod over_keepers;
-#[cfg(test)]
 mod stopped_days;
-#[cfg(test)]
-mod stopped_runs;

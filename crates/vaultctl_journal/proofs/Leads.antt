@@ -6,7 +6,7 @@ use Rattle.std.specs.declared.io.Write.{Ghosts as Writing}
 use Rattle.std.proofs.lemmas.List.Elements.{All-nil, All-cons}
 use Rattle.vault_base.specs.declared.refusal.Refusal.{Refusal}
 use Rattle.vault_base.specs.declared.refusal.Refusal.TheVariants.{MalformedBody}
-use Rattle.vault_core_examples.specs.Outcome.{reports_fault}
+use Rattle.vault_core_outcome.specs.Outcome.{reports_fault}
 use Rattle.vault_core_model.specs.Step.{IsRun, IsStep}
 use Rattle.vault_core_model.specs.Vault.{Vault}
 use Rattle.vault_core_model.specs.declared.command.Timed.{Timed}

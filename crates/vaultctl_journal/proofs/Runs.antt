@@ -9,7 +9,7 @@ use Rattle.vault_core_model.specs.declared.command.Timed.{Timed}
 use Rattle.vault_core_model.specs.declared.reply.Reply.{Reply}
 use Rattle.vault_core_model.specs.declared.reply.Reply.TheVariants.{Done, Refused, Stopped}
 use Rattle.vault_core_model.specs.declared.reply.Stop.TheVariants.{Memory, Device, VaultFull}
-use Rattle.vault_core_examples.specs.Outcome.{IsOutcome, outcome, reports_fault}
+use Rattle.vault_core_outcome.specs.Outcome.{IsOutcome, outcome, reports_fault}
 use Rattle.vaultctl_journal.specs.Changes.{changing, is_change, is_cut, with_if}
 use Rattle.vaultctl_journal.proofs.Unchanged.{unchanged}
 

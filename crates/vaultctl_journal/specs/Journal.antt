@@ -2,7 +2,7 @@
 use Rattle.std.specs.Prelude.{◌≡◌, ◌≢◌, ◌≤◌, ◌⊎◌, ◌++◌, ◌&&◌, ℕ, false, List, [], ◌∷◌, length, take, drop, Option}
 use Rattle.std.specs.List.{list_any}
 use Rattle.std.specs.declared.io.Write.{Ghosts as Writing}
-use Rattle.vault_core_examples.specs.Outcome.{reports_fault}
+use Rattle.vault_core_outcome.specs.Outcome.{reports_fault}
 use Rattle.vault_core_model.specs.Vault.{Vault}
 use Rattle.vault_core_model.specs.declared.command.Timed.{Timed}
 use Rattle.vault_core_model.specs.declared.kept.Kept.{Ghosts}

@@ -2,7 +2,7 @@
 ghost use Rattle.std.specs.Prelude.{◌≡◌, ◌++◌, ℕ, List, Some, false, filter};
 ghost use Rattle.std.specs.List.{list_any};
 ghost use Rattle.vault_base.specs.declared.refusal.Refusal.TheVariants.{MalformedBody};
-ghost use Rattle.vault_core_examples.specs.Outcome.{reports_fault};
+ghost use Rattle.vault_core_outcome.specs.Outcome.{reports_fault};
 ghost use Rattle.vault_core_model.specs.Step.{IsRun, IsStep};
 ghost use Rattle.vault_core_model.specs.Vault.{Vault};
 ghost use Rattle.vault_core_model.specs.declared.command.Command.{Command};
@@ -18,8 +18,8 @@ ghost use Rattle.vaultctl_journal.specs.declared.journal.Journal.{Journal};
 ghost use Rattle.vaultctl_journal.specs.declared.state.JournalState.TheVariants.{Open};
 
 use std::io::Write;
-use vault_core_examples::answers_are_one;
 use vault_core_model::kept::Kept;
+use vault_core_outcome::answers_are_one;
 use vaultctl_replay::laws::input_has_one_reading;
 
 /// A command whose reply reports no change left the vault as it was: a refused one, a reading one, an intake

@@ -1,5 +1,0 @@
-use Rattle.vault_core_examples.proofs.Machine.{IsStep-is_outcome}
-use Rattle.vault_core_examples.proofs.answers_are_one.Goals as goal
-
-pub returns : goal.returns
-returns c = IsStep-is_outcome
