@@ -6,8 +6,8 @@ use Rattle.sqlite.specs.declared.error.ErrorCode.TheVariants as code
 use Rattle.vault_base.specs.declared.refusal.Refusal.{Refusal}
 use Rattle.vault_base.specs.declared.refusal.Refusal.TheVariants.{Device, Memory, NameTaken}
 use Rattle.vault_store.specs.Create.{without_tables}
-use Rattle.vaultctl_machine_places.specs.declared.cause.Cause.{Cause}
-use Rattle.vaultctl_machine_places.specs.declared.cause.Cause.TheVariants.{Full, Failed}
+use Rattle.vaultctl_machine_stores.specs.declared.cause.Cause.{Cause}
+use Rattle.vaultctl_machine_stores.specs.declared.cause.Cause.TheVariants.{Full, Failed}
 use Rattle.vaultctl_machine.specs.declared.open_error.OpenError.{OpenError}
 use Rattle.vaultctl_machine.specs.declared.open_error.OpenError.TheVariants.{InUse, Seen, Refused}
 

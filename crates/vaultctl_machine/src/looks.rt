@@ -7,8 +7,8 @@ use std::fs::{self, Metadata, OpenOptions};
 use std::io::{self, ErrorKind};
 use std::os::unix::fs::MetadataExt;
 use vault_base::refusal::Refusal;
-use vaultctl_machine_places::cause::Cause;
-use vaultctl_machine_places::places::place_at;
+use vaultctl_machine_stores::cause::Cause;
+use vaultctl_machine_stores::places::place_at;
 
 /// Why a path can't be looked at, or no file can be made there.
 pub(crate) fn cause_of_kind(kind: ErrorKind) -> Option<Cause> {

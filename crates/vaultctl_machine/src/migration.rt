@@ -34,7 +34,7 @@ use std::alloc::Global;
 use vault_audit_model::schema::SchemaVersion;
 use vault_base::refusal::Refusal;
 use vault_store::sql_keeper::SqlKeeper;
-use vaultctl_machine_places::cause::Cause;
+use vaultctl_machine_stores::cause::Cause;
 use vaultctl_machine_stores::connect::Opened;
 use vaultctl_machine_stores::site::Site;
 

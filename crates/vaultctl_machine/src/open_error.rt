@@ -4,7 +4,7 @@ ghost use Rattle.vaultctl_machine.specs.Faults as spec;
 
 use thiserror::Error;
 use vault_base::refusal::Refusal;
-use vaultctl_machine_places::cause::Cause;
+use vaultctl_machine_stores::cause::Cause;
 
 /// Why the vault in a file isn't opened or made.
 #[derive(Clone, Copy, Debug, PartialEq, Eq, Error)]

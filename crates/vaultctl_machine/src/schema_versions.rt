@@ -9,7 +9,7 @@ ghost use Rattle.vaultctl_machine.specs.SchemaVersions as spec;
 use sqlite_schema::schema::{self, Column, Schema};
 use vault_audit_model::schema::SchemaVersion;
 use vault_base::refusal::Table;
-use vaultctl_machine_places::cause::Cause;
+use vaultctl_machine_stores::cause::Cause;
 
 /// Whether a column has the larger one of the bounds of sizes.
 fn has_bound(column: &Column) -> bool

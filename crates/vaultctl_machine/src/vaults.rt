@@ -40,10 +40,10 @@ use std::io::{self, ErrorKind};
 use vault_base::refusal::{Refusal, Table};
 use vault_store::create::without_tables;
 use vault_store::sql_keeper::SqlKeeper;
-use vaultctl_machine_places::cause::Cause;
-use vaultctl_machine_places::places::place_at;
 use vaultctl_machine_stores::before::Before;
+use vaultctl_machine_stores::cause::Cause;
 use vaultctl_machine_stores::connect::{self, Opened};
+use vaultctl_machine_stores::places::place_at;
 use vaultctl_machine_stores::progress_disk::ProgressFile;
 use vaultctl_machine_stores::site::Site;
 

@@ -6,7 +6,7 @@ use vault_core_model::halt::Fault;
 use vault_core_model::keeper::Keeper;
 use vault_core_model::kept::Kept;
 use vault_core_model::wrapper::Wrapper;
-use vaultctl_machine_places::watch::Watch;
+use vaultctl_machine_stores::watch::Watch;
 
 /// A keeper that looks before each change whether the vault's files are still those that were opened. From the first
 /// change on for which they aren't, it refuses each with `Device`; the first time it reports so. Each change that it

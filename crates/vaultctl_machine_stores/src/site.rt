@@ -4,12 +4,12 @@ ghost use Rattle.sqlite_disk.specs.Disk.{Only};
 ghost use Rattle.vaultctl_machine_stores.specs.Openings as spec;
 
 use crate::before::Before;
+use crate::places::{Place, place_at};
 use sqlite_disk::{Disk, Files};
 use std::fs::{self, OpenOptions};
 use std::io::{self, ErrorKind};
 use std::os::unix::fs::OpenOptionsExt;
 use std::path::PathBuf;
-use vaultctl_machine_places::places::{Place, place_at};
 
 /// The mode of a file that is made: its owner alone may read and write it.
 const OWNERS_ALONE: u32 = 0o600;

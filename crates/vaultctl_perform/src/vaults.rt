@@ -19,8 +19,8 @@ use vaultctl_commands::outcome::Outcome;
 use vaultctl_machine::open_error::OpenError;
 use vaultctl_machine::vaults::{FileMachine, FileVault};
 use vaultctl_machine::watched_keeper::WatchedKeeper;
-use vaultctl_machine_places::opened_files::OpenedFiles;
-use vaultctl_machine_places::watch::Watch;
+use vaultctl_machine_stores::opened_files::OpenedFiles;
+use vaultctl_machine_stores::watch::Watch;
 use vaultctl_work::work::{Work, work_with};
 
 /// A vault in files, which looks before each change whether they are still those that were opened.

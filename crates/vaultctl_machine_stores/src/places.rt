@@ -3,7 +3,7 @@ ghost use Rattle.std.specs.Prelude.{◌≡◌, ◌≢◌, ◌↔◌, ◌==◌, O
 ghost use Rattle.std.specs.Fs.{IsFile, file_type, metadata_len};
 ghost use Rattle.std.specs.IoError.{error_kind};
 ghost use Rattle.std.specs.Str.{bytes_eq};
-ghost use Rattle.vaultctl_machine_places.specs.Places as spec;
+ghost use Rattle.vaultctl_machine_stores.specs.Places as spec;
 
 use crate::cause::Cause;
 use std::alloc::Global;

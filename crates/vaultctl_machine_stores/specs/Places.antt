@@ -1,8 +1,8 @@
 -- What is seen of a file and its log before they are opened.
 use Rattle.std.specs.Prelude.{◌≡◌, ℕ, ◌∷◌, ◌++◌, ◌&&◌, ◌||◌, [], Bool, false, true, not, nat_le, List, Option, None, Some, is_some, codes, if◌then◌else◌}
-use Rattle.vaultctl_machine_places.specs.declared.cause.Cause.{Cause}
-use Rattle.vaultctl_machine_places.specs.declared.cause.Cause.TheVariants.{LostFile, NoFile, Empty, Damaged, OtherFile, Taken}
-use Rattle.vaultctl_machine_places.specs.declared.places.Place.{Place}
+use Rattle.vaultctl_machine_stores.specs.declared.cause.Cause.{Cause}
+use Rattle.vaultctl_machine_stores.specs.declared.cause.Cause.TheVariants.{LostFile, NoFile, Empty, Damaged, OtherFile, Taken}
+use Rattle.vaultctl_machine_stores.specs.declared.places.Place.{Place}
 
 -- the first bytes of each file that holds tables
 abbrev pub first_bytes : List ℕ
