@@ -251,8 +251,10 @@ impl<S: Alter> SqlKeeper<S> {
         ensures outside { new.in_transaction ≡ false → IfErr result (λ e. HasCleanDisk (state S.Store e.1) → e.1.in_transaction ≡ false) }
         ensures tables { new.in_transaction ≡ false → IfErr result (λ e. HasCleanDisk (state S.Store e.1) → HasTablesOf (state S.Store new) (state S.Store e.1)) }
         // A crash leaves what it could leave before, or the vault of the old tables, if these were read as they stand.
-        ensures crash { IfOk result (λ k. Survives (state S.Store new) (state S.Store k.conn) (λ trees. HasCleanDisk (state O.Store old.new) → IsMigrated schema_version (state O.Store old.old).now trees)) }
-        ensures harmless { IfErr result (λ e. Survives (state S.Store new) (state S.Store e.1) (λ trees. HasCleanDisk (state O.Store old.new) → IsMigrated schema_version (state O.Store old.old).now trees)) }
+        ensures crash { IfOk result (λ k. Survives (state S.Store new) (state S.Store k.conn)
+            (λ trees. HasCleanDisk (state O.Store old.new) → IsMigrated schema_version (state O.Store old.old).now trees)) }
+        ensures harmless { IfErr result (λ e. Survives (state S.Store new) (state S.Store e.1)
+            (λ trees. HasCleanDisk (state O.Store old.new) → IsMigrated schema_version (state O.Store old.old).now trees)) }
         // The same of the old connection, of which a crash leaves what it could leave before, and no more.
         ensures old_inside { IsTrue old.old.in_transaction → IsErrAnd result (λ e. (e.0 ≡ Refusal.Device) × (old.new ≡ old.old)) }
         ensures old_outside { old.old.in_transaction ≡ false → HasCleanDisk (state O.Store old.new) → old.new.in_transaction ≡ false }

@@ -66,7 +66,8 @@ fn copy<O: Alter, S: Alter>(
     ensures found { IfOk result.outcome (λ k. HasCleanDisk (state O.Store result.source) → HasCleanDisk (state S.Store k.conn)
         → AreSoundAs schema_version (state O.Store source).now (vault_of S.Store k)) }
     ensures sound { IfOk result.outcome (λ k. HasCleanDisk (state S.Store k.conn) → AreSound (state S.Store k.conn).now (vault_of S.Store k)) }
-    ensures damaged { IfErr result.outcome (λ e. HasCleanDisk (state O.Store result.source) → (t : Table) → e.0 ≡ Refusal.Damaged t → (v : Vault) → ¬ AreSoundAs schema_version (state O.Store source).now v) }
+    ensures damaged { IfErr result.outcome (λ e. HasCleanDisk (state O.Store result.source) → (t : Table) → e.0 ≡ Refusal.Damaged t →
+        (v : Vault) → ¬ AreSoundAs schema_version (state O.Store source).now v) }
     // Two stores that work are reported as failed only where the tables of the copy refuse a row.
     ensures refused { source.in_transaction ≡ false → new.in_transaction ≡ false
         → IfErr result.outcome (λ e. IsHealthy (state O.Store result.source) → IsHealthy (state S.Store e.1) → e.0 ≡ Refusal.Device → RefusesItsRow schema_version (state O.Store source).now) }

@@ -23,7 +23,8 @@ pub fn look_at_departments<S: Alter>(
     meta: &MetaRow,
 ) -> Result<Option<Table>, Error>
     requires { IsOfSchemaVersion S.Store conn.old schema_version }
-    ensures reported { HasCleanDisk (state S.Store conn.new) → IfOk result (ReportedOf schema_version (state S.Store conn.new).now meta.now (DepartmentsFound schema_version (state S.Store conn.new).now meta.now)) }
+    ensures reported { HasCleanDisk (state S.Store conn.new) →
+        IfOk result (ReportedOf schema_version (state S.Store conn.new).now meta.now (DepartmentsFound schema_version (state S.Store conn.new).now meta.now)) }
     ensures look { OnlyLooks S.Store conn.old conn.new result }
     ensures err { IsHealthy (state S.Store conn.new) → IfErr result IsMemory }
 {

@@ -19,7 +19,8 @@ pub fn look_at_tenures<S: Alter>(
 ) -> Result<Option<Table>, Error>
     requires schema { IsOfSchemaVersion S.Store conn.old schema_version }
     requires open { HasCleanDisk (state S.Store conn.old) → IsTrue (state S.Store conn.old).is_open }
-    ensures reported { HasCleanDisk (state S.Store conn.new) → IfOk result (ReportedOf schema_version (state S.Store conn.new).now meta (TenuresFound schema_version (state S.Store conn.new).now meta)) }
+    ensures reported { HasCleanDisk (state S.Store conn.new) →
+        IfOk result (ReportedOf schema_version (state S.Store conn.new).now meta (TenuresFound schema_version (state S.Store conn.new).now meta)) }
     ensures look { OnlyLooks S.Store conn.old conn.new result }
     ensures err { IsHealthy (state S.Store conn.new) → IfErr result IsMemory }
 {
