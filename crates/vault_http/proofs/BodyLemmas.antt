@@ -16,7 +16,7 @@ use Rattle.vault_lines_json.proofs.LockLemmas.{reads-default, reads-hold, reads-
 use Rattle.vault_lines_json.proofs.ReadLemmas.{Reads, reads-then}
 use Rattle.vault_lines_json.proofs.RuleLemmas.{reads-rules}
 use Rattle.vault_lines_json.proofs.SpelledLemmas.{default-ok, hold-ok, retention-ok, rules-ok}
-use Rattle.vault_lines_read.proofs.CommandLemmas.{all-fit}
+use Rattle.vault_lines_read.proofs.FieldLemmas.{all-fit}
 use Rattle.vault_lines_read.proofs.GrammarLemmas.{Decided}
 use Rattle.vault_http_target.specs.declared.target.Object.{Object}
 use Rattle.vault_http_request.specs.Command.{command_of, if_formed, object_of, set_default, set_hold, set_retention, set_rules}

@@ -1,6 +1,5 @@
-pub mod RulePuts
-pub mod RightsNames
-pub mod RuleMembers
-pub mod Texts
-pub mod Asking
-pub mod Reading
+mod Asking
+mod Reading
+mod RightsNames
+mod RuleMembers
+mod Texts

@@ -55,7 +55,7 @@ module _ (text : List ℕ) (d : Data) (t : Timed) (is : d ≡ line_value t) (spe
       ap json_of kept ∙ ap (λ b. if b then read text else None) (is_utf8-from_IsUtf8 text utf8) ∙ reads deep ∙ ap (λ x. Some x) is
 
   pub text-spells : IsUtf8 text → (depth d ≤ max_depth → read text ≡ Some d) → SpellsTimed text t
-  text-spells utf8 reads = let a = asks t spelled in (line_value t, is-value utf8 reads, a.shape, a.spelled)
+  text-spells utf8 reads = let a = asks t spelled in (line_value t, is-value utf8 reads, a.form, a.spelled)
 
   pub text-asks : IsUtf8 text → (depth d ≤ max_depth → read text ≡ Some d) → length text ≤ longest_line → line_of text ≡ line.Command t
   text-asks utf8 reads short = spelled-is-command text t (short, text-spells utf8 reads)

@@ -10,7 +10,6 @@ use Rattle.std.specs.Ordering.{match_ordering}
 use Rattle.serde_json.specs.Data.{Data, boolean, string, object, Members, no_members, member, depth, items_depth, members_depth}
 use Rattle.serde_json.specs.Find.{get, get_member}
 use Rattle.serde_json.specs.View.{items_of}
-use Rattle.serde_json.specs.Written.{has_float, items_have_float, members_have_float}
 use Rattle.vault_base.specs.Limits.{most_content}
 use Rattle.vault_rules.specs.Rules.{passes_if_given, is_day_count, is_newer_count, is_noncurrent_action, is_lower_bound, is_upper_bound, are_in_order, are_bounds, has_action, has_days_and_markers, is_in_range, has_id, fault_where, fault_of, first_of_both, first_fault, rules_fault}
 use Rattle.vault_rules.specs.declared.rule.Noncurrent.{Noncurrent}
@@ -20,7 +19,7 @@ use Rattle.vault_values.specs.Words.{status_name}
 use Rattle.vault_lines_json.specs.Shape.{all_items, are_within, is_among, is_expiration, is_noncurrent, is_number, is_rule, needed, optional, is_text}
 use Rattle.vault_lines_json.specs.Spelling.{AreRules, IsExpiration, IsNoncurrent, IsOptionalSmall, IsRule}
 use Rattle.vault_lines_reply.specs.ReplyLine.{whole, if_there, expiration_of, noncurrent_value, named_members, bounded_members, rule_members, rule_value}
-use Rattle.vault_lines_print.specs.Spelled.{IsSpelledRule}
+use Rattle.vault_lines_reply.specs.SpelledRule.{IsSpelledRule}
 
 -- ---- members that may be left out
 
@@ -308,37 +307,3 @@ rules-flat (r ∷ rs) =
     let first = rule-flat r in
     let later = rules-flat rs in
     omega arith
-
--- ---- their numbers are whole
-
-whole-if : (l : List ℕ) (v : Option Data) (ms : Members) → option_map_or has_float v false ≡ false → members_have_float ms ≡ false → members_have_float (if_there l v ms) ≡ false
-whole-if l None ms e h = h
-whole-if l (Some d) ms e h = rw e h
-
-number-whole : (n : Option ℕ) → option_map_or has_float (option_map whole n) false ≡ false
-number-whole None = refl
-number-whole (Some n) = refl
-
-expiration-whole : (days : Option ℕ) (lone : Bool) → option_map_or has_float (expiration_of days lone) false ≡ false
-expiration-whole (Some n) lone = refl
-expiration-whole None true = refl
-expiration-whole None false = refl
-
-newer-whole : (days : ℕ) (newer : Option ℕ) → has_float (noncurrent_value (record { days = days; newer = newer })) ≡ false
-newer-whole days None = refl
-newer-whole days (Some n) = refl
-
-noncurrent-whole : (n : Option Noncurrent) → option_map_or has_float (option_map noncurrent_value n) false ≡ false
-noncurrent-whole None = refl
-noncurrent-whole (Some n) = newer-whole n.days n.newer
-
-rule-whole : (r : Rule) → members_have_float (rule_members r) ≡ false
-rule-whole r =
-    whole-if (codes "Expiration") (expiration_of r.days r.lone_markers) _ (expiration-whole r.days r.lone_markers)
-    (whole-if (codes "NoncurrentVersionExpiration") (option_map noncurrent_value r.noncurrent) _ (noncurrent-whole r.noncurrent)
-    (whole-if (codes "ObjectSizeGreaterThan") (option_map whole r.larger) _ (number-whole r.larger)
-    (whole-if (codes "ObjectSizeLessThan") (option_map whole r.smaller) _ (number-whole r.smaller) refl)))
-
-pub rules-whole : (rules : List Rule) → items_have_float (items_of (map rule_value rules)) ≡ false
-rules-whole [] = refl
-rules-whole (r ∷ rs) = rw (rule-whole r) (rules-whole rs)

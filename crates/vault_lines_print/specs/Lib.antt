@@ -1,4 +1,3 @@
+pub mod Lines
 pub mod Members
 pub mod Spelled
-pub mod Lines
-pub mod Object

@@ -19,7 +19,9 @@ use Rattle.vault_lock.specs.declared.retention.Period.{Period}
 use Rattle.vault_lock.specs.declared.retention.Period.TheVariants.{Days, Years}
 use Rattle.vault_lock.specs.declared.retention.Retention.{Retention}
 use Rattle.vault_values.specs.Words.{mode_name, hold_name}
-use Rattle.vault_lines_read.specs.Verb.{verb_name}
+use Rattle.vault_lines_read.specs.Fields as field
+use Rattle.vault_lines_read.specs.Fields.{Field, meaning_of}
+use Rattle.vault_lines_read.specs.Verb.{fields_of, verb_name}
 use Rattle.vault_lines_read.specs.declared.verb.Verb.{Verb}
 use Rattle.vault_lines_read.specs.declared.verb.Verb.TheVariants as verb
 use Rattle.vault_lines_reply.specs.Putting.{put_if}
@@ -36,9 +38,6 @@ named v = put (codes "do") (string (verb_name v)) no_members
 abbrev pub of_dept : Verb → List ℕ → Members
 of_dept v dept = put (codes "dept") (string dept) (named v)
 
-abbrev pub of_caller : Verb → List ℕ → Members
-of_caller v caller = put (codes "caller") (string caller) (named v)
-
 abbrev pub of_bucket : Verb → List ℕ → Members
 of_bucket v bucket = put (codes "bucket") (string bucket) (named v)
 
@@ -47,9 +46,6 @@ of_bucket_and_dept v bucket dept = put (codes "dept") (string dept) (of_bucket v
 
 abbrev pub of_key : Verb → List ℕ → List ℕ → Members
 of_key v bucket key = put (codes "key") (string key) (of_bucket v bucket)
-
-abbrev pub with_id : ℕ → Members → Members
-with_id id ms = put (codes "id") (whole id) ms
 
 abbrev pub of_entry : Verb → List ℕ → List ℕ → Option ℕ → Members
 of_entry v bucket key id = put_if (codes "id") (option_map whole id) (of_key v bucket key)
@@ -98,41 +94,79 @@ abbrev pub with_hold_if : Option Bool → Members → Members
 with_hold_if None ms = ms
 with_hold_if (Some hold) ms = with_hold hold ms
 
--- what is put, but for its bucket
-abbrev pub with_put : Put → Members → Members
-with_put c ms = with_hold_if c.hold (with_retention_if c.retention (with_content c.content (put (codes "key") (string c.key) ms)))
-
-abbrev pub with_bypass : Bool → Members → Members
-with_bypass bypass ms = put (codes "bypass") (boolean bypass) ms
-
 -- ---- lines
+
+-- with the members that say that value of the field; what isn't given is left out
+abbrev pub put_field : (f : Field) → (meaning_of f).Value → Members → Members
+put_field field.dept x ms = put (codes "dept") (string x) ms
+put_field field.optional_dept x ms = put_if (codes "dept") (option_map string x) ms
+put_field field.caller x ms = put (codes "caller") (string x) ms
+put_field field.rights x ms = with_rights x ms
+put_field field.bucket x ms = put (codes "bucket") (string x) ms
+put_field field.key x ms = put (codes "key") (string x) ms
+put_field field.id x ms = put (codes "id") (whole x) ms
+put_field field.optional_id x ms = put_if (codes "id") (option_map whole x) ms
+put_field field.content x ms = with_content x ms
+put_field field.retention x ms = with_retention x ms
+put_field field.optional_retention x ms = with_retention_if x ms
+put_field field.hold x ms = with_hold x ms
+put_field field.optional_hold x ms = with_hold_if x ms
+put_field field.bypass x ms = put (codes "bypass") (boolean x) ms
+put_field field.default x ms = with_default x ms
+put_field field.rules x ms = put (codes "rules") (array (items_of (map rule_value x))) ms
+put_field field.prefix x ms = put (codes "prefix") (string x) ms
+put_field field.after_key x ms = put (codes "after_key") (string x) ms
+put_field field.after_id x ms = put_if (codes "after_id") (option_map whole x) ms
+put_field field.most x ms = put (codes "most") (whole x) ms
+put_field field.batch x ms = put (codes "batch") (string x) ms
+put_field field.line x ms = put (codes "line") (whole x) ms
+
+-- a value of each field
+abbrev pub AllSaid : List Field → Type 0
+AllSaid [] = Unit {0}
+AllSaid (f ∷ fs) = (meaning_of f).Value × AllSaid fs
+
+abbrev pub put_fields : (fs : List Field) → AllSaid fs → Members → Members
+put_fields [] s ms = ms
+put_fields (f ∷ fs) s ms = put_fields fs s.1 (put_field f s.0 ms)
+
+-- what is made of the verb of a command, and of the values of its line's fields
+abbrev pub of_said {ℓ} : {A : Type ℓ} → ((verb : Verb) → AllSaid (fields_of verb) → A) → Command → A
+of_said make (command.AddDept c) = make verb.AddDept (c.dept, tt)
+of_said make (command.AddCaller c) = make verb.AddCaller (c.caller, (c.dept, (c.rights, tt)))
+of_said make (command.CloseCaller c) = make verb.CloseCaller (c.caller, tt)
+of_said make (command.AddBucket c) = make verb.AddBucket (c.bucket, (c.dept, tt))
+of_said make (command.MoveBucket c) = make verb.MoveBucket (c.bucket, (c.dept, tt))
+of_said make (command.SetDefault c) = make verb.SetDefault (c.bucket, (c.default, tt))
+of_said make (command.GetDefault c) = make verb.GetDefault (c.bucket, tt)
+of_said make (command.SetRules c) = make verb.SetRules (c.bucket, (c.rules, tt))
+of_said make (command.GetRules c) = make verb.GetRules (c.bucket, tt)
+of_said make (command.DropRules c) = make verb.DropRules (c.bucket, tt)
+of_said make (command.Put c) = make verb.Put (c.bucket, (c.key, (c.content, (c.retention, (c.hold, tt)))))
+of_said make (command.Get c) = make verb.Get (c.bucket, (c.key, (c.id, tt)))
+of_said make (command.Head c) = make verb.Head (c.bucket, (c.key, (c.id, tt)))
+of_said make (command.ListVersions c) = make verb.ListVersions (c.bucket, (c.prefix, (c.after_key, (c.after_id, (c.most, tt)))))
+of_said make (command.Delete c) = make verb.Delete (c.bucket, (c.key, tt))
+of_said make (command.DeleteVersion c) = make verb.DeleteVersion (c.bucket, (c.key, (c.id, (c.bypass, tt))))
+of_said make (command.SetRetention c) = make verb.SetRetention (c.bucket, (c.key, (c.id, (c.retention, (c.bypass, tt)))))
+of_said make (command.GetRetention c) = make verb.GetRetention (c.bucket, (c.key, (c.id, tt)))
+of_said make (command.SetHold c) = make verb.SetHold (c.bucket, (c.key, (c.id, (c.hold, tt))))
+of_said make (command.GetHold c) = make verb.GetHold (c.bucket, (c.key, (c.id, tt)))
+of_said make (command.Run c) = make verb.Run (c.bucket, tt)
+of_said make (command.Report c) = make verb.Report (c.dept, tt)
+of_said make (command.Certificate c) = make verb.Certificate (c.bucket, (c.id, tt))
+of_said make (command.Intake c) = make verb.Intake (c.put.bucket, (c.batch, (c.line, (c.put.key, (c.put.content, (c.put.retention, (c.put.hold, tt)))))))
+
+-- the fields of what is put, but for its bucket
+abbrev pub version : List Field
+version = field.key ∷ field.content ∷ field.optional_retention ∷ field.optional_hold ∷ []
+
+abbrev pub version_of : Put → AllSaid version
+version_of c = (c.key, (c.content, (c.retention, (c.hold, tt))))
 
 -- the members beside `at` and `as`
 abbrev pub members_of : Command → Members
-members_of (command.AddDept c) = of_dept verb.AddDept c.dept
-members_of (command.AddCaller c) = with_rights c.rights (put_if (codes "dept") (option_map string c.dept) (of_caller verb.AddCaller c.caller))
-members_of (command.CloseCaller c) = of_caller verb.CloseCaller c.caller
-members_of (command.AddBucket c) = of_bucket_and_dept verb.AddBucket c.bucket c.dept
-members_of (command.MoveBucket c) = of_bucket_and_dept verb.MoveBucket c.bucket c.dept
-members_of (command.SetDefault c) = with_default c.default (of_bucket verb.SetDefault c.bucket)
-members_of (command.GetDefault c) = of_bucket verb.GetDefault c.bucket
-members_of (command.SetRules c) = put (codes "rules") (array (items_of (map rule_value c.rules))) (of_bucket verb.SetRules c.bucket)
-members_of (command.GetRules c) = of_bucket verb.GetRules c.bucket
-members_of (command.DropRules c) = of_bucket verb.DropRules c.bucket
-members_of (command.Put c) = with_put c (of_bucket verb.Put c.bucket)
-members_of (command.Get c) = of_entry verb.Get c.bucket c.key c.id
-members_of (command.Head c) = of_entry verb.Head c.bucket c.key c.id
-members_of (command.ListVersions c) = put_if (codes "after_id") (option_map whole c.after_id) (put (codes "most") (whole c.most) (put (codes "after_key") (string c.after_key) (put (codes "prefix") (string c.prefix) (of_bucket verb.ListVersions c.bucket))))
-members_of (command.Delete c) = of_key verb.Delete c.bucket c.key
-members_of (command.DeleteVersion c) = with_bypass c.bypass (with_id c.id (of_key verb.DeleteVersion c.bucket c.key))
-members_of (command.SetRetention c) = with_bypass c.bypass (with_retention c.retention (of_entry verb.SetRetention c.bucket c.key c.id))
-members_of (command.GetRetention c) = of_entry verb.GetRetention c.bucket c.key c.id
-members_of (command.SetHold c) = with_hold c.hold (of_entry verb.SetHold c.bucket c.key c.id)
-members_of (command.GetHold c) = of_entry verb.GetHold c.bucket c.key c.id
-members_of (command.Run c) = of_bucket verb.Run c.bucket
-members_of (command.Report c) = of_dept verb.Report c.dept
-members_of (command.Certificate c) = with_id c.id (of_bucket verb.Certificate c.bucket)
-members_of (command.Intake c) = with_put c.put (put (codes "line") (whole c.line) (put (codes "batch") (string c.batch) (of_bucket verb.Intake c.put.bucket)))
+members_of = of_said (λ verb s. put_fields (fields_of verb) s (named verb))
 
 -- a command with its reading and the caller who asks
 abbrev pub timed : ℕ → List ℕ → Command → Timed

@@ -10,7 +10,6 @@ ghost use Rattle.vault_lines_print.specs.Spelled.{IsSpelled, IsTimedSpelled};
 
 use crate::laws::text_is_utf8;
 use crate::members::{of_bucket, of_entry, of_key};
-use crate::object::{Plain, put_plain};
 use crate::{config_members, entry_members, lock_members, record_members};
 use serde_json::{Map, Value};
 use std::alloc::{AllocError, Global};
@@ -18,6 +17,7 @@ use vault_base::moment::Moment;
 use vault_base::name::CallerName;
 use vault_core_model::command::Command;
 use vault_lines_read::verb::Verb;
+use vault_lines_reply::object::{Plain, put_plain};
 
 /// The members of a command's line, but for its reading and the caller who asks.
 fn members_of(alloc: Global, command: &Command) -> Result<Map<String, Value>, AllocError>

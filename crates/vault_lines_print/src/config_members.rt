@@ -6,12 +6,12 @@ ghost use Rattle.vault_lines_print.specs.Members as spec;
 ghost use Rattle.vault_lines_print.specs.Spelled.{HasPeriodIfGiven, IsSpelled};
 
 use crate::members::of_bucket;
-use crate::object::{Plain, put_plain};
-use crate::rule_value::rule_values;
 use serde_json::{Map, Value, put};
 use std::alloc::{AllocError, Global};
 use vault_core_model::command::{SetDefault, SetRules};
 use vault_lines_read::verb::Verb;
+use vault_lines_reply::object::{Plain, put_plain};
+use vault_lines_reply::rule_value::rule_values;
 use vault_lock::retention::{Default, Period};
 use vault_values::words::mode_name;
 

@@ -5,15 +5,15 @@ ghost use Rattle.serde_json.specs.Data.{put as with_member};
 ghost use Rattle.serde_json.specs.View.{members_view};
 ghost use Rattle.vault_core_model.specs.declared.command.Command.TheVariants as command_of;
 ghost use Rattle.vault_lines_print.specs.Members as spec;
-ghost use Rattle.vault_lines_print.specs.Spelled.{IsPutSpelled, IsSpelled};
+ghost use Rattle.vault_lines_print.specs.Spelled.{AreSpelled, IsSpelled};
 
 use crate::lock_members::{put_hold_if, put_retention_if};
 use crate::members::{of_bucket, of_key, put_id};
-use crate::object::{Plain, put_plain};
 use serde_json::{Map, Value};
 use std::alloc::{AllocError, Global};
 use vault_core_model::command::{DeleteVersion, Intake, ListVersions, Put};
 use vault_lines_read::verb::Verb;
+use vault_lines_reply::object::{Plain, put_plain};
 
 /// Puts in a number of 32 bits.
 fn put_number(
@@ -42,8 +42,8 @@ fn put_hex(members: &mut Map<String, Value>, alloc: Global, bytes: &[u8]) -> Res
 
 /// Puts in what is put, but for its bucket.
 fn put_version(members: &mut Map<String, Value>, alloc: Global, put: &Put) -> Result<(), AllocError>
-    ensures ok { OnOk result (members_view members.new.entries ≡ spec.with_put put.now (members_view members.old.entries)) }
-    ensures spelled { OnOk result (IsPutSpelled put.now) }
+    ensures ok { OnOk result (members_view members.new.entries ≡ spec.put_fields spec.version (spec.version_of put.now) (members_view members.old.entries)) }
+    ensures spelled { OnOk result (AreSpelled spec.version (spec.version_of put.now)) }
 {
     put_plain(members, alloc, &[("key", Plain::Text(put.key.as_str()))])?;
     put_hex(members, alloc, put.content.as_slice())?;
@@ -85,8 +85,8 @@ pub fn list_versions(
     let after_key = Plain::Text(command.after_key.as_str());
     let keys = [("prefix", prefix), ("after_key", after_key)];
     put_plain(&mut members, alloc, &keys)?;
-    put_number(&mut members, alloc, "most", command.most)?;
     put_id(&mut members, alloc, "after_id", command.after_id)?;
+    put_number(&mut members, alloc, "most", command.most)?;
     Ok(members)
 }
 

@@ -9,6 +9,4 @@ mod entry_members;
 mod laws;
 mod lock_members;
 mod members;
-mod object;
 mod record_members;
-mod rule_value;

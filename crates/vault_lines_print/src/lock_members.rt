@@ -6,11 +6,11 @@ ghost use Rattle.vault_lines_print.specs.Members as spec;
 ghost use Rattle.vault_lines_print.specs.Spelled.{IsSpelled, ReadsBack, ReadsBackIfGiven};
 
 use crate::members::of_entry;
-use crate::object::{Plain, put_plain};
 use serde_json::{Map, Value};
 use std::alloc::{AllocError, Global};
 use vault_core_model::command::{SetHold, SetRetention};
 use vault_lines_read::verb::Verb;
+use vault_lines_reply::object::{Plain, put_plain};
 use vault_lock::retention::Retention;
 use vault_values::words::{hold_name, mode_name};
 

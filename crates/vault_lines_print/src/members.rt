@@ -4,16 +4,16 @@ ghost use Rattle.std.specs.List.{fold};
 ghost use Rattle.serde_json.specs.Data.{put as with_member};
 ghost use Rattle.serde_json.specs.View.{view, members_view};
 ghost use Rattle.vault_base.specs.Name.{is_bucket_name, is_object_key, is_plain_name};
-ghost use Rattle.vault_lines_print.specs.Object.{plain_data};
+ghost use Rattle.vault_lines_reply.specs.Object.{plain_data};
 ghost use Rattle.vault_lines_reply.specs.Putting.{put_if};
 ghost use Rattle.vault_lines_print.specs.Members as spec;
 ghost use Rattle.vault_lines_print.specs.Spelled.{IsIdIfGiven};
 
-use crate::object::{Plain, put_plain};
 use serde_json::{Map, Value};
 use std::alloc::{AllocError, Global};
 use vault_base::name::{BucketName, DeptName, ObjectKey, VersionId};
 use vault_lines_read::verb::Verb;
+use vault_lines_reply::object::{Plain, put_plain};
 
 /// The members of a line: its verb, and these.
 pub fn named(

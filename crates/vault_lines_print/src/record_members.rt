@@ -9,7 +9,6 @@ ghost use Rattle.vault_lines_print.specs.Members as spec;
 ghost use Rattle.vault_lines_print.specs.Spelled.{IsNameIfGiven, IsSpelled};
 
 use crate::members::{named, of_bucket, of_bucket_and_dept, of_dept};
-use crate::object::{Plain, put_plain};
 use serde_json::{Map, Value, json, put};
 use std::alloc::{AllocError, Global};
 use vault_base::name::DeptName;
@@ -19,6 +18,7 @@ use vault_core_model::command::{
 };
 use vault_core_model::rights::Rights;
 use vault_lines_read::verb::Verb;
+use vault_lines_reply::object::{Plain, put_plain};
 
 pub fn add_dept(alloc: Global, command: &AddDept) -> Result<Map<String, Value>, AllocError>
     ensures members { IfOk result (λ members. members_view members.entries ≡ spec.members_of (command_of.AddDept command.now)) }

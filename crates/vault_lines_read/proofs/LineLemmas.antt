@@ -14,9 +14,10 @@ use Rattle.vault_lines_read.specs.declared.read_line.Line.{Line}
 use Rattle.vault_lines_read.specs.declared.read_line.Line.TheVariants as line
 use Rattle.vault_lines_json.specs.Document.{json_of, or_malformed}
 use Rattle.vault_values.specs.Fault.{◌>>=◌}
-use Rattle.vault_lines_read.specs.Grammar.{has_shape, HasShape, IsLineOf, Spells}
+use Rattle.vault_lines_read.specs.Grammar.{HasForm, HasShape, IsLineOf, Spells}
 use Rattle.vault_lines_read.specs.ReadLine.{timed_of, command_of, without_cr, stated, line_of}
-use Rattle.vault_lines_read.proofs.GrammarLemmas.{Decided, stated-timed}
+use Rattle.vault_lines_read.specs.Verb.{is_shaped}
+use Rattle.vault_lines_read.proofs.GrammarLemmas.{Decided, has_shape, some-verb, stated-timed, test-is}
 use Rattle.vault_lines_read.proofs.SpelledLemmas.{reads-timed}
 
 -- what is said of a line by whether it is too long or empty, and the value that it is
@@ -59,11 +60,20 @@ spelled true P (Err x) t h e = cc
 spelled false P (Ok u) t h e = cc
 spelled false P (Err x) t h e = cc
 
+-- a value has the form of its line exactly where it has the shape of its verb
+has-shape : (d : Data) → HasForm d → has_shape d ≡ true
+has-shape d (verb, do_is, shaped) = test-is is_shaped d verb do_is ∙ shaped
+
+has-form : (d : Data) → has_shape d ≡ true → HasForm d
+has-form d shape =
+    let found = some-verb is_shaped d shape in
+    (found.0, found.1.0, found.1.1)
+
 pub command-is-spelled : (bytes : List ℕ) (t : Timed) → line_of bytes ≡ line.Command t → IsLineOf bytes t
 command-is-spelled bytes t e =
     let asked = asks _ _ _ t (sym (is-read-as bytes) ∙ e) in
     let found = spelled (has_shape asked.value) (Spells asked.value) (timed_of asked.value) t (stated-timed asked.value) asked.reading in
-    (not-long (length bytes) asked.short, (asked.value, asked.is_value, found.0, found.1))
+    (not-long (length bytes) asked.short, (asked.value, asked.is_value, has-form asked.value found.0, found.1))
 
 none-either : (b : Bool) → (let found : Option Data = if b then read [] else None in found) ≡ None
 unfolding serde_json_on_literals
@@ -105,7 +115,7 @@ reads : (bytes : List ℕ) (d : Data) → length bytes ≤ longest_line → json
 reads bytes d short found = is-read-as bytes ∙ rw (is-short (length bytes) short, is-filled None (without_cr bytes) d found, found) refl
 
 pub shape-is-kept : (bytes : List ℕ) → line_of bytes ≡ line.Refused MalformedBody → HasShape bytes → ⊥
-shape-is-kept bytes e h = not-malformed (has_shape h.1.0) (Spells h.1.0) (timed_of h.1.0) (stated-timed h.1.0) h.1.2 (sym (reads bytes h.1.0 h.0 h.1.1) ∙ e)
+shape-is-kept bytes e h = not-malformed (has_shape h.1.0) (Spells h.1.0) (timed_of h.1.0) (stated-timed h.1.0) (has-shape h.1.0 h.1.2) (sym (reads bytes h.1.0 h.0 h.1.1) ∙ e)
 
 pub stated-malformed : (b : Bool) (P : Timed → Type 0) (r : Result Timed Refusal) → Decided b P r → (b ≡ true → ⊥) → stated r ≡ line.Refused MalformedBody
 stated-malformed true P r h other = absurd (other refl)
@@ -121,12 +131,12 @@ pub malformed : (bytes : List ℕ) → (without_cr bytes ≡ [] → ⊥) → (Ha
 malformed bytes filled other =
     is-read-as bytes ∙ malformed-read _ _ _
     (λ e. filled (no-items (without_cr bytes) e))
-    (λ d short found shape. other (not-long (length bytes) short, (d, found, shape)))
+    (λ d short found shape. other (not-long (length bytes) short, (d, found, has-form d shape)))
 
 pub spelled-is-command : (bytes : List ℕ) (t : Timed) → IsLineOf bytes t → line_of bytes ≡ line.Command t
 spelled-is-command bytes t h =
     reads bytes h.1.0 h.0 h.1.1
-    ∙ ap (λ r. stated r) (reads-timed h.1.0 t.at t.who t.command h.1.2 h.1.3.0 h.1.3.1 h.1.3.2)
+    ∙ ap (λ r. stated r) (reads-timed h.1.0 t.at t.who t.command (has-shape h.1.0 h.1.2) h.1.3.0 h.1.3.1 h.1.3.2)
 
 pub stated-skip : (r : Result Timed Refusal) → stated r ≡ line.Skip → false ≡ true
 stated-skip (Ok t) q = cc

@@ -1,10 +1,8 @@
 -- Lines without a reading and their grammar: what one asks for, by the JSON value that it is.
 use Rattle.std.proofs.Common.{◌≡◌, ◌≤◌, ℕ, Bool, true, false, List, [], refl, sym, ◌∙◌, ap, length, codes}
-use Rattle.std.specs.Prelude.{◌==◌, nat_lt, if◌then◌else◌, IsTrue, Option, Some, None, option_and_then, Result, Ok, Err}
-use Rattle.std.specs.Option.{option_map_or}
-use Rattle.serde_json.specs.Data.{Data, null, boolean, string, number, array, object}
-use Rattle.serde_json.specs.Find.{get, as_str}
-use Rattle.vault_base.specs.declared.refusal.Refusal.{Refusal}
+use Rattle.std.specs.Prelude.{◌==◌, nat_lt, if◌then◌else◌, IsTrue, Option, Some, None, Ok}
+use Rattle.serde_json.specs.Data.{Data}
+use Rattle.serde_json.specs.Find.{get}
 use Rattle.vault_base.specs.declared.refusal.Refusal.TheVariants.{MalformedBody}
 use Rattle.vault_base.specs.Limits.{longest_line}
 use Rattle.vault_core_model.specs.declared.command.Command.{Command}
@@ -18,16 +16,15 @@ use Rattle.vault_lines_json.proofs.ReadLemmas.{Reads, reads-then}
 use Rattle.vault_lines_json.proofs.SpelledLemmas.{asker-ok}
 use Rattle.vault_lines_json.proofs.ValueLemmas.{reads-asker}
 use Rattle.vault_lines_read.specs.Grammar.{IsDo, SpellsCommand}
-use Rattle.vault_lines_read.specs.ReadLine.{stated, values_of, without_cr}
-use Rattle.vault_lines_read.specs.Stamped.{clock_of, has_timeless_shape, HasTimelessShape, if_timeless, is_timeless, IsStampedLineOf, stamped_command_of, stamped_line_of, stamped_of, timeless_verb_of}
-use Rattle.vault_lines_read.specs.Verb.{verb_name, verb_named}
+use Rattle.vault_lines_read.specs.ReadLine.{stated, without_cr}
+use Rattle.vault_lines_read.specs.Stamped.{clock_of, HasTimelessForm, HasTimelessShape, is_timeless, IsStampedLineOf, stamped_command_of, stamped_line_of, stamped_of, timeless_verb_of}
+use Rattle.vault_lines_read.specs.Verb.{values_of}
 use Rattle.vault_lines_read.specs.declared.read_line.Line.{Line}
 use Rattle.vault_lines_read.specs.declared.read_line.Line.TheVariants as line
 use Rattle.vault_lines_read.specs.declared.verb.Verb.{Verb}
-use Rattle.vault_lines_read.proofs.CommandLemmas.{timeless-asker-fits, timeless-values}
-use Rattle.vault_lines_read.proofs.GrammarLemmas.{Decided, is-name, stated-then}
+use Rattle.vault_lines_read.proofs.CommandLemmas.{timeless-asker-fits, timeless-values, values-spelled}
+use Rattle.vault_lines_read.proofs.GrammarLemmas.{Decided, Passes, passes, passes-ok, some-verb, stated-then, test-is, verb-found}
 use Rattle.vault_lines_read.proofs.LineLemmas.{is-filled, is-short, no-items, not-long, not-malformed, short-if-empty, spelled, stated-malformed, stated-ok, stated-skip}
-use Rattle.vault_lines_read.proofs.SpelledLemmas.{chosen, do-ok, named, values-spelled}
 
 -- ---- what a value asks for
 
@@ -35,29 +32,12 @@ use Rattle.vault_lines_read.proofs.SpelledLemmas.{chosen, do-ok, named, values-s
 abbrev pub SpellsAt : Option ℕ → Data → Timed → Type 0
 SpellsAt moment d t = (moment ≡ Some t.at) × IsName d (codes "as") t.who × SpellsCommand d t.command
 
-abbrev pub IsShapedAs : Data → Verb → Type 0
-IsShapedAs d verb = IsDo d verb × IsTrue (is_timeless verb d)
+abbrev has_timeless_shape : Data → Bool
+has_timeless_shape d = passes is_timeless d
 
-verb-chosen : (d : Data) (name : List ℕ) (found : Option Verb) → get (codes "do") d ≡ Some (string name) → verb_named name ≡ found → Decided (option_map_or (λ verb. is_timeless verb d) found false) (IsShapedAs d) (if_timeless found d)
-verb-chosen d name None e f = refl
-verb-chosen d name (Some verb) e f = shaped (is_timeless verb d) refl
-  where
-    shaped : (b : Bool) → is_timeless verb d ≡ b → Decided b (IsShapedAs d) (if b then Ok verb else Err MalformedBody)
-    shaped true g = (e ∙ ap (λ t. Some (string t)) (is-name name verb f), g)
-    shaped false g = refl
-
-verb-found : (d : Data) (found : Option Data) → get (codes "do") d ≡ found → Decided (option_map_or (λ verb. is_timeless verb d) (option_and_then verb_named (option_and_then as_str found)) false) (IsShapedAs d) (or_malformed (option_and_then as_str found) >>= (λ name. if_timeless (verb_named name) d))
-verb-found d None e = refl
-verb-found d (Some null) e = refl
-verb-found d (Some (boolean b)) e = refl
-verb-found d (Some (number n)) e = refl
-verb-found d (Some (string name)) e = verb-chosen d name (verb_named name) e refl
-verb-found d (Some (array ds)) e = refl
-verb-found d (Some (object ms)) e = refl
-
-stated-verb : (d : Data) → Decided (has_timeless_shape d) (IsShapedAs d) (timeless_verb_of d)
+stated-verb : (d : Data) → Decided (has_timeless_shape d) (Passes is_timeless d) (timeless_verb_of d)
 unfolding timeless_verb_of text_of
-stated-verb d = verb-found d (get (codes "do") d) refl
+stated-verb d = verb-found is_timeless d (get (codes "do") d) refl
 
 reads-clock : (moment : Option ℕ) → Reads (λ at. moment ≡ Some at) (clock_of moment)
 reads-clock None = λ e. cc
@@ -74,22 +54,14 @@ stated-stamped moment d =
 
 -- ---- what spells a command
 
-abbrev shape_of : Option Data → Data → Bool
-shape_of found d = option_map_or (λ v. is_timeless v d) (option_and_then verb_named (option_and_then as_str found)) false
-
-is-shaped : (d : Data) (verb : Verb) → IsDo d verb → has_timeless_shape d ≡ true → is_timeless verb d ≡ true
-is-shaped d verb e shape =
-    ap (λ found. option_map_or (λ v. is_timeless v d) found false) (sym (named verb)) ∙ ap (λ found. shape_of found d) (sym e) ∙ shape
-
-verb-ok : (d : Data) (verb : Verb) → IsDo d verb → is_timeless verb d ≡ true → timeless_verb_of d ≡ Ok verb
+verb-ok : (d : Data) (verb : Verb) → IsDo d verb → IsTrue (is_timeless verb d) → timeless_verb_of d ≡ Ok verb
 unfolding timeless_verb_of
-verb-ok d verb e shaped =
-    ap (λ r. r >>= (λ name. if_timeless (verb_named name) d)) (do-ok d verb e) ∙ ap (λ found. if_timeless found d) (named verb) ∙ chosen verb (is_timeless verb d) shaped
+verb-ok d verb do_is shaped = passes-ok is_timeless d verb do_is shaped
 
 reads-as-verb : (verb : Verb) (d : Data) (at : ℕ) (who : List ℕ) (c : Command) → IsDo d verb → IsTrue (has_timeless_shape d) → IsName d (codes "as") who → values_of verb d ≡ Ok c → stamped_of (Some at) d ≡ Ok (record { at = at; who = who; command = c })
 unfolding stamped_of
 reads-as-verb verb d at who c do_is shape who_is values =
-    rw (verb-ok d verb do_is (is-shaped d verb do_is shape), asker-ok d who who_is, values) refl
+    rw (verb-ok d verb do_is (sym (test-is is_timeless d verb do_is) ∙ shape), asker-ok d who who_is, values) refl
 
 reads-stamped : (moment : Option ℕ) (d : Data) (t : Timed) → IsTrue (has_timeless_shape d) → SpellsAt moment d t → stamped_of moment d ≡ Ok t
 reads-stamped moment d t shape s =
@@ -120,21 +92,29 @@ asks moment false true found t e = cc
 asks moment false false None t e = cc
 asks moment false false (Some d) t e = record { short = refl; filled = refl; value = d; is_value = refl; reading = stated-ok (stamped_of moment d) t e }
 
+has-shape : (d : Data) → HasTimelessForm d → has_timeless_shape d ≡ true
+has-shape d (verb, do_is, shaped) = test-is is_timeless d verb do_is ∙ shaped
+
+has-form : (d : Data) → has_timeless_shape d ≡ true → HasTimelessForm d
+has-form d shape =
+    let found = some-verb is_timeless d shape in
+    (found.0, found.1.0, found.1.1)
+
 pub command-is-spelled : (moment : Option ℕ) (bytes : List ℕ) (t : Timed) → stamped_line_of moment bytes ≡ line.Command t → IsStampedLineOf moment bytes t
 command-is-spelled moment bytes t e =
     let asked = asks moment _ _ _ t (sym (is-read-as moment bytes) ∙ e) in
     let found = spelled (has_timeless_shape asked.value) (SpellsAt moment asked.value) (stamped_of moment asked.value) t (stated-stamped moment asked.value) asked.reading in
-    (not-long (length bytes) asked.short, (asked.value, asked.is_value, found.0, found.1.0, found.1.1, found.1.2))
+    (not-long (length bytes) asked.short, (asked.value, asked.is_value, has-form asked.value found.0, found.1.0, found.1.1, found.1.2))
 
 reads : (moment : Option ℕ) (bytes : List ℕ) (d : Data) → length bytes ≤ longest_line → json_of (without_cr bytes) ≡ Some d → stamped_line_of moment bytes ≡ stated (stamped_of moment d)
 reads moment bytes d short found = is-read-as moment bytes ∙ rw (is-short (length bytes) short, is-filled None (without_cr bytes) d found, found) refl
 
 pub spelled-is-command : (moment : Option ℕ) (bytes : List ℕ) (t : Timed) → IsStampedLineOf moment bytes t → stamped_line_of moment bytes ≡ line.Command t
 spelled-is-command moment bytes t h =
-    reads moment bytes h.1.0 h.0 h.1.1 ∙ ap (λ r. stated r) (reads-stamped moment h.1.0 t h.1.2 (h.1.3, h.1.4, h.1.5))
+    reads moment bytes h.1.0 h.0 h.1.1 ∙ ap (λ r. stated r) (reads-stamped moment h.1.0 t (has-shape h.1.0 h.1.2) (h.1.3, h.1.4, h.1.5))
 
 pub shape-is-kept : (moment : Option ℕ) (bytes : List ℕ) → stamped_line_of moment bytes ≡ line.Refused MalformedBody → HasTimelessShape bytes → ⊥
-shape-is-kept moment bytes e h = not-malformed (has_timeless_shape h.1.0) (SpellsAt moment h.1.0) (stamped_of moment h.1.0) (stated-stamped moment h.1.0) h.1.2 (sym (reads moment bytes h.1.0 h.0 h.1.1) ∙ e)
+shape-is-kept moment bytes e h = not-malformed (has_timeless_shape h.1.0) (SpellsAt moment h.1.0) (stamped_of moment h.1.0) (stated-stamped moment h.1.0) (has-shape h.1.0 h.1.2) (sym (reads moment bytes h.1.0 h.0 h.1.1) ∙ e)
 
 malformed-read : (moment : Option ℕ) (long empty : Bool) (found : Option Data) → (empty ≡ true → ⊥) → ((d : Data) → long ≡ false → found ≡ Some d → has_timeless_shape d ≡ true → ⊥) → read_as moment long empty found ≡ line.Refused MalformedBody
 malformed-read moment true empty found filled other = refl
@@ -146,7 +126,7 @@ pub malformed : (moment : Option ℕ) (bytes : List ℕ) → (without_cr bytes �
 malformed moment bytes filled other =
     is-read-as moment bytes ∙ malformed-read moment _ _ _
     (λ e. filled (no-items (without_cr bytes) e))
-    (λ d short found shape. other (not-long (length bytes) short, (d, found, shape)))
+    (λ d short found shape. other (not-long (length bytes) short, (d, found, has-form d shape)))
 
 -- an empty line asks for nothing
 pub skip-empty : (moment : Option ℕ) (bytes : List ℕ) → without_cr bytes ≡ [] → stamped_line_of moment bytes ≡ line.Skip

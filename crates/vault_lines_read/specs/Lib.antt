@@ -1,9 +1,6 @@
+pub mod Fields
 pub mod Grammar
-pub mod ReadLine
-pub mod Verb
-pub mod RecordLines
-pub mod ConfigLines
-pub mod EntryLines
-pub mod LockLines
 pub mod ListLine
+pub mod ReadLine
 pub mod Stamped
+pub mod Verb

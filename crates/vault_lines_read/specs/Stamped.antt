@@ -1,6 +1,5 @@
 -- What a line asks for that has no reading of its own: the clock's is put to it.
-use Rattle.std.specs.Prelude.{ℕ, ◌≡◌, ◌≤◌, ◌==◌, ◌&&◌, nat_lt, ⊤, Bool, false, IsTrue, List, [], ◌∷◌, length, drop, codes, if◌then◌else◌, Option, Some, None, Result, Ok, Err}
-use Rattle.std.specs.Option.{option_map_or}
+use Rattle.std.specs.Prelude.{ℕ, ◌≡◌, ◌≤◌, ◌==◌, ◌&&◌, nat_lt, ⊤, Bool, IsTrue, List, [], ◌∷◌, length, drop, codes, if◌then◌else◌, Option, Some, None, Result, Ok, Err}
 use Rattle.std.specs.Str.{bytes_eq}
 use Rattle.serde_json.specs.Data.{Data}
 use Rattle.vault_base.specs.declared.refusal.Refusal.{Refusal}
@@ -9,43 +8,35 @@ use Rattle.vault_base.specs.Limits.{longest_line}
 use Rattle.vault_core_model.specs.declared.command.Timed.{Timed}
 use Rattle.vault_lines_json.specs.Document.{document_of, json_of}
 use Rattle.vault_lines_json.specs.Members.{text_of}
-use Rattle.vault_lines_json.specs.Shape.{has_members, has_one_content}
+use Rattle.vault_lines_json.specs.Shape.{has_members}
 use Rattle.vault_lines_json.specs.Spelling.{IsName}
 use Rattle.vault_lines_json.specs.Values.{asker_of}
 use Rattle.vault_lines_json.specs.declared.shape.Kind.{Kind}
 use Rattle.vault_lines_json.specs.declared.shape.Kind.TheVariants.{Text}
 use Rattle.vault_values.specs.Fault.{◌>>=◌}
-use Rattle.vault_lines_read.specs.Grammar.{SpellsCommand, verb_in}
-use Rattle.vault_lines_read.specs.ReadLine.{stated, values_of, without_cr}
-use Rattle.vault_lines_read.specs.Verb.{members_of, verb_named}
+use Rattle.vault_lines_read.specs.Grammar.{IsDo, SpellsCommand}
+use Rattle.vault_lines_read.specs.ReadLine.{if_passes, stated, without_cr}
+use Rattle.vault_lines_read.specs.Verb.{has_single_content, members_of, values_of, verb_named}
 use Rattle.vault_lines_read.specs.declared.read_line.Line.{Line}
 use Rattle.vault_lines_read.specs.declared.read_line.Line.TheVariants as line
 use Rattle.vault_lines_read.specs.declared.verb.Verb.{Verb}
-use Rattle.vault_lines_read.specs.declared.verb.Verb.TheVariants as verb
 
 -- the members of a line without its first, the reading
 abbrev pub timeless_of : Verb → List (List ℕ × Kind)
 timeless_of verb = drop 1 (members_of verb)
 
--- the value is an object of just these members
 abbrev pub has_timeless : Verb → Data → Bool
 has_timeless verb d = has_members (timeless_of verb) d
 
--- the same, and a content is written by exactly one of text and hex
+-- the value is an object of just these members
 abbrev pub is_timeless : Verb → Data → Bool
-is_timeless verb.Put d = has_timeless verb.Put d && has_one_content d
-is_timeless verb.Intake d = has_timeless verb.Intake d && has_one_content d
-is_timeless verb d = has_timeless verb d
+is_timeless verb d = has_timeless verb d && has_single_content verb d
 
 -- the verb, if the value has the shape of its line
-abbrev pub if_timeless : Option Verb → Data → Result Verb Refusal
-if_timeless None d = Err MalformedBody
-if_timeless (Some verb) d = if is_timeless verb d then Ok verb else Err MalformedBody
-
 unfoldable pub timeless_verb_of : Data → Result Verb Refusal
 timeless_verb_of d = do
   name ← text_of (codes "do") d
-  if_timeless (verb_named name) d
+  if_passes is_timeless (verb_named name) d
 
 -- the moment that the clock shows
 abbrev pub clock_of : Option ℕ → Result ℕ Refusal
@@ -101,15 +92,15 @@ closer_of bytes = if nat_lt longest_line (length bytes) then None else if_ok (cl
 -- ---- the grammar
 
 -- the value is an object with just the members of the line of its `do`, but for the reading
-abbrev pub has_timeless_shape : Data → Bool
-has_timeless_shape d = option_map_or (λ verb. is_timeless verb d) (verb_in d) false
+abbrev pub HasTimelessForm : Data → Type 0
+HasTimelessForm d = (verb : Verb) × IsDo d verb × IsTrue (is_timeless verb d)
 
 -- the line is the JSON of such an object, its members spell that command, and the clock shows its moment
 abbrev pub IsStampedLineOf : Option ℕ → List ℕ → Timed → Type 0
 IsStampedLineOf moment bytes t =
-    (length bytes ≤ longest_line) × ((d : Data) × (json_of (without_cr bytes) ≡ Some d) × IsTrue (has_timeless_shape d) × (moment ≡ Some t.at) × IsName d (codes "as") t.who × SpellsCommand d t.command)
+    (length bytes ≤ longest_line) × ((d : Data) × (json_of (without_cr bytes) ≡ Some d) × HasTimelessForm d × (moment ≡ Some t.at) × IsName d (codes "as") t.who × SpellsCommand d t.command)
 
 -- the line is the JSON of such an object
 abbrev pub HasTimelessShape : List ℕ → Type 0
 HasTimelessShape bytes =
-    (length bytes ≤ longest_line) × ((d : Data) × (json_of (without_cr bytes) ≡ Some d) × IsTrue (has_timeless_shape d))
+    (length bytes ≤ longest_line) × ((d : Data) × (json_of (without_cr bytes) ≡ Some d) × HasTimelessForm d)

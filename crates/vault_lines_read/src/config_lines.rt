@@ -1,7 +1,10 @@
 //! Lines on the configuration of a bucket, and on its lifecycle runs.
+#![tactic(auto, unfolding(crate::specs::Verb::values_of))]
+
 ghost use Rattle.serde_json.specs.View.{view};
 ghost use Rattle.vault_values.specs.Fault.{Gives};
-ghost use Rattle.vault_lines_read.specs.ConfigLines as spec;
+ghost use Rattle.vault_lines_read.specs.Verb.{values_of};
+ghost use Rattle.vault_lines_read.specs.declared.verb.Verb.TheVariants as verb;
 
 use serde_json::Value;
 use std::alloc::Global;
@@ -12,9 +15,8 @@ use vault_lines_json::{locks, rules, values};
 use vault_values::fault::LineFault;
 
 /// The command of a `set-default` line, or its first fault: a value's refusal, or out of memory.
-#[tactic(auto, unfolding(crate::specs::ConfigLines::set_default_of))]
 pub fn set_default(alloc: Global, value: &Value) -> Result<Command, LineFault>
-    ensures { Gives (λ x. x) result (spec.set_default_of (view value.now)) }
+    ensures { Gives (λ x. x) result (values_of verb.SetDefault (view value.now)) }
 {
     let bucket = values::bucket(alloc, value)?;
     let default = locks::default(value)?;
@@ -22,18 +24,16 @@ pub fn set_default(alloc: Global, value: &Value) -> Result<Command, LineFault>
 }
 
 /// The command of a `get-default` line, or its first fault: a value's refusal, or out of memory.
-#[tactic(auto, unfolding(crate::specs::ConfigLines::get_default_of))]
 pub fn get_default(alloc: Global, value: &Value) -> Result<Command, LineFault>
-    ensures { Gives (λ x. x) result (spec.get_default_of (view value.now)) }
+    ensures { Gives (λ x. x) result (values_of verb.GetDefault (view value.now)) }
 {
     let bucket = values::bucket(alloc, value)?;
     Ok(Command::GetDefault(GetDefault { bucket }))
 }
 
 /// The command of a `set-rules` line, or its first fault: a value's refusal, or out of memory.
-#[tactic(auto, unfolding(crate::specs::ConfigLines::set_rules_of))]
 pub fn set_rules(alloc: Global, value: &Value) -> Result<Command, LineFault>
-    ensures { Gives (λ x. x) result (spec.set_rules_of (view value.now)) }
+    ensures { Gives (λ x. x) result (values_of verb.SetRules (view value.now)) }
 {
     let bucket = values::bucket(alloc, value)?;
     let rules = rules::rules(alloc, value)?;
@@ -41,27 +41,24 @@ pub fn set_rules(alloc: Global, value: &Value) -> Result<Command, LineFault>
 }
 
 /// The command of a `get-rules` line, or its first fault: a value's refusal, or out of memory.
-#[tactic(auto, unfolding(crate::specs::ConfigLines::get_rules_of))]
 pub fn get_rules(alloc: Global, value: &Value) -> Result<Command, LineFault>
-    ensures { Gives (λ x. x) result (spec.get_rules_of (view value.now)) }
+    ensures { Gives (λ x. x) result (values_of verb.GetRules (view value.now)) }
 {
     let bucket = values::bucket(alloc, value)?;
     Ok(Command::GetRules(GetRules { bucket }))
 }
 
 /// The command of a `drop-rules` line, or its first fault: a value's refusal, or out of memory.
-#[tactic(auto, unfolding(crate::specs::ConfigLines::drop_rules_of))]
 pub fn drop_rules(alloc: Global, value: &Value) -> Result<Command, LineFault>
-    ensures { Gives (λ x. x) result (spec.drop_rules_of (view value.now)) }
+    ensures { Gives (λ x. x) result (values_of verb.DropRules (view value.now)) }
 {
     let bucket = values::bucket(alloc, value)?;
     Ok(Command::DropRules(DropRules { bucket }))
 }
 
 /// The command of a `run` line, or its first fault: a value's refusal, or out of memory.
-#[tactic(auto, unfolding(crate::specs::ConfigLines::run_of))]
 pub fn run(alloc: Global, value: &Value) -> Result<Command, LineFault>
-    ensures { Gives (λ x. x) result (spec.run_of (view value.now)) }
+    ensures { Gives (λ x. x) result (values_of verb.Run (view value.now)) }
 {
     let bucket = values::bucket(alloc, value)?;
     Ok(Command::Run(Run { bucket }))

@@ -4,6 +4,8 @@ ghost use Rattle.serde_json.specs.Find.{get};
 ghost use Rattle.serde_json.specs.View.{view};
 ghost use Rattle.vault_values.specs.Fault.{Gives};
 ghost use Rattle.vault_lines_read.specs.ListLine as spec;
+ghost use Rattle.vault_lines_read.specs.Verb.{values_of};
+ghost use Rattle.vault_lines_read.specs.declared.verb.Verb.TheVariants as verb;
 
 use serde_json::Value;
 use std::alloc::Global;
@@ -38,9 +40,9 @@ fn most(value: &Value) -> Result<u32, LineFault>
 }
 
 /// The command of a `list-versions` line, or its first fault: a value's refusal, or out of memory.
-#[tactic(auto, unfolding(crate::specs::ListLine::list_versions_of))]
+#[tactic(auto, unfolding(crate::specs::Verb::values_of))]
 pub fn list_versions(alloc: Global, value: &Value) -> Result<Command, LineFault>
-    ensures { Gives (λ x. x) result (spec.list_versions_of (view value.now)) }
+    ensures { Gives (λ x. x) result (values_of verb.ListVersions (view value.now)) }
 {
     let bucket = values::bucket(alloc, value)?;
     let prefix = values::prefix(alloc, "prefix", value)?;

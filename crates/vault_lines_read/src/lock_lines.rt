@@ -1,7 +1,10 @@
 //! Lines on the retention and the legal hold of a version.
+#![tactic(auto, unfolding(crate::specs::Verb::values_of))]
+
 ghost use Rattle.serde_json.specs.View.{view};
 ghost use Rattle.vault_values.specs.Fault.{Gives};
-ghost use Rattle.vault_lines_read.specs.LockLines as spec;
+ghost use Rattle.vault_lines_read.specs.Verb.{values_of};
+ghost use Rattle.vault_lines_read.specs.declared.verb.Verb.TheVariants as verb;
 
 use serde_json::Value;
 use std::alloc::Global;
@@ -10,9 +13,8 @@ use vault_lines_json::{locks, values};
 use vault_values::fault::LineFault;
 
 /// The command of a `set-retention` line, or its first fault: a value's refusal, or out of memory.
-#[tactic(auto, unfolding(crate::specs::LockLines::set_retention_of))]
 pub fn set_retention(alloc: Global, value: &Value) -> Result<Command, LineFault>
-    ensures { Gives (λ x. x) result (spec.set_retention_of (view value.now)) }
+    ensures { Gives (λ x. x) result (values_of verb.SetRetention (view value.now)) }
 {
     let bucket = values::bucket(alloc, value)?;
     let key = values::key(alloc, value)?;
@@ -29,9 +31,8 @@ pub fn set_retention(alloc: Global, value: &Value) -> Result<Command, LineFault>
 }
 
 /// The command of a `get-retention` line, or its first fault: a value's refusal, or out of memory.
-#[tactic(auto, unfolding(crate::specs::LockLines::get_retention_of))]
 pub fn get_retention(alloc: Global, value: &Value) -> Result<Command, LineFault>
-    ensures { Gives (λ x. x) result (spec.get_retention_of (view value.now)) }
+    ensures { Gives (λ x. x) result (values_of verb.GetRetention (view value.now)) }
 {
     let bucket = values::bucket(alloc, value)?;
     let key = values::key(alloc, value)?;
@@ -40,9 +41,8 @@ pub fn get_retention(alloc: Global, value: &Value) -> Result<Command, LineFault>
 }
 
 /// The command of a `set-hold` line, or its first fault: a value's refusal, or out of memory.
-#[tactic(auto, unfolding(crate::specs::LockLines::set_hold_of))]
 pub fn set_hold(alloc: Global, value: &Value) -> Result<Command, LineFault>
-    ensures { Gives (λ x. x) result (spec.set_hold_of (view value.now)) }
+    ensures { Gives (λ x. x) result (values_of verb.SetHold (view value.now)) }
 {
     let bucket = values::bucket(alloc, value)?;
     let key = values::key(alloc, value)?;
@@ -57,9 +57,8 @@ pub fn set_hold(alloc: Global, value: &Value) -> Result<Command, LineFault>
 }
 
 /// The command of a `get-hold` line, or its first fault: a value's refusal, or out of memory.
-#[tactic(auto, unfolding(crate::specs::LockLines::get_hold_of))]
 pub fn get_hold(alloc: Global, value: &Value) -> Result<Command, LineFault>
-    ensures { Gives (λ x. x) result (spec.get_hold_of (view value.now)) }
+    ensures { Gives (λ x. x) result (values_of verb.GetHold (view value.now)) }
 {
     let bucket = values::bucket(alloc, value)?;
     let key = values::key(alloc, value)?;

@@ -2,7 +2,8 @@
 ghost use Rattle.std.specs.Prelude.{◌≡◌, IfOk};
 ghost use Rattle.serde_json.specs.View.{view};
 ghost use Rattle.vault_values.specs.Fault.{Gives};
-ghost use Rattle.vault_lines_read.specs.ReadLine.{verb_of, values_of, timed_of, command_of, without_cr, line_of};
+ghost use Rattle.vault_lines_read.specs.ReadLine.{verb_of, timed_of, command_of, without_cr, line_of};
+ghost use Rattle.vault_lines_read.specs.Verb.{values_of};
 
 use crate::verb::Verb;
 use crate::{config_lines, entry_lines, list_line, lock_lines, record_lines};

@@ -17,7 +17,7 @@ use vault_base::refusal::Refusal;
 use vault_core_model::command::Timed;
 use vault_lines_json::document::document;
 use vault_lines_json::members::text_of;
-use vault_lines_json::shape::{Kind, has_members, has_one_content};
+use vault_lines_json::shape::{Kind, has_members};
 use vault_lines_json::values::asker;
 use vault_values::fault::LineFault;
 
@@ -34,11 +34,7 @@ fn has_timeless(verb: Verb, value: &Value) -> bool
 fn is_timeless(verb: Verb, value: &Value) -> bool
     ensures { result ≡ spec.is_timeless verb (view value.now) }
 {
-    match verb {
-        Verb::Put => has_timeless(verb, value) && has_one_content(value),
-        Verb::Intake => has_timeless(verb, value) && has_one_content(value),
-        _ => has_timeless(verb, value),
-    }
+    has_timeless(verb, value) && verb.has_single_content(value)
 }
 
 /// The verb of a line, where the value has the shape of its line.

@@ -1,5 +1,5 @@
-//! The lines that there are: the `do` of each, and its members.
-ghost use Rattle.std.specs.Prelude.{◌≡◌, map};
+//! The lines that there are: the verb of each, its name and its members.
+ghost use Rattle.std.specs.Prelude.{◌≡◌, map, option_map};
 ghost use Rattle.std.specs.List.{find};
 ghost use Rattle.std.specs.Str.{bytes_eq};
 ghost use Rattle.serde_json.specs.View.{view};
@@ -37,34 +37,6 @@ pub enum Verb {
     Certificate,
     Intake,
 }
-
-/// All verbs.
-pub const VERBS: [Verb; 24] = [
-    Verb::AddDept,
-    Verb::AddCaller,
-    Verb::CloseCaller,
-    Verb::AddBucket,
-    Verb::MoveBucket,
-    Verb::SetDefault,
-    Verb::GetDefault,
-    Verb::SetRules,
-    Verb::GetRules,
-    Verb::DropRules,
-    Verb::Put,
-    Verb::Get,
-    Verb::Head,
-    Verb::ListVersions,
-    Verb::Delete,
-    Verb::DeleteVersion,
-    Verb::SetRetention,
-    Verb::GetRetention,
-    Verb::SetHold,
-    Verb::GetHold,
-    Verb::Run,
-    Verb::Report,
-    Verb::Certificate,
-    Verb::Intake,
-];
 
 const AT: (&str, Kind) = ("at", Kind::Text);
 
@@ -174,12 +146,43 @@ const INTAKE: [(&str, Kind); 12] = [
     HOLD,
 ];
 
-/// The first of these verbs that has that name.
-fn named(verbs: &[Verb], name: &str) -> Option<Verb>
-    ensures { result ≡ find (λ verb. bytes_eq name.now (spec.verb_name verb)) verbs.now }
+/// A verb, the name that a line's `do` calls it by, and the members of its line.
+pub type Form = (Verb, &'static str, &'static [(&'static str, Kind)]);
+
+/// The lines that there are, in the order of their verbs.
+pub static FORMS: [Form; 24] = [
+    (Verb::AddDept, "add-dept", &OF_DEPT),
+    (Verb::AddCaller, "add-caller", &ADD_CALLER),
+    (Verb::CloseCaller, "close-caller", &OF_CALLER),
+    (Verb::AddBucket, "add-bucket", &OF_BUCKET_AND_DEPT),
+    (Verb::MoveBucket, "move-bucket", &OF_BUCKET_AND_DEPT),
+    (Verb::SetDefault, "set-default", &SET_DEFAULT),
+    (Verb::GetDefault, "get-default", &OF_BUCKET),
+    (Verb::SetRules, "set-rules", &SET_RULES),
+    (Verb::GetRules, "get-rules", &OF_BUCKET),
+    (Verb::DropRules, "drop-rules", &OF_BUCKET),
+    (Verb::Put, "put", &PUT),
+    (Verb::Get, "get", &OF_ENTRY),
+    (Verb::Head, "head", &OF_ENTRY),
+    (Verb::ListVersions, "list-versions", &LIST_VERSIONS),
+    (Verb::Delete, "delete", &DELETE),
+    (Verb::DeleteVersion, "delete-version", &DELETE_VERSION),
+    (Verb::SetRetention, "set-retention", &SET_RETENTION),
+    (Verb::GetRetention, "get-retention", &OF_ENTRY),
+    (Verb::SetHold, "set-hold", &SET_HOLD),
+    (Verb::GetHold, "get-hold", &OF_ENTRY),
+    (Verb::Run, "run", &OF_BUCKET),
+    (Verb::Report, "report", &OF_DEPT),
+    (Verb::Certificate, "certificate", &CERTIFICATE),
+    (Verb::Intake, "intake", &INTAKE),
+];
+
+/// The verb of the first of these lines that has that name.
+fn named(forms: &[Form], name: &str) -> Option<Verb>
+    ensures { result ≡ option_map (λ form. form.0) (find (λ form. bytes_eq name.now form.1.now) forms.now) }
 {
-    for verb in verbs {
-        if name == verb.name() {
+    for (verb, known, _) in forms {
+        if name == *known {
             return Some(*verb);
         }
     }
@@ -191,50 +194,28 @@ impl Verb {
     pub fn read(text: &str) -> Option<Verb>
         ensures { result ≡ spec.verb_named text.now }
     {
-        named(&VERBS, text)
+        named(&FORMS, text)
+    }
+
+    fn form(self) -> &'static Form
+        ensures name { result.now.1.now ≡ spec.verb_name self }
+        ensures members { map (λ m. (m.0.now, m.1)) result.now.2.now ≡ spec.members_of self }
+    {
+        &FORMS[self as usize]
     }
 
     /// The name that a line's `do` calls this verb by.
     pub fn name(self) -> &'static str
         ensures { result.now ≡ spec.verb_name self }
     {
-        match self {
-            Verb::AddDept => "add-dept",
-            Verb::AddCaller => "add-caller",
-            Verb::CloseCaller => "close-caller",
-            Verb::AddBucket => "add-bucket",
-            Verb::MoveBucket => "move-bucket",
-            Verb::SetDefault => "set-default",
-            Verb::GetDefault => "get-default",
-            Verb::SetRules => "set-rules",
-            Verb::GetRules => "get-rules",
-            Verb::DropRules => "drop-rules",
-            Verb::Put => "put",
-            Verb::Get => "get",
-            Verb::Head => "head",
-            Verb::ListVersions => "list-versions",
-            Verb::Delete => "delete",
-            Verb::DeleteVersion => "delete-version",
-            Verb::SetRetention => "set-retention",
-            Verb::GetRetention => "get-retention",
-            Verb::SetHold => "set-hold",
-            Verb::GetHold => "get-hold",
-            Verb::Run => "run",
-            Verb::Report => "report",
-            Verb::Certificate => "certificate",
-            Verb::Intake => "intake",
-        }
+        self.form().1
     }
 
-    /// The value is an object of just the members of this verb's line, each of its kind.
-    pub fn is_shaped(self, value: &Value) -> bool
-        ensures { result ≡ spec.is_shaped self (view value.now) }
+    /// The members of this verb's line.
+    pub fn members(self) -> &'static [(&'static str, Kind)]
+        ensures { map (λ m. (m.0.now, m.1)) result.now ≡ spec.members_of self }
     {
-        match self {
-            Verb::Put => self.has_members(value) && has_one_content(value),
-            Verb::Intake => self.has_members(value) && has_one_content(value),
-            _ => self.has_members(value),
-        }
+        self.form().2
     }
 
     fn has_members(self, value: &Value) -> bool
@@ -243,35 +224,20 @@ impl Verb {
         has_members(value, self.members())
     }
 
-    /// The members of this verb's line.
-    pub fn members(self) -> &'static [(&'static str, Kind)]
-        ensures { map (λ m. (m.0.now, m.1)) result.now ≡ spec.members_of self }
+    /// A content, where this verb's line has one, is written by exactly one of `text` and `hex`.
+    pub fn has_single_content(self, value: &Value) -> bool
+        ensures { result ≡ spec.has_single_content self (view value.now) }
     {
         match self {
-            Verb::AddDept => &OF_DEPT,
-            Verb::AddCaller => &ADD_CALLER,
-            Verb::CloseCaller => &OF_CALLER,
-            Verb::AddBucket => &OF_BUCKET_AND_DEPT,
-            Verb::MoveBucket => &OF_BUCKET_AND_DEPT,
-            Verb::SetDefault => &SET_DEFAULT,
-            Verb::GetDefault => &OF_BUCKET,
-            Verb::SetRules => &SET_RULES,
-            Verb::GetRules => &OF_BUCKET,
-            Verb::DropRules => &OF_BUCKET,
-            Verb::Put => &PUT,
-            Verb::Get => &OF_ENTRY,
-            Verb::Head => &OF_ENTRY,
-            Verb::ListVersions => &LIST_VERSIONS,
-            Verb::Delete => &DELETE,
-            Verb::DeleteVersion => &DELETE_VERSION,
-            Verb::SetRetention => &SET_RETENTION,
-            Verb::GetRetention => &OF_ENTRY,
-            Verb::SetHold => &SET_HOLD,
-            Verb::GetHold => &OF_ENTRY,
-            Verb::Run => &OF_BUCKET,
-            Verb::Report => &OF_DEPT,
-            Verb::Certificate => &CERTIFICATE,
-            Verb::Intake => &INTAKE,
+            Verb::Put | Verb::Intake => has_one_content(value),
+            _ => true,
         }
+    }
+
+    /// The value is an object of just the members of this verb's line, each of its kind.
+    pub fn is_shaped(self, value: &Value) -> bool
+        ensures { result ≡ spec.is_shaped self (view value.now) }
+    {
+        self.has_members(value) && self.has_single_content(value)
     }
 }

@@ -62,7 +62,7 @@ bounds-whole r = newer-whole _ r.larger _ (newer-whole _ r.smaller _ refl)
 rule-whole : (r : Rule) → has_float (rule_value r) ≡ false
 rule-whole r = expiration-whole _ r.days r.lone_markers _ (noncurrent-whole _ r.noncurrent _ (bounds-whole r))
 
-rules-whole : (rules : List Rule) → items_have_float (items_of (map rule_value rules)) ≡ false
+pub rules-whole : (rules : List Rule) → items_have_float (items_of (map rule_value rules)) ≡ false
 rules-whole [] = refl
 rules-whole (r ∷ rs) = rw (rule-whole r) (rules-whole rs)
 

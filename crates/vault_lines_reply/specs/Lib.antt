@@ -1,3 +1,4 @@
 pub mod ReplyLine
 pub mod Putting
 pub mod Object
+pub mod SpelledRule

@@ -1,6 +1,6 @@
 //! Replies, printed as lines of JSON.
 #![tactic(auto)]
 
-mod object;
+pub mod object;
 pub mod reply_line;
-mod rule_value;
+pub mod rule_value;

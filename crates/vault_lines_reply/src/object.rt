@@ -10,7 +10,7 @@ use std::alloc::{AllocError, Global};
 
 /// A value that has no values inside.
 #[derive(Clone, Copy)]
-pub(crate) enum Plain<'a> {
+pub enum Plain<'a> {
     Text(&'a str),
     Whole(u64),
     Flag(bool),
@@ -26,8 +26,8 @@ fn plain_value(alloc: Global, plain: Plain) -> Result<Value, AllocError>
     }
 }
 
-/// Puts in each of these members.
-pub(crate) fn put_plain(
+/// Puts in each of these members; one that is there already gets the new value. The only error is out of memory.
+pub fn put_plain(
     members: &mut Map<String, Value>,
     alloc: Global,
     plain: &[(&str, Plain)],
@@ -41,8 +41,8 @@ pub(crate) fn put_plain(
     Ok(())
 }
 
-/// The object of these members.
-pub(crate) fn plain_object(alloc: Global, plain: &[(&str, Plain)]) -> Result<Value, AllocError>
+/// The object of these members. The only error is out of memory.
+pub fn plain_object(alloc: Global, plain: &[(&str, Plain)]) -> Result<Value, AllocError>
     ensures { IfOk result (λ value. view value ≡ object (fold (λ ms m. with_member m.0.now (plain_data m.1) ms) no_members plain.now)) }
 {
     let mut members = Map::new(alloc);
@@ -50,8 +50,8 @@ pub(crate) fn plain_object(alloc: Global, plain: &[(&str, Plain)]) -> Result<Val
     Ok(Value::Object(members))
 }
 
-/// The object of this member alone.
-pub(crate) fn object_of(alloc: Global, name: &str, value: Value) -> Result<Value, AllocError>
+/// The object of this member alone. The only error is out of memory.
+pub fn object_of(alloc: Global, name: &str, value: Value) -> Result<Value, AllocError>
     ensures { IfOk result (λ made. view made ≡ object (member name.now (view value) no_members)) }
 {
     let mut members = Map::new(alloc);

@@ -1,8 +1,10 @@
 //! Lifecycle rules as S3's JSON has them (API Reference, "GetBucketLifecycleConfiguration").
-ghost use Rattle.std.specs.Prelude.{◌≡◌, IfOk, OnOk, codes, map, option_map};
+ghost use Rattle.std.specs.Prelude.{◌≡◌, All, IfOk, IsTrue, OnOk, codes, map, option_map};
 ghost use Rattle.serde_json.specs.View.{view, members_view};
+ghost use Rattle.vault_base.specs.Name.{is_key_prefix};
 ghost use Rattle.vault_lines_reply.specs.Putting.{put_if};
 ghost use Rattle.vault_lines_reply.specs.ReplyLine as spec;
+ghost use Rattle.vault_lines_reply.specs.SpelledRule.{IsSpelledRule};
 
 use crate::object::{Plain, object_of, plain_object, put_plain};
 use serde_json::{Map, Value, put};
@@ -19,8 +21,10 @@ pub(crate) fn rules_value(alloc: Global, rules: &RuleSet) -> Result<Value, Alloc
     object_of(alloc, "rules", list)
 }
 
-fn rule_values(alloc: Global, rules: &[Rule]) -> Result<Vec<Value>, AllocError>
-    ensures { IfOk result (λ list. map view list.items ≡ map spec.rule_value rules.now) }
+/// The value of each rule, in order. Each has an id and a prefix, as its type says. The only error is out of memory.
+pub fn rule_values(alloc: Global, rules: &[Rule]) -> Result<Vec<Value>, AllocError>
+    ensures values { IfOk result (λ list. map view list.items ≡ map spec.rule_value rules.now) }
+    ensures spelled { IfOk result (λ list. All IsSpelledRule rules.now) }
 {
     let mut list = Vec::new(alloc);
     for rule in rules {
@@ -31,14 +35,16 @@ fn rule_values(alloc: Global, rules: &[Rule]) -> Result<Vec<Value>, AllocError>
 
 /// What is absent is left out; a prefix is printed also where it is empty.
 fn rule_value(alloc: Global, rule: &Rule) -> Result<Value, AllocError>
-    ensures { IfOk result (λ value. view value ≡ spec.rule_value rule.now) }
+    ensures value { IfOk result (λ value. view value ≡ spec.rule_value rule.now) }
+    ensures spelled { IfOk result (λ value. IsSpelledRule rule.now) }
 {
     Ok(Value::Object(rule_members(alloc, rule)?))
 }
 
 /// The members of a rule that are always there, but for its id.
 fn named_members(alloc: Global, rule: &Rule) -> Result<Map<String, Value>, AllocError>
-    ensures { IfOk result (λ members. members_view members.entries ≡ spec.named_members rule.now) }
+    ensures members { IfOk result (λ members. members_view members.entries ≡ spec.named_members rule.now) }
+    ensures prefix { IfOk result (λ members. IsTrue (is_key_prefix rule.now.prefix)) }
 {
     let mut members = Map::new(alloc);
     put_plain(
@@ -70,7 +76,8 @@ fn put_size(
 /// Those, with the bounds of sizes.
 #[tactic(auto, using(crate::proofs::RuleLemmas::bounded))]
 fn bounded_members(alloc: Global, rule: &Rule) -> Result<Map<String, Value>, AllocError>
-    ensures { IfOk result (λ members. members_view members.entries ≡ spec.bounded_members rule.now) }
+    ensures members { IfOk result (λ members. members_view members.entries ≡ spec.bounded_members rule.now) }
+    ensures prefix { IfOk result (λ members. IsTrue (is_key_prefix rule.now.prefix)) }
 {
     let mut members = named_members(alloc, rule)?;
     put_size(&mut members, alloc, "ObjectSizeLessThan", rule.smaller)?;
@@ -81,7 +88,8 @@ fn bounded_members(alloc: Global, rule: &Rule) -> Result<Map<String, Value>, All
 /// All members of a rule.
 #[tactic(auto, using(crate::proofs::RuleLemmas::all_members))]
 fn rule_members(alloc: Global, rule: &Rule) -> Result<Map<String, Value>, AllocError>
-    ensures { IfOk result (λ members. members_view members.entries ≡ spec.rule_members rule.now) }
+    ensures members { IfOk result (λ members. members_view members.entries ≡ spec.rule_members rule.now) }
+    ensures spelled { IfOk result (λ members. IsSpelledRule rule.now) }
 {
     let mut members = bounded_members(alloc, rule)?;
     put_noncurrent(&mut members, alloc, rule.noncurrent)?;

@@ -4,8 +4,8 @@ use Rattle.std.proofs.lemmas.Grind.{common_steps}
 use Rattle.std.proofs.lemmas.List.{take_more}
 use Rattle.std.proofs.lemmas.List.Elements.{All-push}
 use Rattle.vault_rules.specs.declared.rule.Rule.{Rule}
-use Rattle.vault_lines_print.specs.Spelled.{IsSpelledRule}
-use Rattle.vault_lines_print.proofs.rule_value.rule_values.Goals as goal
+use Rattle.vault_lines_reply.specs.SpelledRule.{IsSpelledRule}
+use Rattle.vault_lines_reply.proofs.rule_value.rule_values.Goals as goal
 
 one-more : (listed : List Rule) (i : ℕ) (r : Rule) → i < length listed → r ≡ get_or listed i r → All IsSpelledRule (take i listed) → IsSpelledRule r → All IsSpelledRule (take (i + 1) listed)
 one-more listed i r within is before spelled =
