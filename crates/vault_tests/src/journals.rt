@@ -6,8 +6,7 @@ use std::io::{self, Write};
 use std::test::Fail;
 use vault_core_list::list_keeper::ListKeeper;
 use vault_core_model::keeper::Keeper;
-use vaultctl_journal::{Journal, JournalState};
-use vaultctl_replay::replay_observed;
+use vaultctl_replay::{Journal, JournalState, replay_observed};
 
 /// Three lines, each of a command that changes a vault.
 const SCRIPT: &str = r#"{"at":"2014-01-01T00:00:00Z","as":"registrar","do":"add-dept","dept":"d"}

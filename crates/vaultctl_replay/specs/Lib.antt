@@ -1,2 +1,5 @@
 pub mod Lines
 pub mod Runs
+pub mod Changes
+pub mod Entries
+pub mod Journal

@@ -1,4 +1,5 @@
-//! Script lines from any reader, carried out over any keeper, with their replies to any writer.
+//! Script lines from any reader, carried out over any keeper, with their replies to any writer; and a journal: of each
+//! command that changed a vault the line that makes the change again.
 #![tactic(auto)]
 
 ghost use Rattle.std.specs.Prelude.{◌≡◌, ℕ, List, OnOk, OnErr};
@@ -8,16 +9,23 @@ ghost use Rattle.vault_core_model.specs.Step.{Reached};
 ghost use Rattle.vaultctl_replay.specs.Runs.{AnswersAll, AnswersEnded, AnswersSome, Steady};
 
 pub mod answer;
+mod changes;
+mod entry;
 mod fault;
+pub mod journal;
+pub mod journal_laws;
 pub mod laws;
 mod lines;
 pub mod observer;
+pub mod state;
 mod writing;
 
 use crate::lines::{Room, feed, finish};
 use crate::observer::Observer;
 use crate::writing::flush;
 pub use fault::ReplayFault;
+pub use journal::Journal;
+pub use state::JournalState;
 use std::alloc::Global;
 use std::io::{Read, Write};
 use vault_base::limits::LONGEST_LINE;

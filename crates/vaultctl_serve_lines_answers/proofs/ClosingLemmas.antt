@@ -17,9 +17,9 @@ use Rattle.vault_lines_read.specs.declared.read_line.Line.TheVariants as line
 use Rattle.vault_lines_read.specs.Stamped.{closer_of}
 use Rattle.vault_files_events.specs.Page.{page_of}
 use Rattle.vault_files_events.specs.declared.page.TextPage.{TextPage}
-use Rattle.vault_lines_door.specs.Inquiry.{inquiry_of}
-use Rattle.vault_lines_door.specs.declared.inquiry.About.TheVariants as about
-use Rattle.vault_lines_door.specs.declared.inquiry.Inquiry.{Inquiry}
+use Rattle.vaultctl_serve_lines_answers.specs.Inquiry.{inquiry_of}
+use Rattle.vaultctl_serve_lines_answers.specs.declared.inquiry.About.TheVariants as about
+use Rattle.vaultctl_serve_lines_answers.specs.declared.inquiry.Inquiry.{Inquiry}
 use Rattle.vaultctl_replay.proofs.RunLemmas.{kept}
 use Rattle.vaultctl_replay.specs.Runs.{HearsLine}
 use Rattle.vaultctl_serve_lines_answers.specs.Answered.{Answered, AnswersOne, Left, LeavesOne, LineAnswered, LineLeft}

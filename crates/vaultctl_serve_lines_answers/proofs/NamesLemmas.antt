@@ -3,7 +3,7 @@ use Rattle.std.proofs.Common.{◌≡◌, ℕ, List, length, map, filter, take, n
 use Rattle.vault_core_model.specs.Places.{comes_after}
 use Rattle.vault_core_model.specs.Reads.{buckets_after}
 use Rattle.vault_core_model.specs.Vault.{Vault}
-use Rattle.vault_lines_door.specs.declared.buckets_line.BucketsPage.{BucketsPage}
+use Rattle.vaultctl_serve_lines_answers.specs.declared.buckets_line.BucketsPage.{BucketsPage}
 use Rattle.vaultctl_serve_lines_answers.specs.Asking.{buckets_page, first_names}
 
 pub names_of : (v : Vault) (after : List ℕ) → first_names (buckets_after v after 1001) ≡ buckets_page v after

@@ -5,8 +5,8 @@ use Rattle.vault_base.specs.declared.refusal.Refusal.TheVariants.{ClockOutOfRang
 use Rattle.vault_lines_read.specs.declared.read_line.Line.{Line}
 use Rattle.vault_lines_read.specs.declared.read_line.Line.TheVariants as line
 use Rattle.vault_lines_read.specs.Stamped.{closer_of, stamped_line_of}
-use Rattle.vault_lines_door.specs.Inquiry.{inquiry_of}
-use Rattle.vault_lines_door.specs.declared.inquiry.Inquiry.{Inquiry}
+use Rattle.vaultctl_serve_lines_answers.specs.Inquiry.{inquiry_of}
+use Rattle.vaultctl_serve_lines_answers.specs.declared.inquiry.Inquiry.{Inquiry}
 use Rattle.vaultctl_replay.specs.Lines.{is_cr}
 use Rattle.vaultctl_serve_lines_answers.specs.declared.asked.DoorLine.{DoorLine}
 use Rattle.vaultctl_serve_lines_answers.specs.declared.asked.DoorLine.TheVariants as door

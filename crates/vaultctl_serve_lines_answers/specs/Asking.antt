@@ -17,14 +17,14 @@ use Rattle.vault_core_evidence.specs.Breaches.{law_name}
 use Rattle.vault_core_evidence.specs.Parts.{judged_part}
 use Rattle.vault_files_events.specs.Page.{page_of}
 use Rattle.vault_files_events.specs.RegisterPage.{page_of as register_page_of}
-use Rattle.vault_lines_door.specs.BucketsLine.{buckets_text}
-use Rattle.vault_lines_door.specs.LawfulLine.{breach_text, clean_text}
-use Rattle.vault_lines_door.specs.PageLine.{page_line_text}
-use Rattle.vault_lines_door.specs.StatusLine.{status_text}
-use Rattle.vault_lines_door.specs.declared.buckets_line.BucketsPage.{BucketsPage}
-use Rattle.vault_lines_door.specs.declared.inquiry.About.TheVariants as about
-use Rattle.vault_lines_door.specs.declared.inquiry.Part.{Part}
-use Rattle.vault_lines_door.specs.declared.status_line.Status.{Status}
+use Rattle.vaultctl_serve_lines_answers.specs.BucketsLine.{buckets_text}
+use Rattle.vaultctl_serve_lines_answers.specs.LawfulLine.{breach_text, clean_text}
+use Rattle.vaultctl_serve_lines_answers.specs.PageLine.{page_line_text}
+use Rattle.vaultctl_serve_lines_answers.specs.StatusLine.{status_text}
+use Rattle.vaultctl_serve_lines_answers.specs.declared.buckets_line.BucketsPage.{BucketsPage}
+use Rattle.vaultctl_serve_lines_answers.specs.declared.inquiry.About.TheVariants as about
+use Rattle.vaultctl_serve_lines_answers.specs.declared.inquiry.Part.{Part}
+use Rattle.vaultctl_serve_lines_answers.specs.declared.status_line.Status.{Status}
 use Rattle.vault_io.specs.Begins.{Begins}
 use Rattle.vaultctl_serve_lines_answers.specs.declared.asked.DoorRequest.{DoorRequest}
 use Rattle.vaultctl_serve_lines_answers.specs.declared.asked.Wanted.{Wanted}

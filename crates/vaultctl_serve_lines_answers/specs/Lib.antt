@@ -2,3 +2,8 @@ pub mod Answered
 pub mod Asked
 pub mod Asking
 pub mod Closing
+pub mod BucketsLine
+pub mod Inquiry
+pub mod LawfulLine
+pub mod PageLine
+pub mod StatusLine

@@ -3,11 +3,11 @@ ghost use Rattle.std.specs.Prelude.{◌≡◌, IfOk};
 ghost use Rattle.vaultctl_serve_lines_answers.specs.Asked as spec;
 
 use crate::heard::Heard;
+use crate::inquiry::{About, Inquiry, read_inquiry};
 use std::alloc::{AllocError, Global};
 use vault_base::moment::Moment;
 use vault_base::name::CallerName;
 use vault_base::refusal::Refusal;
-use vault_lines_door::inquiry::{About, Inquiry, read_inquiry};
 use vault_lines_read::read_line::Line;
 use vault_lines_read::stamped::{closer, stamp_line};
 use vault_values::fault::LineFault;

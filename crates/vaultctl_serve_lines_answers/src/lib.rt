@@ -3,6 +3,11 @@
 
 pub mod asked;
 pub mod asking;
+pub mod buckets_line;
 pub mod heard;
+pub mod inquiry;
+pub mod lawful_line;
 pub mod line;
+pub mod page_line;
 pub mod service;
+pub mod status_line;

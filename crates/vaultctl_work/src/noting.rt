@@ -1,6 +1,6 @@
 //! A server that notes each change in a journal.
 ghost use Rattle.std.specs.Prelude.{◌≡◌, ◌≢◌, Ok, false};
-ghost use Rattle.vaultctl_journal.specs.Entries.{is_open};
+ghost use Rattle.vaultctl_replay.specs.Entries.{is_open};
 ghost use Rattle.vaultctl_work.specs.Done.{IsServed};
 ghost use Rattle.vaultctl_work.specs.Noted.{IsNoted};
 ghost use Rattle.vaultctl_work.specs.Outcomes as spec;
@@ -15,8 +15,8 @@ use vault_core_model::keeper::Keeper;
 use vaultctl_commands::fault::JobFault;
 use vaultctl_commands::outcome::Outcome;
 use vaultctl_job::job::ServeJob;
-use vaultctl_journal::laws::journals_lead_to_the_vault;
-use vaultctl_journal::{Journal, JournalState};
+use vaultctl_replay::journal_laws::journals_lead_to_the_vault;
+use vaultctl_replay::{Journal, JournalState};
 
 /// A journal has what is put into the vault: so its owner alone may read and write it.
 const OWNERS_ALONE: u32 = 0o600;

@@ -1,4 +1,0 @@
-mod BucketsLemmas
-mod LawfulLemmas
-mod PageLemmas
-mod StatusLemmas

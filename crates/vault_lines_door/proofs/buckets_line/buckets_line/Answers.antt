@@ -1,5 +1,0 @@
-use Rattle.vault_lines_door.proofs.BucketsLemmas.{buckets_text-is}
-use Rattle.vault_lines_door.proofs.buckets_line.buckets_line.Goals as goal
-
-pub returns : goal.returns
-returns c = buckets_text-is _ _ c.args.page.now _ _ c.in_ok-push_str.ensures.bytes c.in_ok-line.ensures.text c.in_ok-value.ensures c.in_ok-stated.ensures

@@ -1,6 +1,0 @@
-pub mod Unchanged
-pub mod Runs
-pub mod Parts
-pub mod Notes
-pub mod Leads
-pub mod LastLine

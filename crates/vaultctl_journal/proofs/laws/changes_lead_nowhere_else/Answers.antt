@@ -1,5 +1,0 @@
-use Rattle.vaultctl_journal.proofs.Runs.{lead-nowhere-else}
-use Rattle.vaultctl_journal.proofs.laws.changes_lead_nowhere_else.Goals as goal
-
-pub returns : goal.returns
-returns c = lead-nowhere-else c.answers_are_one.ensures
