@@ -5,7 +5,7 @@ use serde_json::{Map, Value};
 use std::alloc::{AllocError, Global};
 use vault_lines_json::members::as_whole;
 use vault_lines_json::shape::{Kind, has_one_content};
-use vault_lines_read::verb::{VERBS, Verb};
+use vault_lines_read::verb::{FORMS, Verb};
 
 /// The members of a rule that aren't objects.
 const RULE: [(&str, Kind); 5] = [
@@ -188,8 +188,8 @@ fn rules_cause<'v>(alloc: Global, value: &'v Value) -> Result<Option<Explained<'
 /// The cause that no command has that name.
 fn no_command<'v>(alloc: Global, name: &'v str) -> Result<Cause<'v>, AllocError> {
     let mut nearest = Nearest::to(name);
-    for verb in &VERBS {
-        nearest.offer(alloc, verb.name())?;
+    for (_, known, _) in &FORMS {
+        nearest.offer(alloc, known)?;
     }
     Ok(Cause::NoCommand {
         name,
