@@ -9,20 +9,18 @@ import re
 from trials.program import EXAMPLES, TOP, Case
 
 WORDS = TOP / "crates" / "vaultctl_remedies" / "src" / "remedies.rt"
-CONSTANT = re.compile(r'const ([A-Z_]+): &str =\s*"((?:[^"\\]|\\.)*)";')
-ARM = re.compile(r"(?m)^ +\(?Refusal::(\w+)(?:\(\w+\))?(?:, Command::(\w+)\(_\)\))? => ([A-Z_]+),$")
-REASON = re.compile(r'Reason::(\w+)(?:\(_\))? => \{?\s*"((?:[^"\\]|\\.)*)"')
+TEXT = r'=>\s+"((?:[^"\\]|\\.)*)"'
+ARM = re.compile(r"(?m)^ +\(?Refusal::(\w+)(?:\((\w+)\))?(?:, Command::(\w+)\(_\)\))? " + TEXT)
+REASON = re.compile(r"Reason::(\w+)(?:\(_\))? " + TEXT)
 
 
 def words_of(source: str) -> dict[str, str]:
     """The words of each refusal: by its name, by the command that it is of where another has other words, or by the
     reason of a denied access."""
-    constants = dict(CONSTANT.findall(source))
     found: dict[str, str] = {}
-    for name, command, constant in ARM.findall(source):
+    for name, value, command, words in ARM.findall(source):
         key = f"{name} of {command}" if command else name
-        key = f"{key} below a marker" if constant == "MARKER_ON_TOP" else key
-        found[key] = constants[constant]
+        found[f"{key} below a marker" if value == "true" else key] = words
     return found | {f"AccessDenied {reason}": words for reason, words in REASON.findall(source)}
 
 

@@ -3,11 +3,10 @@ ghost use Rattle.std.specs.Prelude.{◌↔◌, IfOk, IsOk};
 ghost use Rattle.csv.specs.Records.{fields_of};
 ghost use Rattle.vault_files_intake.specs.Row.{row_of};
 
-use crate::shown::Shown;
+use crate::shown::{Given, Said, said};
 use csv::ByteRecord;
 use std::alloc::{AllocError, Global};
 use std::str;
-use thiserror::Error;
 use vault_base::moment::{Moment, MomentFault};
 use vault_files_intake::file_name::FileName;
 use vault_files_intake::row::{Row, read_row};
@@ -20,38 +19,14 @@ const MOST_KEY: usize = 1_024;
 /// The bytes that a file's name has at most.
 const MOST_NAME: usize = 255;
 
-/// Why a row's cells ask for nothing.
-#[derive(Clone, Copy, Debug, Error)]
-pub enum CellFault<'a> {
-    #[error("{0} isn't UTF-8 but `{1}`; save the list as CSV in UTF-8")]
-    NotText(&'static str, Shown<'a>),
-    #[error("the row names no file")]
-    NoFile,
-    #[error("the file's name has {0} bytes; 255 are allowed")]
-    LongFile(usize),
-    #[error("a row names a file of the folder itself, by a name without `/` and NUL")]
-    FileElsewhere,
-    #[error("the key is empty")]
-    NoKey,
-    #[error("the key has {0} bytes; 1024 are allowed")]
-    LongKey(usize),
-    #[error("the key `{0}` has a control character")]
-    KeyControl(Shown<'a>),
-    #[error("`until` is given without a mode; give both or neither")]
-    NoMode,
-    #[error("a mode is given without `until`; give both or neither")]
-    NoUntil,
-    #[error("the mode is `{0}`; it has to be GOVERNANCE or COMPLIANCE, in capitals, or empty")]
-    Mode(Shown<'a>),
-    #[error("`until` is `{0}`; it has to be a moment as 2030-01-01T00:00:00Z")]
-    UntilForm(Shown<'a>),
-    #[error("`until` is `{0}`; it has to lie in the years 1970 to 9999")]
-    UntilRange(Shown<'a>),
-    #[error("hold is `{0}`; it has to be ON or OFF, in capitals, or empty")]
-    Hold(Shown<'a>),
-    #[error("one of the cells isn't as its column has to be")]
-    Other,
-}
+/// What is said of a cell that isn't UTF-8, by its place.
+const NOT_TEXT: [&str; 5] = [
+    "the file's name isn't UTF-8 but `{}`; save the list as CSV in UTF-8",
+    "the key isn't UTF-8 but `{}`; save the list as CSV in UTF-8",
+    "the mode isn't UTF-8 but `{}`; save the list as CSV in UTF-8",
+    "`until` isn't UTF-8 but `{}`; save the list as CSV in UTF-8",
+    "hold isn't UTF-8 but `{}`; save the list as CSV in UTF-8",
+];
 
 /// The cell at a place of a record; after the last cell it is empty.
 pub(crate) fn cell(cells: &ByteRecord, place: usize) -> &[u8] {
@@ -61,92 +36,81 @@ pub(crate) fn cell(cells: &ByteRecord, place: usize) -> &[u8] {
     }
 }
 
-/// The text of a cell.
-fn text<'a>(column: &'static str, cell: &'a [u8]) -> Result<&'a str, CellFault<'a>> {
-    match str::from_utf8(cell) {
-        Ok(text) => Ok(text),
-        Err(_) => Err(CellFault::NotText(column, Shown(cell))),
+fn name_words(text: &str) -> &'static str {
+    let bytes = text.as_bytes();
+    match text {
+        "" => "the row names no file",
+        _ if bytes.len() > MOST_NAME => "the file's name has {n} bytes; 255 are allowed",
+        _ if text == "." || text == ".." || bytes.contains(&b'/') || bytes.contains(&0) =>
+            "a row names a file of the folder itself, by a name without `/` and NUL",
+        _ => "",
     }
 }
 
-fn check_name(cell: &[u8]) -> Result<(), CellFault<'_>> {
-    let text = text("the file's name", cell)?;
-    if text.is_empty() {
-        return Err(CellFault::NoFile);
-    }
-    if text.len() > MOST_NAME {
-        return Err(CellFault::LongFile(text.len()));
-    }
-    if text == "." || text == ".." || cell.iter().any(|byte| *byte == b'/' || *byte == 0) {
-        return Err(CellFault::FileElsewhere);
-    }
-    Ok(())
-}
-
-fn check_key(cell: &[u8]) -> Result<(), CellFault<'_>> {
-    let text = text("the key", cell)?;
-    if text.is_empty() {
-        return Err(CellFault::NoKey);
-    }
-    if text.len() > MOST_KEY {
-        return Err(CellFault::LongKey(text.len()));
-    }
-    if cell.iter().any(|byte| *byte < 0x20 || *byte == 0x7F) {
-        return Err(CellFault::KeyControl(Shown(cell)));
-    }
-    Ok(())
-}
-
-fn check_mode(text: &str) -> Result<(), CellFault<'_>> {
-    match mode_named(text) {
-        Some(_) => Ok(()),
-        None => Err(CellFault::Mode(Shown(text.as_bytes()))),
+fn key_words(text: &str) -> &'static str {
+    match text.as_bytes() {
+        [] => "the key is empty",
+        bytes if bytes.len() > MOST_KEY => "the key has {n} bytes; 1024 are allowed",
+        bytes if bytes.iter().any(|byte| *byte < 0x20 || *byte == 0x7F) =>
+            "the key `{}` has a control character",
+        _ => "",
     }
 }
 
-fn check_until(text: &str) -> Result<(), CellFault<'_>> {
+/// What is wrong with a mode, beside an `until`; nothing beside one that isn't UTF-8.
+fn mode_words(mode: &str, until: &[u8]) -> &'static str {
+    match str::from_utf8(until) {
+        Err(_) => "",
+        Ok("") if mode.is_empty() => "",
+        Ok("") => "a mode is given without `until`; give both or neither",
+        Ok(_) if mode.is_empty() => "`until` is given without a mode; give both or neither",
+        Ok(_) if mode_named(mode).is_none() =>
+            "the mode is `{}`; it has to be GOVERNANCE or COMPLIANCE, in capitals, or empty",
+        Ok(_) => "",
+    }
+}
+
+fn until_words(text: &str) -> &'static str {
     match Moment::read(text) {
-        Ok(_) => Ok(()),
-        Err(MomentFault::Form) => Err(CellFault::UntilForm(Shown(text.as_bytes()))),
-        Err(MomentFault::Range) => Err(CellFault::UntilRange(Shown(text.as_bytes()))),
+        Err(MomentFault::Form) if !text.is_empty() =>
+            "`until` is `{}`; it has to be a moment as 2030-01-01T00:00:00Z",
+        Err(MomentFault::Range) => "`until` is `{}`; it has to lie in the years 1970 to 9999",
+        _ => "",
     }
 }
 
-fn check_retention<'a>(mode: &'a [u8], until: &'a [u8]) -> Result<(), CellFault<'a>> {
-    let mode = text("the mode", mode)?;
-    let until = text("`until`", until)?;
-    match (mode.is_empty(), until.is_empty()) {
-        (true, true) => return Ok(()),
-        (true, false) => return Err(CellFault::NoMode),
-        (false, true) => return Err(CellFault::NoUntil),
-        (false, false) => {}
-    }
-    check_mode(mode)?;
-    check_until(until)
-}
-
-fn check_hold(cell: &[u8]) -> Result<(), CellFault<'_>> {
-    let text = text("hold", cell)?;
+fn hold_words(text: &str) -> &'static str {
     if text.is_empty() || hold_named(text).is_some() {
-        return Ok(());
+        ""
+    } else {
+        "hold is `{}`; it has to be ON or OFF, in capitals, or empty"
     }
-    Err(CellFault::Hold(Shown(cell)))
 }
 
-/// The first fault of the cells, in their order.
-fn check_cells(cells: &ByteRecord) -> Result<(), CellFault<'_>> {
-    check_name(cell(cells, 0))?;
-    check_key(cell(cells, 1))?;
-    check_retention(cell(cells, 2), cell(cells, 3))?;
-    check_hold(cell(cells, 4))
+/// What is wrong with the cell at a place, with its bytes in place of `{}`; the empty text where nothing is.
+fn words_of(cells: &ByteRecord, place: usize, not_text: &'static str) -> &'static str {
+    let Ok(text) = str::from_utf8(cell(cells, place)) else {
+        return not_text;
+    };
+    match place {
+        0 => name_words(text),
+        1 => key_words(text),
+        2 => mode_words(text, cell(cells, 3)),
+        3 => until_words(text),
+        _ => hold_words(text),
+    }
 }
 
-/// The fault of cells that were refused.
-fn fault_in(cells: &ByteRecord) -> CellFault<'_> {
-    match check_cells(cells) {
-        Ok(()) => CellFault::Other,
-        Err(fault) => fault,
+/// The fault of cells that were refused: the first one, in their order.
+fn fault_in(cells: &ByteRecord) -> Said<'_> {
+    for (place, not_text) in NOT_TEXT.iter().enumerate() {
+        let words = words_of(cells, place, not_text);
+        if !words.is_empty() {
+            let given = Given::Bytes(cell(cells, place));
+            return Said { words, given };
+        }
     }
+    said("one of the cells isn't as its column has to be")
 }
 
 /// The file of a row, of which nothing else is wanted.
@@ -159,7 +123,7 @@ fn file_of(row: Row) -> FileName {
 pub(crate) fn file_asked<'a>(
     alloc: Global,
     cells: &'a ByteRecord,
-) -> Result<Result<FileName, CellFault<'a>>, AllocError>
+) -> Result<Result<FileName, Said<'a>>, AllocError>
     // A fault is named just where the cells are refused.
     ensures { IfOk result (λ asked. IsOk asked ↔ IsOk (row_of (fields_of cells.now))) }
 {

@@ -1,48 +1,13 @@
 //! Why a list isn't taken in, or a record of it.
-use crate::shown::Shown;
+use crate::shown::{Given, Said};
 use csv::ByteRecord;
 use std::str;
-use thiserror::Error;
 
 /// The first record of a list.
 const HEAD: &[u8] = b"file,key,mode,until,hold";
 
 /// A UTF-8 byte order mark.
 const MARK: &[u8] = b"\xEF\xBB\xBF";
-
-/// Why the first record of a list isn't as it has to be.
-#[derive(Clone, Copy, Debug, Error)]
-pub enum HeadFault<'a> {
-    #[error("it is empty; its first record has to be file,key,mode,until,hold")]
-    Empty,
-    #[error("it is UTF-16; save it as CSV in UTF-8")]
-    Utf16,
-    #[error("its first record isn't UTF-8 but `{0}`; save it as CSV in UTF-8, with the first record file,key,mode,until,hold")]
-    NotText(Shown<'a>),
-    #[error("its cells are separated by semicolons; they have to be by commas, and the first record file,key,mode,until,hold, not `{0}`")]
-    Semicolons(Shown<'a>),
-    #[error("its cells are separated by tabs; they have to be by commas, and the first record file,key,mode,until,hold, not `{0}`")]
-    Tabs(Shown<'a>),
-    #[error("its first record is `{0}`; it has to be file,key,mode,until,hold, in small letters and without blanks or quotes inside")]
-    Spelling(Shown<'a>),
-    #[error("its first record is `{0}`; it has to be file,key,mode,until,hold, in English whatever the language of the office")]
-    German(Shown<'a>),
-    #[error("its first record is `{0}`; it has to be file,key,mode,until,hold")]
-    Other(Shown<'a>),
-}
-
-/// Why a record of a list is no row.
-#[derive(Clone, Copy, Debug, Error)]
-pub enum ShapeFault {
-    #[error("its cells are separated by semicolons; they have to be by commas")]
-    Semicolons,
-    #[error("a cell of it goes over several lines; a quote may be missing")]
-    Lines,
-    #[error("it has {0} cells in place of 5; a cell with a comma stands in quotes")]
-    Many(usize),
-    #[error("it has {0} cells in place of 5; empty cells keep their commas, as in a.txt,2024/a,,,")]
-    Few(usize),
-}
 
 fn is_line_end(byte: u8) -> bool {
     byte == b'\n' || byte == b'\r'
@@ -95,31 +60,30 @@ fn is_german(line: &[u8]) -> bool {
     }
 }
 
+fn head_words(list: &[u8], line: &[u8]) -> &'static str {
+    match str::from_utf8(line) {
+        _ if is_utf16(list) => "it is UTF-16; save it as CSV in UTF-8",
+        Ok("") => "it is empty; its first record has to be file,key,mode,until,hold",
+        Err(_) =>
+            "its first record isn't UTF-8 but `{}`; save it as CSV in UTF-8, with the first record file,key,mode,until,hold",
+        _ if line.contains(&b';') =>
+            "its cells are separated by semicolons; they have to be by commas, and the first record file,key,mode,until,hold, not `{}`",
+        _ if line.contains(&b'\t') =>
+            "its cells are separated by tabs; they have to be by commas, and the first record file,key,mode,until,hold, not `{}`",
+        _ if is_german(line) =>
+            "its first record is `{}`; it has to be file,key,mode,until,hold, in English whatever the language of the office",
+        _ if is_head_misspelt(line) =>
+            "its first record is `{}`; it has to be file,key,mode,until,hold, in small letters and without blanks or quotes inside",
+        _ => "its first record is `{}`; it has to be file,key,mode,until,hold",
+    }
+}
+
 /// What is wrong with the first record of a list.
-pub(crate) fn head_fault(list: &[u8]) -> HeadFault<'_> {
-    if is_utf16(list) {
-        return HeadFault::Utf16;
-    }
+pub(crate) fn head_fault(list: &[u8]) -> Said<'_> {
     let line = first_line(list);
-    if line.is_empty() {
-        return HeadFault::Empty;
-    }
-    if str::from_utf8(line).is_err() {
-        return HeadFault::NotText(Shown(line));
-    }
-    if line.contains(&b';') {
-        return HeadFault::Semicolons(Shown(line));
-    }
-    if line.contains(&b'\t') {
-        return HeadFault::Tabs(Shown(line));
-    }
-    if is_german(line) {
-        return HeadFault::German(Shown(line));
-    }
-    if is_head_misspelt(line) {
-        return HeadFault::Spelling(Shown(line));
-    }
-    HeadFault::Other(Shown(line))
+    let words = head_words(list, line);
+    let given = Given::Bytes(line);
+    Said { words, given }
 }
 
 fn has_byte(cells: &ByteRecord, wanted: u8) -> bool {
@@ -127,16 +91,15 @@ fn has_byte(cells: &ByteRecord, wanted: u8) -> bool {
 }
 
 /// What is wrong with a record that hasn't five cells.
-pub(crate) fn shape_fault(cells: &ByteRecord) -> ShapeFault {
-    let count = cells.len();
-    if has_byte(cells, b'\n') {
-        return ShapeFault::Lines;
-    }
-    if count > 5 {
-        return ShapeFault::Many(count);
-    }
-    if has_byte(cells, b';') {
-        return ShapeFault::Semicolons;
-    }
-    ShapeFault::Few(count)
+pub(crate) fn shape_fault(cells: &ByteRecord) -> Said<'static> {
+    let words = match cells.len() {
+        _ if has_byte(cells, b'\n') =>
+            "a cell of it goes over several lines; a quote may be missing",
+        6.. => "it has {} cells in place of 5; a cell with a comma stands in quotes",
+        _ if has_byte(cells, b';') =>
+            "its cells are separated by semicolons; they have to be by commas",
+        _ => "it has {} cells in place of 5; empty cells keep their commas, as in a.txt,2024/a,,,",
+    };
+    let given = Given::Count(cells.len() as u64);
+    Said { words, given }
 }

@@ -1,12 +1,11 @@
 //! The list of an intake, read from a file.
 use crate::opening::{is_missing, opened};
 use crate::reading::read_at_most;
-use crate::shown::Shown;
+use crate::shown::{Given, Said, Shown, said};
 use std::alloc::Global;
 use std::fs;
 use std::io::{self, ErrorKind, Write};
 use std::rt::Files;
-use thiserror::Error;
 use vault_core_model::halt::Fault;
 use vault_files_intake::list::MOST_LIST;
 
@@ -24,31 +23,15 @@ pub fn read_list<R: Files>(alloc: Global, files: &R, path: &str) -> Result<Vec<u
     }
 }
 
-/// Why a list can't be read.
-#[derive(Debug, Drop, Error)]
-enum UnreadList {
-    #[error("it isn't there; check the path of LIST")]
-    Missing,
-    #[error("it is a folder, and FOLDER is a file; the list is given before the folder")]
-    Swapped,
-    #[error("it is a folder; a list is a file")]
-    Folder,
-    #[error("it isn't yours to read; have its owner let you, or give a copy")]
-    Forbidden,
-    #[error("it can't be read: {0}; check the disk, or give a copy")]
-    Unread(io::Error),
-    #[error("it couldn't be read, and can be by now; give the same intake again")]
-    Once,
-}
-
-fn fault_of(error: io::Error) -> UnreadList {
-    if is_missing(&error) {
-        return UnreadList::Missing;
-    }
-    if error.kind() == ErrorKind::PermissionDenied {
-        return UnreadList::Forbidden;
-    }
-    UnreadList::Unread(error)
+fn unread(error: io::Error) -> Said<'static> {
+    let words = match error.kind() {
+        _ if is_missing(&error) => "it isn't there; check the path of LIST",
+        ErrorKind::PermissionDenied =>
+            "it isn't yours to read; have its owner let you, or give a copy",
+        _ => "it can't be read: {}; check the disk, or give a copy",
+    };
+    let given = Given::Error(error);
+    Said { words, given }
 }
 
 /// Whether a file stands there that is no folder.
@@ -60,15 +43,17 @@ fn is_file<R: Files>(files: &R, path: &str) -> bool {
 }
 
 /// Why a list couldn't be read, as a second look shows it.
-fn unread_list<R: Files>(files: &R, list: &str, folder: &str) -> UnreadList {
+fn unread_list<R: Files>(files: &R, list: &str, folder: &str) -> Said<'static> {
     match fs::metadata(files, list) {
-        Ok(metadata) if metadata.is_dir() && is_file(files, folder) => UnreadList::Swapped,
-        Ok(metadata) if metadata.is_dir() => UnreadList::Folder,
+        Ok(metadata) if metadata.is_dir() && is_file(files, folder) => {
+            said("it is a folder, and FOLDER is a file; the list is given before the folder")
+        }
+        Ok(metadata) if metadata.is_dir() => said("it is a folder; a list is a file"),
         Ok(_) => match fs::open(files, list) {
-            Ok(_) => UnreadList::Once,
-            Err(error) => fault_of(error),
+            Ok(_) => said("it couldn't be read, and can be by now; give the same intake again"),
+            Err(error) => unread(error),
         },
-        Err(error) => fault_of(error),
+        Err(error) => unread(error),
     }
 }
 

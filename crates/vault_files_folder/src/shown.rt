@@ -1,5 +1,6 @@
-//! Bytes of others as they are shown on standard error.
+//! Sentences on standard error, and bytes of others as they are shown in them.
 use std::fmt::{self, Display, Formatter, Write};
+use std::io;
 
 /// How many bytes of a text are shown. A file's name has no more.
 const MOST_SHOWN: usize = 255;
@@ -55,5 +56,44 @@ fn beginning(bytes: &[u8]) -> &[u8] {
     match bytes.get(..MOST_SHOWN) {
         Some(first) => first,
         None => bytes,
+    }
+}
+
+/// What a sentence is about.
+#[derive(Clone, Copy)]
+pub(crate) enum Given<'a> {
+    Bytes(&'a [u8]),
+    Count(u64),
+    Error(io::Error),
+}
+
+/// A sentence, which has what it is about in place of `{}`, or of bytes their number in place of `{n}`.
+#[derive(Clone, Copy)]
+pub(crate) struct Said<'a> {
+    pub(crate) words: &'static str,
+    pub(crate) given: Given<'a>,
+}
+
+/// A sentence without such a place.
+pub(crate) fn said(words: &'static str) -> Said<'static> {
+    let given = Given::Count(0);
+    Said { words, given }
+}
+
+impl Display for Said<'_> {
+    fn fmt<W: Write>(&self, f: &mut Formatter<W>) -> fmt::Result {
+        let words = self.words;
+        let (before, after) = match words.split_once("{}").or(words.split_once("{n}")) {
+            Some(parts) => parts,
+            None => return f.write_str(words),
+        };
+        f.write_str(before)?;
+        match self.given {
+            Given::Bytes(bytes) if words.contains("{n}") => bytes.len().fmt(f)?,
+            Given::Bytes(bytes) => Shown(bytes).fmt(f)?,
+            Given::Count(count) => count.fmt(f)?,
+            Given::Error(error) => error.fmt(f)?,
+        }
+        f.write_str(after)
     }
 }

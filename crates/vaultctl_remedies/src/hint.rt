@@ -3,9 +3,9 @@
 /// What is often meant by words that are refused, and how it is asked for; none where that isn't known.
 pub fn hint(words: &[String]) -> Option<&'static str> {
     match words.get(1)?.as_str() {
-        "replay" if words.len() > 3 => {
-            Some("a script is read from standard input: vaultctl replay FILE < SCRIPT")
-        }
+        "replay" if words.len() > 3 => Some(
+            "a script is read from standard input: vaultctl replay FILE < SCRIPT",
+        ),
         "put"
         | "get"
         | "head"

@@ -17,48 +17,35 @@ fn invalid_intake(intake: &Intake) -> &'static str {
 /// Which member of a line the vault doesn't allow, and what it may be.
 fn invalid(command: &Command) -> &'static str {
     match command {
-        Command::AddCaller(_) | Command::AddBucket(_) | Command::Report(_) => {
-            "\"dept\" names no department of this vault: check its spelling, or add it first by add-dept"
-        }
-        Command::CloseCaller(_) => {
-            "\"caller\" names no open caller of this vault: check its spelling; who was closed stays closed"
-        }
-        Command::MoveBucket(_) => {
-            "\"dept\" names no department of this vault, or the one that has the bucket already: check its spelling"
-        }
-        Command::SetDefault(_) => {
-            "a default has 1 to 36500 days or 1 to 100 years: correct \"days\" or \"years\""
-        }
+        Command::AddCaller(_) | Command::AddBucket(_) | Command::Report(_) =>
+            "\"dept\" names no department of this vault: check its spelling, or add it first by add-dept",
+        Command::CloseCaller(_) =>
+            "\"caller\" names no open caller of this vault: check its spelling; who was closed stays closed",
+        Command::MoveBucket(_) =>
+            "\"dept\" names no department of this vault, or the one that has the bucket already: check its spelling",
+        Command::SetDefault(_) =>
+            "a default has 1 to 36500 days or 1 to 100 years: correct \"days\" or \"years\"",
         Command::ListVersions(_) => "\"most\" has to be 1 to 1000, as \"most\":100",
-        Command::Put(_) | Command::SetRetention(_) => {
-            "\"until\" has to lie after \"at\": correct one of them"
-        }
+        Command::Put(_) | Command::SetRetention(_) =>
+            "\"until\" has to lie after \"at\": correct one of them",
         Command::Intake(intake) => invalid_intake(intake),
         _ => "a value isn't allowed: the manual, docs/formats/LINES.md, says what each may be",
     }
 }
 
-/// Why there is no such version, but where a certificate is asked for.
-const NO_VERSION: &str =
-    "no version of that \"id\" is held under that key in that bucket: check all three; list-versions has those that are held, and the register those that were removed";
-
-/// Why an entry is of another kind, but where a certificate is asked for.
-const MARKER: &str =
-    "that entry is a delete marker, which has neither content nor a lock: name a version of the key by its \"id\"; list-versions has them";
-
 /// What a refusal of a line's command means, and what to do; of a missing right without its name.
 fn words(command: &Command, refusal: Refusal) -> &'static str {
     match (refusal, command) {
         (Refusal::InvalidArgument, command) => invalid(command),
-        (Refusal::ClockBack, _) => {
-            "\"at\" is before the vault's last change: put the lines in the order of their times, or give a later time or an equal one"
-        }
-        (Refusal::AccessDenied(Reason::UnknownCaller), _) => {
-            "\"as\" names no open caller of this vault: check its spelling; who was closed stays closed, so add one of another name"
-        }
+        (Refusal::ClockBack, _) =>
+            "\"at\" is before the vault's last change: put the lines in the order of their times, or give a later time or an equal one",
+        (Refusal::AccessDenied(Reason::UnknownCaller), _) =>
+            "\"as\" names no open caller of this vault: check its spelling; who was closed stays closed, so add one of another name",
         (refusal, Command::Certificate(_)) => refused(command, refusal),
-        (Refusal::NoSuchVersion, _) => NO_VERSION,
-        (Refusal::MethodNotAllowed, _) => MARKER,
+        (Refusal::NoSuchVersion, _) =>
+            "no version of that \"id\" is held under that key in that bucket: check all three; list-versions has those that are held, and the register those that were removed",
+        (Refusal::MethodNotAllowed, _) =>
+            "that entry is a delete marker, which has neither content nor a lock: name a version of the key by its \"id\"; list-versions has them",
         (refusal, _) => refused(command, refusal),
     }
 }

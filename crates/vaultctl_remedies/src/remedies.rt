@@ -8,143 +8,83 @@ use vault_core_model::reply::{Reply, Stop};
 /// Why access is denied, but for a missing right.
 fn denial(reason: Reason) -> &'static str {
     match reason {
-        Reason::UnknownCaller => {
-            "no open caller of this vault has the name that --as gives: check its spelling; a caller who was closed stays closed, so add one of another name"
-        }
-        Reason::Department => {
-            "the bucket or the report is of another department than the caller's, and registrar is of none: let a caller of that department ask"
-        }
+        Reason::UnknownCaller =>
+            "no open caller of this vault has the name that --as gives: check its spelling; a caller who was closed stays closed, so add one of another name",
+        Reason::Department =>
+            "the bucket or the report is of another department than the caller's, and registrar is of none: let a caller of that department ask",
         Reason::Right(_) => "the caller lacks a right: let a caller ask who has it",
-        Reason::LegalHold => {
-            "a legal hold is on the version: it stays until the hold is lifted, by set-hold OFF in a script"
-        }
-        Reason::RetentionCompliance => {
-            "a retention in COMPLIANCE is in force: nobody can remove the version or shorten the retention before its end"
-        }
-        Reason::RetentionGovernance => {
-            "a retention in GOVERNANCE is in force: wait for its end, or let a caller with the right bypass ask for the bypass, by \"bypass\":true in a script"
-        }
+        Reason::LegalHold =>
+            "a legal hold is on the version: it stays until the hold is lifted, by set-hold OFF in a script",
+        Reason::RetentionCompliance =>
+            "a retention in COMPLIANCE is in force: nobody can remove the version or shorten the retention before its end",
+        Reason::RetentionGovernance =>
+            "a retention in GOVERNANCE is in force: wait for its end, or let a caller with the right bypass ask for the bypass, by \"bypass\":true in a script",
     }
 }
-
-const CLOCK_BACK: &str =
-    "the time, of --at or of the machine's clock, is before the vault's last change: give a later time or an equal one, or wait for it";
-
-const CLOCK_OUT_OF_RANGE: &str =
-    "the time lies outside 1970 to 9999, or the machine's clock can't be read: correct --at, or set the clock";
-
-const NO_SUCH_BUCKET: &str =
-    "no bucket of this vault has that name: check its spelling, or add it: vaultctl bucket FILE NAME DEPT --as registrar";
-
-const MARKER_ON_TOP: &str =
-    "a delete marker is on top of that key: list-versions has the versions below it, which are read by their id";
-
-const NO_SUCH_KEY: &str = "nothing is held under that key: check every letter of it";
-
-const NO_SUCH_VERSION: &str =
-    "no version with that number was ever in that bucket: check both; the register of this vault has all that were removed: vaultctl register FILE";
-
-const METHOD_NOT_ALLOWED: &str =
-    "that version is a delete marker, or isn't of the kind that this needs: name another version";
-
-const BUCKET_ALREADY_EXISTS: &str =
-    "the vault has a bucket of that name already: nothing was changed; take another name, or use that bucket";
-
-const NAME_TAKEN: &str =
-    "that name is taken, perhaps by one that was closed: nothing was changed; take another name";
-
-const INVALID_ARGUMENT: &str =
-    "a value isn't allowed: vaultctl COMMAND --help says what each word may be";
-
-const RETENTION_OUT_OF_RANGE: &str =
-    "the retention would end outside 1970 to 9999: correct its end";
-
-const MALFORMED_BODY: &str =
-    "the text isn't of the form that is expected: the manual, docs/formats/LINES.md, has each form";
-
-const ENTITY_TOO_LARGE: &str = "the content is larger than 1,048,576 bytes: split it into parts";
-
-const KEY_TOO_LONG: &str = "the key has more than 1,024 bytes: shorten it";
-
-const INVALID_BUCKET_NAME: &str =
-    "no bucket can have that name: 3 to 63 of a-z, 0-9 and '-', with no '-' at an end, as case-files";
-
-const MISSING_CONTENT_LENGTH: &str =
-    "the request doesn't say how long its body is: have the client send content-length";
-
-const NOT_IMPLEMENTED: &str = "the vault doesn't do that: leave it out";
-
-const NO_SUCH_LIFECYCLE_CONFIGURATION: &str =
-    "the bucket has no lifecycle rules: nothing is to be done, unless rules are set first, by set-rules in a script";
-
-const QUOTA_EXCEEDED: &str =
-    "the department would have admitted and received more than 1,000,000,000,000 bytes in all, those of removed versions included: nothing was admitted; add another department, with a bucket of its own";
-
-const QUOTA_EXCEEDED_BY_A_MOVE: &str =
-    "the department that gets the bucket would have admitted and received more than 1,000,000,000,000 bytes in all, those of removed versions included: nothing moved; add another department";
-
-const VAULT_FULL: &str = "the vault has no number left to give: begin another vault";
-
-const INTAKE_CONFLICT: &str =
-    "that line of the batch was taken in before with something else in it: give it as a line of its own, at the list's end";
-
-const MEMORY: &str =
-    "the machine refused memory: nothing was changed; stop other programs, and give the command again";
-
-const DEVICE: &str =
-    "the disk is full or failed: make room or mend it, run vaultctl verify FILE, and look whether the change was made before it is given again";
-
-const DAMAGED: &str = "a table of the file isn't sound: put the last sound backup back";
 
 /// What a refusal means and what to do, whatever was asked.
 pub fn remedy(refusal: Refusal) -> &'static str {
     match refusal {
-        Refusal::ClockBack => CLOCK_BACK,
-        Refusal::ClockOutOfRange => CLOCK_OUT_OF_RANGE,
+        Refusal::ClockBack =>
+            "the time, of --at or of the machine's clock, is before the vault's last change: give a later time or an equal one, or wait for it",
+        Refusal::ClockOutOfRange =>
+            "the time lies outside 1970 to 9999, or the machine's clock can't be read: correct --at, or set the clock",
         Refusal::AccessDenied(reason) => denial(reason),
-        Refusal::NoSuchBucket => NO_SUCH_BUCKET,
-        Refusal::NoSuchKey(true) => MARKER_ON_TOP,
-        Refusal::NoSuchKey(false) => NO_SUCH_KEY,
-        Refusal::NoSuchVersion => NO_SUCH_VERSION,
-        Refusal::MethodNotAllowed => METHOD_NOT_ALLOWED,
-        Refusal::BucketAlreadyExists => BUCKET_ALREADY_EXISTS,
-        Refusal::NameTaken => NAME_TAKEN,
-        Refusal::InvalidArgument => INVALID_ARGUMENT,
-        Refusal::RetentionOutOfRange => RETENTION_OUT_OF_RANGE,
-        Refusal::MalformedBody => MALFORMED_BODY,
-        Refusal::EntityTooLarge => ENTITY_TOO_LARGE,
-        Refusal::KeyTooLongError => KEY_TOO_LONG,
-        Refusal::InvalidBucketName => INVALID_BUCKET_NAME,
-        Refusal::MissingContentLength => MISSING_CONTENT_LENGTH,
-        Refusal::NotImplemented => NOT_IMPLEMENTED,
-        Refusal::NoSuchLifecycleConfiguration => NO_SUCH_LIFECYCLE_CONFIGURATION,
-        Refusal::QuotaExceeded => QUOTA_EXCEEDED,
-        Refusal::VaultFull => VAULT_FULL,
-        Refusal::IntakeConflict => INTAKE_CONFLICT,
-        Refusal::Memory => MEMORY,
-        Refusal::Device => DEVICE,
-        Refusal::Damaged(_) => DAMAGED,
+        Refusal::NoSuchBucket =>
+            "no bucket of this vault has that name: check its spelling, or add it: vaultctl bucket FILE NAME DEPT --as registrar",
+        Refusal::NoSuchKey(true) =>
+            "a delete marker is on top of that key: list-versions has the versions below it, which are read by their id",
+        Refusal::NoSuchKey(false) => "nothing is held under that key: check every letter of it",
+        Refusal::NoSuchVersion =>
+            "no version with that number was ever in that bucket: check both; the register of this vault has all that were removed: vaultctl register FILE",
+        Refusal::MethodNotAllowed =>
+            "that version is a delete marker, or isn't of the kind that this needs: name another version",
+        Refusal::BucketAlreadyExists =>
+            "the vault has a bucket of that name already: nothing was changed; take another name, or use that bucket",
+        Refusal::NameTaken =>
+            "that name is taken, perhaps by one that was closed: nothing was changed; take another name",
+        Refusal::InvalidArgument =>
+            "a value isn't allowed: vaultctl COMMAND --help says what each word may be",
+        Refusal::RetentionOutOfRange =>
+            "the retention would end outside 1970 to 9999: correct its end",
+        Refusal::MalformedBody =>
+            "the text isn't of the form that is expected: the manual, docs/formats/LINES.md, has each form",
+        Refusal::EntityTooLarge =>
+            "the content is larger than 1,048,576 bytes: split it into parts",
+        Refusal::KeyTooLongError => "the key has more than 1,024 bytes: shorten it",
+        Refusal::InvalidBucketName =>
+            "no bucket can have that name: 3 to 63 of a-z, 0-9 and '-', with no '-' at an end, as case-files",
+        Refusal::MissingContentLength =>
+            "the request doesn't say how long its body is: have the client send content-length",
+        Refusal::NotImplemented => "the vault doesn't do that: leave it out",
+        Refusal::NoSuchLifecycleConfiguration =>
+            "the bucket has no lifecycle rules: nothing is to be done, unless rules are set first, by set-rules in a script",
+        Refusal::QuotaExceeded =>
+            "the department would have admitted and received more than 1,000,000,000,000 bytes in all, those of removed versions included: nothing was admitted; add another department, with a bucket of its own",
+        Refusal::VaultFull => "the vault has no number left to give: begin another vault",
+        Refusal::IntakeConflict =>
+            "that line of the batch was taken in before with something else in it: give it as a line of its own, at the list's end",
+        Refusal::Memory =>
+            "the machine refused memory: nothing was changed; stop other programs, and give the command again",
+        Refusal::Device =>
+            "the disk is full or failed: make room or mend it, run vaultctl verify FILE, and look whether the change was made before it is given again",
+        Refusal::Damaged(_) => "a table of the file isn't sound: put the last sound backup back",
     }
 }
 
 /// Which value of a command the vault doesn't allow.
 fn invalid(command: &Command) -> &'static str {
     match command {
-        Command::AddCaller(_) => {
-            "--dept names no department of this vault: check its spelling, or add it first: vaultctl dept FILE NAME --as registrar"
-        }
-        Command::CloseCaller(_) => {
-            "NAME is no open caller of this vault: check its spelling; who was closed stays closed"
-        }
-        Command::AddBucket(_) => {
-            "DEPT names no department of this vault: check its spelling, and the order of the words, bucket FILE NAME DEPT; or add it first: vaultctl dept FILE NAME --as registrar"
-        }
-        Command::MoveBucket(_) => {
-            "DEPT names no department of this vault, or the one that has the bucket already: check its spelling, and the order of the words, move FILE BUCKET DEPT"
-        }
-        Command::Report(_) => {
-            "DEPT names no department of this vault: check its spelling; a report is on a department, not on a bucket"
-        }
+        Command::AddCaller(_) =>
+            "--dept names no department of this vault: check its spelling, or add it first: vaultctl dept FILE NAME --as registrar",
+        Command::CloseCaller(_) =>
+            "NAME is no open caller of this vault: check its spelling; who was closed stays closed",
+        Command::AddBucket(_) =>
+            "DEPT names no department of this vault: check its spelling, and the order of the words, bucket FILE NAME DEPT; or add it first: vaultctl dept FILE NAME --as registrar",
+        Command::MoveBucket(_) =>
+            "DEPT names no department of this vault, or the one that has the bucket already: check its spelling, and the order of the words, move FILE BUCKET DEPT",
+        Command::Report(_) =>
+            "DEPT names no department of this vault: check its spelling; a report is on a department, not on a bucket",
         _ => remedy(Refusal::InvalidArgument),
     }
 }
@@ -152,12 +92,10 @@ fn invalid(command: &Command) -> &'static str {
 /// Which name is taken.
 fn taken(command: &Command) -> &'static str {
     match command {
-        Command::AddCaller(_) => {
-            "a caller of that name is there, or was closed: nothing was changed. The rights and the department of a caller are fixed for good: add one of another name"
-        }
-        Command::AddDept(_) => {
-            "the vault has a department of that name already: nothing was changed; use it, or take another name"
-        }
+        Command::AddCaller(_) =>
+            "a caller of that name is there, or was closed: nothing was changed. The rights and the department of a caller are fixed for good: add one of another name",
+        Command::AddDept(_) =>
+            "the vault has a department of that name already: nothing was changed; use it, or take another name",
         _ => remedy(Refusal::NameTaken),
     }
 }
@@ -167,10 +105,10 @@ pub(crate) fn refused(command: &Command, refusal: Refusal) -> &'static str {
     match (refusal, command) {
         (Refusal::InvalidArgument, command) => invalid(command),
         (Refusal::NameTaken, command) => taken(command),
-        (Refusal::QuotaExceeded, Command::MoveBucket(_)) => QUOTA_EXCEEDED_BY_A_MOVE,
-        (Refusal::MethodNotAllowed, Command::Certificate(_)) => {
-            "that version is held still, or is a delete marker: a certificate is only of a version that was removed"
-        }
+        (Refusal::QuotaExceeded, Command::MoveBucket(_)) =>
+            "the department that gets the bucket would have admitted and received more than 1,000,000,000,000 bytes in all, those of removed versions included: nothing moved; add another department",
+        (Refusal::MethodNotAllowed, Command::Certificate(_)) =>
+            "that version is held still, or is a delete marker: a certificate is only of a version that was removed",
         (refusal, _) => remedy(refusal),
     }
 }
@@ -192,15 +130,12 @@ pub(crate) fn write_refused<E: Write>(refusal: Refusal, words: &str, err: &mut E
 /// What stopped a run, and what to do.
 pub(crate) fn stopped(stop: Stop) -> &'static str {
     match stop {
-        Stop::Memory => {
-            "the run stopped as the machine refused memory: the changes that it counts are made; stop other programs, and give the command again"
-        }
-        Stop::Device => {
-            "the run stopped as the disk is full or failed: the changes that it counts are made; make room or mend it, run vaultctl verify FILE, and give the command again"
-        }
-        Stop::VaultFull => {
-            "the run stopped as the vault has no number left for a delete marker: the changes that it counts are made; begin another vault"
-        }
+        Stop::Memory =>
+            "the run stopped as the machine refused memory: the changes that it counts are made; stop other programs, and give the command again",
+        Stop::Device =>
+            "the run stopped as the disk is full or failed: the changes that it counts are made; make room or mend it, run vaultctl verify FILE, and give the command again",
+        Stop::VaultFull =>
+            "the run stopped as the vault has no number left for a delete marker: the changes that it counts are made; begin another vault",
     }
 }
 
