@@ -15,7 +15,10 @@ from trials.program import Case, needs
 from trials.units import booted, prepared
 
 TAKES_LONG = True
-INCLUDED = "python3,curl,sqlite3,systemd-sysv,dbus,openssl,nginx-light,sudo,openssh-server,openssh-client"
+INCLUDED = (
+    "python3,curl,sqlite3,systemd-sysv,dbus,openssl,nginx-light,sudo,openssh-server,openssh-client,"
+    "python3-flask,python3-waitress,python3-argon2,python3-babel"
+)
 
 HEAD = """\
 echo hello > /trial/hello
@@ -91,6 +94,30 @@ for it in $(seq 60); do filed && break; sleep 0.5; done
 until_asked https://vaults.example.org/cases/c filed
 cp /var/log/nginx/access.log /var/log/nginx/access.log.1
 tell "nginx before one vault, and before two"
+"""
+
+WEB = given(
+    "carry_out", "ENGINEER", "# apt install nginx-light python3-flask python3-waitress python3-argon2 python3-babel",
+    {"apt install nginx-light python3-flask python3-waitress python3-argon2 python3-babel": "true"},
+) + """\
+echo '127.0.0.1 pages.example.org' >> /etc/hosts
+pages() { curl -sk -b /trial/cookies -c /trial/cookies -o /trial/body -w '%{http_code}' "$@" || true; }
+token() { sed -n 's/.*name="token" value="\\([^"]*\\)".*/\\1/p' /trial/body | tail -n 1; }
+for it in $(seq 120); do [ "$(pages https://pages.example.org/login)" = 200 ] && break; sleep 0.5; done
+is "$(pages -d name=ann -d "password=$(cat /trial/password)" -d "token=$(token)" https://pages.example.org/login)" 303 "a login"
+is "$(pages https://pages.example.org/find?text=d)" 200 "a search"
+grep -q '>drafts<' /trial/body || fail "the pages find nothing: $(cat /trial/body)"
+is "$(pages -F bucket=drafts -F key=web -F "token=$(token)" -F file=@/trial/hello https://pages.example.org/put/file)" 303 "a put"
+is "$(status $url/drafts/web)" 200 "what was put by a page"
+is "$(pages https://pages.example.org/version/1)" 200 "a document's page"
+is "$(pages -d 'case=Miller 17' -d "token=$(token)" https://pages.example.org/version/1/hold)" 403 "a hold without the right"
+is "$(stat -c '%U %a' /var/lib/vaultctl/records.cases)" "vaultctl 600" "the file of cases"
+web=$(systemctl show -P MainPID vault-web@records.service)
+is "$(stat -c %U /proc/$web)" vaultctl "the user of the pages"
+! nsenter --mount --target "$web" runuser -u vaultctl -- touch /var/lib/vaultctl/records.vault || fail "the pages may write the vault"
+nsenter --mount --target "$web" runuser -u vaultctl -- touch /var/lib/vaultctl/records.cases || fail "nor the file of cases"
+log_of vault-web@records | grep -q ' ann POST /put/file 303 ' || fail "no line of the put: $(log_of vault-web@records)"
+tell "pages for a browser"
 """
 
 LOG = given("edited", "ENGINEER", "# systemctl edit vault-serve@records.service") + """\
@@ -266,7 +293,7 @@ vaultdesk find followed --vault $there | grep -q ' drafts ' || fail "the other m
 tell "a second machine follows"
 """
 
-SCRIPT = HEAD + SERVED + WHO + MAP + NGINX + LOG + NIGHT + ALARM + GATEWAY + OTHER
+SCRIPT = HEAD + SERVED + WHO + MAP + NGINX + WEB + LOG + NIGHT + ALARM + GATEWAY + OTHER
 
 
 class Boxes(Case):

@@ -53,7 +53,7 @@ NIGHT = "vault-serve@records.service"
 # the office.
 MOST_EXPOSED = {
     "vault-serve@": 1.5, "vault-s3@": 1.5, "vault-health@": 1.5, "vault-follow@": 1.7, "vault-run@": 2.3, "vault-check@": 2.5,
-    "vault-failed@": 10,
+    "vault-web@": 1.5, "vault-failed@": 10,
 }  # fmt: skip
 # Words of the desk up to the one that is completed, and what that may become.
 DESK_COMPLETED = [

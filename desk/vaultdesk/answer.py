@@ -105,7 +105,8 @@ def _hold_sentence(guards: Guards, found: Sequence[Event]) -> str:
     return "No legal hold was on, and none had been."
 
 
-def _guard_sentences(found: Sequence[Event], guards: Guards) -> Iterator[str]:
+def guard_sentences(found: Sequence[Event], guards: Guards) -> Iterator[str]:
+    """What guarded the version of these events at the moment of the guards, in sentences."""
     if guards.at < found[0].moment:
         yield f"It wasn't in the vault yet: it was admitted at {found[0].moment}."
         return
@@ -214,7 +215,7 @@ def parts_of(engine: Engine, found: Sequence[Event], at: str, checked: Checked) 
     document = {name: value for name, value in document_of(found).items() if value != ""}
     document["vault"] = f"{engine.desk.file}, whose last change is of {checked.last}"
     document["page"] = f"made by vaultdesk {__version__}, which only reads the file"
-    guards = list(_guard_sentences(found, events.guards_at(found, at)))
+    guards = list(guard_sentences(found, events.guards_at(found, at)))
     if at > checked.last:
         guards.append(f"The vault's last change is of {checked.last}: this is so if nothing was changed after it.")
     people = ("caller", "department", "state", "rights")
@@ -278,12 +279,19 @@ def as_json(parts: Sequence[Part]) -> dict[str, Any]:
     return found
 
 
+def page_of(engine: Engine, version: int, seals: str | None = None) -> tuple[str, list[Part], Checked]:
+    """The moment that is asked about, the parts of the page of a version, and what was found as the vault was audited.
+
+    `DeskError` where the vault never had that version, or the seals can't be read."""
+    at = engine.at or moments.now()
+    found = events.in_tables(engine.tables, version)
+    checked = _checked(engine, seals)
+    return at, parts_of(engine, found, at, checked), checked
+
+
 def answer(engine: Engine, words: argparse.Namespace) -> None:
     """Prints the page of a version, or writes it as HTML."""
-    at = engine.at or moments.now()
-    found = events.in_tables(engine.tables, words.number)
-    checked = _checked(engine, words.seals)
-    parts = parts_of(engine, found, at, checked)
+    at, parts, checked = page_of(engine, words.number, words.seals)
     title = f"What the vault has of version {words.number}"
     if words.html:
         write_content(Path(words.html), as_html(title, parts).encode(), words.force)

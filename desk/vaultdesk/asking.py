@@ -6,6 +6,16 @@ import argparse
 import sys
 
 from vaultdesk.errors import DeskError, UsageError
+from vaultdesk.output import is_heard
+
+
+class Unconfirmed(UsageError):
+    """What has to be asked before it is done, where the question can't be asked here. `option` is the yes to it."""
+
+    def __init__(self, question: str, option: str) -> None:
+        super().__init__(f"{question}: give --{option} where nobody can be asked")
+        self.question = question
+        self.option = option
 
 
 def asked(question: str) -> str:
@@ -20,11 +30,11 @@ def asked(question: str) -> str:
 def confirm(words: argparse.Namespace, question: str, option: str = "yes") -> None:
     """Goes on where --yes was given (or that other option), or a person at the terminal answers yes.
 
-    `UsageError` where nobody can be asked, `DeskError` where the answer is another one."""
+    `Unconfirmed` where nobody can be asked, `DeskError` where the answer is another one."""
     if getattr(words, option):
         return
-    if not sys.stdin.isatty():
-        raise UsageError(f"{question}: give --{option} where nobody can be asked")
+    if is_heard() or not sys.stdin.isatty():
+        raise Unconfirmed(question, option)
     if asked(f"{question}? [yes/no] ").lower() not in ("y", "yes"):
         raise DeskError("nothing was changed")
 

@@ -15,6 +15,7 @@ from vaultdesk import (
     users,
 )
 from vaultdesk.s3 import words as s3
+from vaultdesk.web import words as web
 from vaultdesk.config import desk
 from vaultdesk.engine import Engine
 from vaultdesk.errors import DeskError, Refused, UsageError
@@ -26,7 +27,7 @@ FAMILIES = (
     documents, exporting, find, history, locks, cases, policies, deliveries, years_end, evidence, answer, office, trail,
     status, closing,
 )  # fmt: skip
-MACHINE = (page, backup, copies, restoring, night, server, health_port, metrics, offices, users, s3, standby, glue)
+MACHINE = (page, backup, copies, restoring, night, server, health_port, metrics, offices, users, s3, web, standby, glue)
 SHOWN = 8  # names of buckets in one sentence
 ABOUT = """The office's desk: documents, deliveries, locks, rules, evidence, the year's end and the office itself, in
 words and without JSON. vaultdesk help COMMAND has the words of each. Status: 0 done; 1 refused or a fault; 2 the

@@ -14,7 +14,7 @@ from collections.abc import Iterable, Mapping, Sequence
 from vaultdesk import beside, config
 from vaultdesk.asking import asked
 from vaultdesk.errors import DeskError, UsageError
-from vaultdesk.output import say
+from vaultdesk.output import is_heard, say
 
 IGNORED = "ignore"
 OF_ROWS = ("file", "key", "class", "date", "mode", "until", "hold", "sha256")
@@ -131,7 +131,7 @@ def asked_for(words: argparse.Namespace, unknown: Sequence[str], place: str) -> 
     if words.ignore_columns is not None and ALL in words.ignore_columns:
         say(f"{place}: columns that aren't used: {names}")
         return {}
-    if words.yes or not sys.stdin.isatty():
+    if words.yes or is_heard() or not sys.stdin.isatty():
         how = f"say what each is by --columns (as --columns 'key={unknown[0]}'), or give --ignore-columns"
         raise UsageError(f"{place}: these columns aren't known: {names}: {how}; {PAGE}")
     say(f"{place}: these columns aren't known: {names}; {PAGE}")

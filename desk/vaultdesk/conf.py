@@ -18,7 +18,7 @@ from vaultdesk.output import say
 
 KNOWN = (
     "PORT", "LINES_GROUP", "ADMIN", "BUCKETS", "NIGHT", "BACKUP", "KEEP", "ALARM", "TRUST_CLOCK", "MAX_JUMP", "STANDBY",
-    "HEALTH",
+    "HEALTH", "WEB",
 )  # fmt: skip
 NAME = re.compile(r"[A-Za-z0-9_][A-Za-z0-9_.-]*")  # of a vault: a file's name, and a unit's
 CALLER = re.compile(r"[a-z0-9._-]{1,64}")

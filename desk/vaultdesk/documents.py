@@ -100,7 +100,7 @@ def _look_still_new(engine: Engine, words: argparse.Namespace, version: int) -> 
         raise DeskError(f"{why}: version {version} was put all the same, and is above it")
 
 
-def _end(engine: Engine, words: argparse.Namespace, now: str) -> str | None:
+def end_of(engine: Engine, words: argparse.Namespace, now: str) -> str | None:
     """The end of the retention that the words give. `UsageError` where it is outside limits, or a mode has none."""
     if not words.until:
         if words.mode:
@@ -117,7 +117,7 @@ def _end(engine: Engine, words: argparse.Namespace, now: str) -> str | None:
 def put(engine: Engine, words: argparse.Namespace) -> None:
     """Puts a file's content as a new version, and prints its number."""
     now = engine.at or moments.now()
-    until, mode = _end(engine, words, now), words.mode or "GOVERNANCE"
+    until, mode = end_of(engine, words, now), words.mode or "GOVERNANCE"
     content = read_content(words.path)
     members = {
         "bucket": words.bucket,

@@ -129,6 +129,10 @@ class Engine:
             self._tables = self._copies.enter_context(snapshot.readable(self.desk.file))
         return self._tables
 
+    def shows(self, bucket: str) -> bool:
+        """Whether who asks may see what the tables have of a bucket: all of it, where they may read the file."""
+        return True
+
     def printed(self, command: str) -> str:
         """What a subcommand of `vaultctl` prints of the vault's tables. `EngineError` where it ends with a fault."""
         words = [self.desk.program, command, str(self.tables)]

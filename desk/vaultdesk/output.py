@@ -7,11 +7,42 @@ import sys
 import threading
 import time
 from collections.abc import Iterable, Iterator, Mapping, Sequence, Sized
+from contextlib import contextmanager
+from contextvars import ContextVar
+from dataclasses import dataclass, field
 from typing import Any, TypeVar
 
 _TURN = threading.Lock()  # of those who say a line
 EACH = 2.0  # seconds between two lines that say how far a subcommand has come
 It = TypeVar("It")
+
+
+@dataclass
+class Heard:
+    """The JSON values that subcommands printed, and the lines that they said."""
+
+    values: list[Any] = field(default_factory=list)
+    said: list[str] = field(default_factory=list)
+
+
+_HEARD: ContextVar[Heard | None] = ContextVar("heard", default=None)
+
+
+@contextmanager
+def heard() -> Iterator[Heard]:
+    """Has this thread's subcommands print and say nothing within the `with` block, and keeps it. Nobody at a terminal
+    is asked meanwhile."""
+    found = Heard()
+    token = _HEARD.set(found)
+    try:
+        yield found
+    finally:
+        _HEARD.reset(token)
+
+
+def is_heard() -> bool:
+    """Whether what is said is kept, and no terminal's."""
+    return _HEARD.get() is not None
 
 
 def shown(text: str) -> str:
@@ -23,6 +54,10 @@ def say(text: str) -> None:
     """Prints a line on standard error, after what was printed on standard output until then.
 
     It is one write, so that the lines of several threads stay lines."""
+    kept = _HEARD.get()
+    if kept is not None:
+        kept.said.append(text)
+        return
     with _TURN:
         sys.stdout.flush()
         sys.stderr.write(f"{text}\n")
@@ -31,6 +66,10 @@ def say(text: str) -> None:
 
 def print_json(value: Any) -> None:
     """Prints one JSON value and a line's end. What of a file's name isn't UTF-8 is there as an escape of JSON."""
+    kept = _HEARD.get()
+    if kept is not None:
+        kept.values.append(value)
+        return
     text = json.dumps(value, ensure_ascii=False, indent=2)
     print(text.encode("utf-8", "backslashreplace").decode("utf-8"))
 
@@ -84,7 +123,7 @@ def refusals(refused: Sequence[str], count: int, is_dry: bool = False) -> str:
 
 def say_while_long(text: str) -> None:
     """A line for a person at a terminal, before what may take long."""
-    if sys.stderr.isatty():
+    if sys.stderr.isatty() and not is_heard():
         say(text)
 
 

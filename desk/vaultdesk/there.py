@@ -48,7 +48,7 @@ def look(engine: Engine, words: argparse.Namespace) -> There:
     """What the vault has. `DeskError` where the caller can put nothing, or there is no such bucket."""
     try:
         file = engine.tables
-        held = held_in(file, None)
+        held = [it for it in held_in(file, None) if engine.shows(it["bucket"])]
         callers = {it["caller"]: it for it in reading.query(file, "callers")}
         found = reading.rows(file, "SELECT name, mode, days, years FROM buckets")
         statement = "SELECT line FROM intake WHERE bucket = ? AND batch = ?"
@@ -61,8 +61,9 @@ def look(engine: Engine, words: argparse.Namespace) -> There:
     if caller not in callers or callers[caller]["department"] == "-":
         raise DeskError(f"caller {caller!r} has no department, or isn't there: it can put nothing")
     if words.bucket not in buckets:
-        raise DeskError(f"the vault has no bucket {words.bucket!r}: it has {', '.join(sorted(buckets)) or 'none'}")
-    if lines:
+        shown = ", ".join(filter(engine.shows, sorted(buckets)))
+        raise DeskError(f"the vault has no bucket {words.bucket!r}: it has {shown or 'none'}")
+    if lines and engine.shows(words.bucket):
         say(f"batch {words.batch!r} is known: {len(lines)} of its lines were taken in before")
     there = [it for it in held if it["bucket"] == words.bucket]
     return There(
@@ -88,6 +89,15 @@ def _default(engine: Engine, bucket: str, mode: str, days: int | None, years: in
     is_limited = limits.are_of(engine.desk.limits, bucket)
     why_not = limits.why_not_kept(engine.desk.limits, bucket, end or None, now) if is_limited else ""
     return Default(mode, str(period or ""), end, True, why_not)
+
+
+def default_in(engine: Engine, bucket: str) -> Default:
+    """The bucket's default retention, as the tables have it. `DeskError` where there is no such bucket."""
+    found = reading.rows(engine.tables, "SELECT mode, days, years FROM buckets WHERE name = ?", (bucket,))
+    if not found:
+        raise DeskError(f"the vault has no bucket {bucket!r}: check its spelling")
+    mode, days, years = found[0]
+    return _default(engine, bucket, MODES[mode], days, years)
 
 
 def _asked(engine: Engine, bucket: str) -> Default:

@@ -1,6 +1,7 @@
-"""The users whom nginx lets in: a file of names, each with the digest of a password.
+"""The users whom nginx or the pages let in: a file of names, each with the digest of a password.
 
-A line is `NAME:DIGEST`, as `htpasswd` writes it and nginx's auth_basic_user_file reads it. A user's name is a caller's.
+A line is `NAME:DIGEST`, as `htpasswd` writes it and nginx's auth_basic_user_file reads it; the pages (`vaultdesk web`)
+read those alone whose digest is argon2's, which nginx doesn't know. A user's name is a caller's.
 """
 
 from __future__ import annotations
@@ -8,6 +9,7 @@ from __future__ import annotations
 import argparse
 import getpass
 import grp
+import importlib
 import os
 import subprocess
 import sys
@@ -21,8 +23,11 @@ from vaultdesk.owner import Owner, owner_of
 from vaultdesk.replacing import write_anew
 
 NGINX = "www-data"  # the group as which Debian's nginx reads
-ABOUT = """Looks after the file of the users whom nginx lets in (auth_basic_user_file). Each line has a name, which has
-to be a caller's, and the digest of a password. The passwords themselves are kept nowhere."""
+PAGES = "vaultctl"  # and the one as which the unit of the pages does
+ARGON2 = "$argon2"  # how a digest by argon2 begins
+ABOUT = """Looks after a file of the users whom nginx lets in (auth_basic_user_file), or with --argon2 the pages
+(vaultdesk web --users). Each line has a name, which has to be a caller's, and the digest of a password. The passwords
+themselves are kept nowhere."""
 SHORTEST = 8  # characters of a password
 
 
@@ -43,20 +48,21 @@ def read_users(path: Path) -> dict[str, str]:
     return users
 
 
-def _placed(path: Path) -> tuple[int, Owner]:
-    """The mode and the owner of the file: those that it has, or those that nginx needs for a new one."""
+def _placed(path: Path, reader: str) -> tuple[int, Owner]:
+    """The mode and the owner of the file: those that it has, or for a new one those that its reader's group needs."""
     if path.exists():
         return path.stat().st_mode & 0o777, owner_of(path)
     try:
-        group = grp.getgrnam(NGINX).gr_gid
+        group = grp.getgrnam(reader).gr_gid
     except KeyError:
         group = os.getegid()
     return 0o640, Owner(os.geteuid(), group)
 
 
 def write_users(path: Path, users: dict[str, str]) -> None:
-    """Writes the file anew, so that nginx reads the old one or the new one."""
-    mode, owner = _placed(path)
+    """Writes the file anew, so that who reads it has the old one or the new one."""
+    is_of_pages = any(it.startswith(ARGON2) for it in users.values())
+    mode, owner = _placed(path, PAGES if is_of_pages else NGINX)
 
     def place(new: Path) -> None:
         new.chmod(mode)
@@ -76,6 +82,15 @@ def digest_of(password: str) -> str:
     except subprocess.CalledProcessError as error:
         raise DeskError(f"openssl: {error.stderr.strip()}") from error
     return done.stdout.strip()
+
+
+def _digest(words: argparse.Namespace, before: str = "") -> str:
+    """The digest of a password that is asked for: by argon2 where that is asked, or the one before it is."""
+    password = ask_password(words.name)
+    if not words.argon2 and not before.startswith(ARGON2):
+        return digest_of(password)
+    passwords = importlib.import_module("vaultdesk.web.passwords")  # which needs more than the rest of the desk
+    return str(passwords.digest_of(password))
 
 
 def ask_password(name: str) -> str:
@@ -125,7 +140,7 @@ def users_add(words: argparse.Namespace) -> int:
         raise UsageError(f"{words.name!r} can be no caller's name, which has 1 to 64 of a-z, 0-9, '-', '_' and '.'")
     if words.vault and _callers(words.vault).get(words.name) != "open":
         raise DeskError(f"{words.name} is no open caller of {words.vault}: vaultdesk callers --add makes one")
-    users[words.name] = digest_of(ask_password(words.name))
+    users[words.name] = _digest(words)
     write_users(path, users)
     _tell(words, "added")
     return 0
@@ -136,14 +151,14 @@ def users_password(words: argparse.Namespace) -> int:
     users = read_users(Path(words.file))
     if words.name not in users:
         raise DeskError(f"{words.name} isn't in {words.file}: vaultdesk users add adds one")
-    users[words.name] = digest_of(ask_password(words.name))
+    users[words.name] = _digest(words, users[words.name])
     write_users(Path(words.file), users)
     _tell(words, "password")
     return 0
 
 
 def users_remove(words: argparse.Namespace) -> int:
-    """Removes a user: nginx lets that one in no more. The caller in the vault stays."""
+    """Removes a user: that one is let in no more. The caller in the vault stays."""
     users = read_users(Path(words.file))
     if users.pop(words.name, None) is None:
         raise DeskError(f"{words.name} isn't in {words.file}")
@@ -160,10 +175,11 @@ def users_remove(words: argparse.Namespace) -> int:
 
 def add(commands: argparse._SubParsersAction[argparse.ArgumentParser], common: argparse.ArgumentParser) -> None:
     """Adds the subcommands to the desk's words."""
-    what = "the users whom nginx lets in: list, add, password, remove"
+    what = "the users whom nginx or the pages let in: list, add, password, remove"
     made = commands.add_parser("users", help=what, description=ABOUT)
     kinds = made.add_subparsers(dest="kind", required=True, metavar="KIND")
-    text = "the file that nginx names in auth_basic_user_file"
+    text = "the file that nginx names in auth_basic_user_file, or vaultdesk web by --users"
+    by_argon2 = "keep the password by argon2, for vaultdesk web"
     place = "/etc/nginx/vault.users"
 
     example = f"Example: vaultdesk users list {place} --vault records.vault"
@@ -179,12 +195,14 @@ def add(commands: argparse._SubParsersAction[argparse.ArgumentParser], common: a
     it.add_argument("file", metavar="FILE", help=f"{text}; it is made if it isn't there")
     it.add_argument("name", metavar="NAME", help="the name of a caller")
     it.add_argument("--vault", metavar="V", help="check first that the vault has this caller")
+    it.add_argument("--argon2", action="store_true", help=by_argon2)
     it.set_defaults(do=users_add)
 
     example = f"Example: vaultdesk users password {place} ann"
     it = kinds.add_parser("password", parents=[common], help="give one another password", epilog=example)
     it.add_argument("file", metavar="FILE", help=text)
     it.add_argument("name", metavar="NAME")
+    it.add_argument("--argon2", action="store_true", help=f"{by_argon2}; one that is kept so stays so")
     it.set_defaults(do=users_password)
 
     example = f"Example: vaultdesk users remove {place} ann"
