@@ -172,7 +172,7 @@ YEAR = [
         (8, "4711/statement", 48, "cid", "", "", ""),
         (9, "4711/exhibit", 7, "cid", "2025-03-03T09:01:00Z", "request", "cid"),
     ]),
-    ("find", {"prefix": "2024/00", "text": "ü"}, ("version", "key"), [(1, "2024/001 Müller & Söhne")]),
+    ("find", {"prefix": "2024/00", "text": "ü"}, ("version", "key"), [(1, "2024/001 Gründe & Räume")]),
     ("find", {"prefix": "_024"}, ("version",), []),
     ("find", {"text": "%"}, ("version",), []),
     ("find", {"sha256": hashlib.sha256(b"What the shelves cost.").hexdigest()[:8].upper()}, ("version",), [(10,)]),

@@ -76,6 +76,7 @@ ROWS = {
     "buckets": Row(*(f"--add {it} --department records --as registrar" for it in ("files", "docs"))),
     "callers": Row(*(f"--add {it} --department records --rights get --as registrar" for it in ("bob", "ann"))),
     "trail": Row("docs {folder}/one.txt", "docs {folder}/none"),
+    "where": Row("1", "99"),
     "status": Row(SERVED, ""),
     "close": Row(SERVED, ""),
     "page": Row("{file}", "{folder}/none.vault"),

@@ -174,7 +174,7 @@ def cases(engine: Engine, words: argparse.Namespace) -> None:
 def add(commands: argparse._SubParsersAction[argparse.ArgumentParser], common: argparse.ArgumentParser) -> None:
     """Adds the subcommand to the desk's words."""
     what = "the cases for which versions were put on hold, or the records of one case"
-    example = 'Example: vaultdesk cases "Miller 17"'
+    example = 'Example: vaultdesk cases "4 O 17/25"'
     it = commands.add_parser("cases", parents=[common], help=what, epilog=example)
     it.add_argument("name", nargs="?", metavar="CASE")
     it.set_defaults(run=cases)

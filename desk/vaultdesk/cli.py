@@ -8,7 +8,7 @@ from collections.abc import Sequence
 
 from vaultdesk import (
     __version__, answer, cases, deliveries, documents, evidence, exporting, find, history, locks, moments, office,
-    policies, reading, trail, years_end,
+    policies, reading, trail, whereabouts, years_end,
 )
 from vaultdesk import (
     backup, closing, copies, glue, health_port, metrics, night, offices, page, restoring, server, standby, status,
@@ -25,7 +25,7 @@ from vaultdesk.spelling import Parser, parsed
 # Those that ask about a vault, and those that look after files, servers and users.
 FAMILIES = (
     documents, exporting, find, history, locks, cases, policies, deliveries, years_end, evidence, answer, office, trail,
-    status, closing,
+    whereabouts, status, closing,
 )  # fmt: skip
 MACHINE = (page, backup, copies, restoring, night, server, health_port, metrics, offices, users, s3, web, standby, glue)
 SHOWN = 8  # names of buckets in one sentence

@@ -49,6 +49,9 @@ NAMES = {
     "version": IGNORED,
     "size": IGNORED,
     "admitted": IGNORED,
+    "retention_mode": IGNORED,
+    "retention_until": IGNORED,
+    "legal_hold": IGNORED,
 }
 ALL = ""  # of --ignore-columns: all that aren't known
 PAGE = f"{beside.page('INVENTORY')} has the names that are known"

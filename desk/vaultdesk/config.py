@@ -23,6 +23,12 @@ An option is asked first, then the environment, then a file of settings (TOML)::
     [columns]
     "Reference" = "key"      # what a column of an inventory is, which deliver --columns writes here; or "ignore"
 
+    [keys]
+    pattern = "[0-9/]+"      # the form of keys, as a regular expression of all of a key, for put and deliver
+
+    [office]
+    name = "County Archive"  # as it signs pages, certificates and what it hands over
+
 A name that isn't there is that of a vault with units, if there is one: /var/lib/vaultctl/NAME.vault.
 """
 
@@ -57,6 +63,8 @@ class Settings:
     limits: Limits = limits.NONE
     columns: Mapping[str, str] | None = None
     dates: str | None = None
+    office: str | None = None
+    keys: str | None = None
 
     def file_of(self, vault: str) -> Path:
         """The file of the vault that is named so, or else that path itself.
@@ -101,6 +109,14 @@ def _text(found: Mapping[str, Any], name: str) -> str | None:
     return value
 
 
+def _of_table(found: Mapping[str, Any], table: str, name: str) -> str | None:
+    """A text of a table; none where the table or the text isn't there."""
+    there = found.get(table, {})
+    if not isinstance(there, dict):
+        raise UsageError(f"settings: [{table}] is a table, with {name} in it")
+    return _text(there, name)
+
+
 def _periods(found: Mapping[str, Any], name: str) -> dict[str, limits.Period]:
     given = found.get(name, {})
     if not _are_texts(given):
@@ -128,9 +144,10 @@ def read_settings(path: Path) -> Settings:
     columns = found.get("columns", {})
     if not _are_texts(columns):
         raise UsageError(f"settings {path}: [columns] has names of columns, each with what it is in quotes")
+    office, keys = _of_table(found, "office", "name"), _of_table(found, "keys", "pattern")
     within = Limits(_periods(found, "least"), _periods(found, "greatest"))
     vault, caller, program_, dates = (_text(found, it) for it in ("vault", "caller", "program", "dates"))
-    return Settings(vault, caller, program_, vaults, doors, within, columns, dates)
+    return Settings(vault, caller, program_, vaults, doors, within, columns, dates, office, keys)
 
 
 def _file() -> Path | None:
@@ -145,6 +162,11 @@ def settings() -> Settings:
     """Those of $VAULTDESK_SETTINGS, or else of the first file that is there; none where no file is."""
     file = _file()
     return read_settings(file) if file else Settings()
+
+
+def office_name() -> str:
+    """The office's name, as the settings have it; empty where they have none."""
+    return settings().office or ""
 
 
 def _with_columns(text: str, given: Mapping[str, str]) -> str:

@@ -8,15 +8,17 @@ from collections.abc import Iterator, Mapping, Sequence
 from pathlib import Path
 from typing import Any
 
-from vaultdesk import columns, dates, looks, plan, there
+from vaultdesk import columns, config, dates, looks, moments, plan, there
 from vaultdesk.asking import add_yes, confirm
-from vaultdesk.delivery import Delivery, look, look_at_words
-from vaultdesk.documents import read_content
+from vaultdesk.bags import Bag
+from vaultdesk.delivery import Delivery, look, look_at_words, open_bag
+from vaultdesk.documents import read_content, write_content
 from vaultdesk.engine import Engine
 from vaultdesk.errors import DeskError, EngineError, Refused
 from vaultdesk.intake import Intake, results, taken_in
 from vaultdesk.items import Item
 from vaultdesk.output import counted_off, print_json, print_table, refusals, say
+from vaultdesk.receipts import receipt
 
 FOUND = ("row", "file", "wrong", "note")
 Row = dict[str, Any]
@@ -56,7 +58,9 @@ def _why_not_all(intake: Intake, refused: Sequence[Row], done: int, wanted: int)
     return refusals([str(it["value"]) for it in refused], wanted) if refused else ""
 
 
-def _report(engine: Engine, words: argparse.Namespace, given: Delivery, intake: Intake) -> None:
+def _report(
+    engine: Engine, words: argparse.Namespace, given: Delivery, intake: Intake, bag: Bag | None
+) -> None:
     """Prints what became of the delivery. `DeskError` where not all that was right is in the vault as it is there, or
     who came by a server's door may not read the tables to compare it."""
     items, wanted = given.items, len(given.right)
@@ -68,6 +72,8 @@ def _report(engine: Engine, words: argparse.Namespace, given: Delivery, intake: 
         differing = _differing(engine, words.bucket, taken)
     except EngineError as error:
         why = f"what is in the vault wasn't compared with the folder: {error}"
+    if words.receipt and differing is not None:
+        _write_receipt(engine, words, {it: item for it, item in taken.items() if item.file not in differing}, bag)
     if words.json:
         told = {"taken_in": len(taken), "refused": refused, "differing": differing, "rows": rows}
         skipped = [it.number for it in items if it.is_skipped]
@@ -81,6 +87,17 @@ def _report(engine: Engine, words: argparse.Namespace, given: Delivery, intake: 
         raise DeskError(not_all)
     if why:
         raise DeskError(why)
+
+
+def _write_receipt(
+    engine: Engine, words: argparse.Namespace, taken: Mapping[int, Item], bag: Bag | None
+) -> None:
+    """Writes the receipt for what is in the vault as it is in the folder."""
+    of_all = {"bucket": words.bucket, "batch": words.batch, "received": engine.at or moments.now()}
+    of_all |= {"received_by": engine.desk.caller, "office": config.office_name()}
+    content = receipt(taken, {**of_all, "bag": bag.name if bag else ""})
+    write_content(Path(words.receipt), content, words.force)
+    say(f"the receipt for {len(taken):,} documents is {words.receipt}")
 
 
 def _of_rows(rows: Sequence[Row], items: Sequence[Item]) -> list[Item]:
@@ -145,8 +162,9 @@ def _ask(words: argparse.Namespace, given: Delivery) -> None:
 
 def deliver(engine: Engine, words: argparse.Namespace) -> None:
     """Looks at a delivery, takes it in, and compares what the vault has with the folder."""
+    bag = open_bag(words)
     look_at_words(words)
-    given, said = look(engine, words)
+    given, said = look(engine, words, bag)
     skipped = looks.skip_doubles(given.items) if words.skip_held else 0
     if skipped:
         say(f"{skipped} rows are left out: the vault holds their content already, or an earlier row has it")
@@ -164,7 +182,7 @@ def deliver(engine: Engine, words: argparse.Namespace) -> None:
         say("this delivery was made already: nothing new comes in, and what is there is compared once more")
     _ask(words, given)
     columns.keep(said)
-    _report(engine, words, given, taken_in(engine, words, given.items))
+    _report(engine, words, given, taken_in(engine, words, given.items), bag)
     if words.keep_inventory:
         _keep_list(engine, words)
 
@@ -198,11 +216,15 @@ def add(commands: argparse._SubParsersAction[argparse.ArgumentParser], common: a
     it.add_argument("--bucket", required=True)
     it.add_argument("--batch", required=True, help="the delivery's name: given again, nothing is taken in twice")
     _add_list(it)
+    help_text = "the folder is a bag of BagIt 1.0 (RFC 8493): it is compared with its manifests before anything else"
+    it.add_argument("--bag", action="store_true", help=help_text)
+    help_text = "write a receipt there: each document that came in, by its file, key, version and SHA-256 (CSV)"
+    it.add_argument("--receipt", metavar="FILE", help=help_text)
     it.add_argument("--recursive", action="store_true", help="without an inventory: also files of folders within it")
     it.add_argument("--skip-held", action="store_true", help="leave out rows whose content the vault holds already")
     it.add_argument("--again", action="store_true", help="take in once more what the bucket holds already")
     it.add_argument("--leave-out", action="store_true", help="take in the other rows where some are wrong")
     it.add_argument("--csv", metavar="FILE", help="write the plan there: key, mode, end and more of each row")
-    it.add_argument("--force", action="store_true", help="with --csv: write over a file that is there")
+    it.add_argument("--force", action="store_true", help="with --csv and --receipt: write over a file")
     add_yes(it)
     it.set_defaults(run=deliver)

@@ -8,7 +8,8 @@ from collections.abc import Sequence
 from dataclasses import dataclass
 from pathlib import Path
 
-from vaultdesk import columns, config, dates, folder, inventory, limits, looks, moments, plan, there
+from vaultdesk import bags, columns, config, dates, folder, inventory, keys, limits, looks, moments, plan, there
+from vaultdesk.bags import Bag
 from vaultdesk.documents import read_content
 from vaultdesk.engine import Engine
 from vaultdesk.errors import UsageError
@@ -55,9 +56,22 @@ def look_at_words(words: argparse.Namespace) -> None:
         if value is not None and not words.inventory:
             raise UsageError(f"--{name} goes with --inventory FILE")
     if words.keep_inventory:
+        keys.look(words.keep_inventory)
         read_content(words.inventory)
-    if words.csv and Path(words.csv).exists() and not words.force:
-        raise UsageError(f"{words.csv} is there already: give --force to write over it")
+    for path in (words.csv, words.receipt):
+        if path and Path(path).exists() and not words.force:
+            raise UsageError(f"{path} is there already: give --force to write over it")
+
+
+def open_bag(words: argparse.Namespace) -> Bag | None:
+    """Looks at the bag that is delivered, and has the words mean its documents, by its own list where no other is
+    named; none where the folder is no bag. `DeskError` where it isn't whole."""
+    if not words.bag:
+        return None
+    bag = bags.look(Path(words.folder))
+    words.folder, words.recursive = str(bag.payload), True
+    words.inventory = words.inventory or (str(bag.list) if bag.list else None)
+    return bag
 
 
 def _all_files(words: argparse.Namespace, given: Folder) -> list[inventory.Row]:
@@ -111,16 +125,20 @@ def _unnamed(words: argparse.Namespace, given: Folder, items: Sequence[Item]) ->
     return [it for it in left if (given.path / it).resolve() not in lists]
 
 
-def look(engine: Engine, words: argparse.Namespace) -> tuple[Delivery, dict[str, str]]:
-    """The delivery, each of its items with what was found of it, and what was said of the inventory's columns."""
+def look(engine: Engine, words: argparse.Namespace, bag: Bag | None) -> tuple[Delivery, dict[str, str]]:
+    """The delivery, each of its items with what was found of it, and what was said of the inventory's columns.
+
+    The files of a bag are those whose digests were compared as it was looked at."""
     asked, order = _asked(engine, words), _order(words)
     rows, said = _listed(words) if words.inventory else (None, {})
     given = folder.read(Path(words.folder))
     rows = _all_files(words, given) if rows is None else rows
-    now = engine.at or moments.now()
+    now, form = engine.at or moments.now(), keys.form()
     items = items_of(rows, asked, order, given.below(it.cells["file"] for it in rows))
+    digests = bag.digests if bag else {}
     for it in counted_off(items, "rows were looked at"):
-        looks.look_at_words(it, now)
+        it.wanted = it.wanted or digests.get(it.file, "")
+        looks.look_at_words(it, now, form)
         looks.look_at_limits(it, engine.desk.limits, words.bucket, now)
         looks.look_at_file(it, given)
     found = there.look(engine, words)

@@ -12,7 +12,7 @@ from collections.abc import Callable, Mapping
 from pathlib import Path
 from typing import Any
 
-from vaultdesk import defaults, limits, moments
+from vaultdesk import defaults, keys, limits, moments, receipts
 from vaultdesk.asking import confirm
 from vaultdesk.engine import Engine
 from vaultdesk.errors import DeskError, Refused, UsageError, of_file
@@ -117,8 +117,11 @@ def end_of(engine: Engine, words: argparse.Namespace, now: str) -> str | None:
 def put(engine: Engine, words: argparse.Namespace) -> None:
     """Puts a file's content as a new version, and prints its number."""
     now = engine.at or moments.now()
+    keys.look(words.key)
     until, mode = end_of(engine, words, now), words.mode or "GOVERNANCE"
     content = read_content(words.path)
+    if words.receipt_for:
+        receipts.look(Path(words.receipt_for), content)
     members = {
         "bucket": words.bucket,
         "key": words.key,
@@ -248,6 +251,8 @@ def add(commands: argparse._SubParsersAction[argparse.ArgumentParser], common: a
     it.add_argument("--mode", choices=("GOVERNANCE", "COMPLIANCE"), help="its mode (GOVERNANCE)")
     it.add_argument("--hold", action="store_true", help="with a legal hold")
     it.add_argument("--new", action="store_true", help="only if nothing is held under KEY")
+    text = "only if the file has the SHA-256 of each document of that bag, of export --bagit: a receipt for it"
+    it.add_argument("--receipt-for", metavar="BAG", help=text)
     it.add_argument("--yes", action="store_true", help="don't ask")
 
     example = 'get letters "2025/002 permit" letter.pdf'

@@ -1,4 +1,4 @@
-"""Documents of a bucket written to a folder: export."""
+"""Documents of a bucket written to a folder, or to a bag for an archive: export."""
 
 from __future__ import annotations
 
@@ -9,17 +9,20 @@ import errno
 import io
 import os
 import re
+import unicodedata
 from collections.abc import Iterator, Mapping, Sequence
 from pathlib import Path
 from typing import Any, BinaryIO
 
-from vaultdesk import spreadsheet
+from vaultdesk import __version__, bags, config, moments, spreadsheet
 from vaultdesk.documents import checked_content
 from vaultdesk.engine import Engine
-from vaultdesk.errors import DeskError, of_file
-from vaultdesk.output import counted_off, print_json, say
+from vaultdesk.errors import DeskError, UsageError, of_file
+from vaultdesk.output import counted_off, print_json, say, shown
 
-LISTED = ("file", "key", "version", "size", "sha256", "admitted")
+LISTED = (
+    "file", "key", "version", "size", "sha256", "admitted", "retention_mode", "retention_until", "legal_hold",
+)  # fmt: skip
 LIST, SHEET = "documents.csv", "documents.xlsx"
 MOST_NAMED = 10  # how many of the other things in a folder are named
 ENDING = re.compile(r"\.[A-Za-z0-9]{1,8}$")
@@ -39,21 +42,32 @@ def can_be_path(key: str) -> bool:
     return all(it not in ("", ".", "..") and len(os.fsencode(it)) <= LONGEST and it.isprintable() for it in parts)
 
 
-def _named(entries: Sequence[Entry], by_key: bool) -> Iterator[tuple[Entry, str]]:
+def _folded(name: str) -> str:
+    """A name by which those are one that some systems take for the same file."""
+    return unicodedata.normalize("NFC", name).casefold()
+
+
+def _as_it_is(name: str) -> str:
+    return name
+
+
+def _named(entries: Sequence[Entry], by_key: bool, for_all: bool = False) -> Iterator[tuple[Entry, str]]:
     """Each entry with its file: by its key where that is asked, can be a path, and is no earlier file or folder; else
-    by its number, at the top of the folder."""
-    taken, folders = {LIST, SHEET}, set[str]()
+    by its number, at the top of the folder. `for_all`: also on systems for which capitals are small letters."""
+    as_taken = _folded if for_all else _as_it_is
+    taken, folders = {as_taken(it) for it in (LIST, SHEET)}, set[str]()
     for it in entries:
-        key = it["key"]
+        key = as_taken(it["key"])
         above = {key[:place] for place, letter in enumerate(key) if letter == "/"}
         is_free = key not in taken | folders and not above & taken
-        if by_key and can_be_path(key) and is_free:
-            name, folders = key, folders | above
+        if by_key and can_be_path(it["key"]) and is_free and not (for_all and bags.is_encoded(key)):
+            name = it["key"]
+            folders |= above
         else:
             name = by_number(it)
-            while name in taken | folders:
+            while as_taken(name) in taken | folders:
                 name = f"_{name}"
-        taken.add(name)
+        taken.add(as_taken(name))
         yield it, name
 
 
@@ -100,24 +114,36 @@ def _look_empty(folder: Path) -> None:
         raise DeskError(f"{folder} has files already, {first.name} among them: name a new folder, {ways}")
 
 
+def _got(engine: Engine, words: argparse.Namespace, entry: Entry, name: str) -> tuple[bytes, dict[str, Any]]:
+    """The content of a version, and its row of the list."""
+    found = engine.ask("get", bucket=words.bucket, key=entry["key"], id=entry["version_id"])
+    content, retention = checked_content(found), found["retention"] or {}
+    row = {"file": name, "key": entry["key"], "version": entry["version_id"], "size": len(content)}
+    row |= {"sha256": found["sha256"], "admitted": found["admitted"]}
+    lock = {"retention_mode": retention.get("mode", ""), "retention_until": retention.get("until", "")}
+    return content, {**row, **lock, "legal_hold": found["hold"]}
+
+
 def _exported(engine: Engine, words: argparse.Namespace, target: Target, entry: Entry, name: str) -> dict[str, Any]:
     """Writes a version to its file, and gives its row of the list."""
-    found = engine.ask("get", bucket=words.bucket, key=entry["key"], id=entry["version_id"])
-    content = checked_content(found)
+    content, row = _got(engine, words, entry, name)
     with target.open(name) as file:
         file.write(content)
-    row = {"file": name, "key": entry["key"], "version": entry["version_id"], "size": len(content)}
-    return {**row, "sha256": found["sha256"], "admitted": found["admitted"]}
+    return row
 
 
-def _list(target: Target, rows: Sequence[Mapping[str, Any]]) -> None:
-    """Writes the lists: CSV, which has each key as it is, and a spreadsheet in which each cell is a text."""
+def _csv(rows: Sequence[Mapping[str, Any]]) -> bytes:
     text = io.StringIO()
     writer = csv.DictWriter(text, LISTED, lineterminator="\n")
     writer.writeheader()
     writer.writerows(rows)
+    return text.getvalue().encode()
+
+
+def _list(target: Target, rows: Sequence[Mapping[str, Any]]) -> None:
+    """Writes the lists: CSV, which has each key as it is, and a spreadsheet in which each cell is a text."""
     with target.open(LIST) as file:
-        file.write(text.getvalue().encode())
+        file.write(_csv(rows))
     if len(rows) >= spreadsheet.MOST_ROWS:
         say(f"{SHEET} isn't written, as a spreadsheet has at most {spreadsheet.MOST_ROWS - 1:,} rows")
         return
@@ -125,19 +151,47 @@ def _list(target: Target, rows: Sequence[Mapping[str, Any]]) -> None:
         spreadsheet.write_to(file, "documents", [{it: str(row[it]) for it in LISTED} for row in rows], LISTED)
 
 
-def export(engine: Engine, words: argparse.Namespace) -> None:
-    """Writes the documents of a bucket to a folder, with a list that says which is which."""
-    if not words.force and not words.into_existing:
-        _look_empty(Path(words.folder))
-    held = [it for it in engine.entries(words.bucket, words.prefix) if not it["delete_marker"]]
-    entries = [it for it in held if it["current"] or words.all_versions]
-    try:
-        target = Target(Path(words.folder), words.force)
-        named = counted_off(list(_named(entries, words.names)), "documents are written")
-        rows = [_exported(engine, words, target, it, name) for it, name in named]
-        _list(target, rows)
-    except OSError as error:
-        raise of_file(error.filename or words.folder, error) from error
+def _info(engine: Engine, words: argparse.Namespace) -> dict[str, str]:
+    """What a bag says of itself."""
+    now = engine.at or moments.now()
+    prefix = f" whose keys begin with {shown(words.prefix)}" if words.prefix else ""
+    versions = ", older versions too" if words.all_versions else ""
+    office = config.office_name()
+    return {
+        **({"Source-Organization": office} if office else {}),
+        "External-Identifier": f"{engine.desk.file.name.removesuffix('.vault')}/{words.bucket}/{now}",
+        "External-Description": f"documents of the bucket {words.bucket}{prefix}{versions}; {bags.LIST} has their keys",
+        "Internal-Sender-Identifier": engine.desk.caller,
+        "Bagging-Date": now[:10],
+        "Bag-Software-Agent": f"vaultdesk {__version__}",
+    }
+
+
+def _bag(engine: Engine, words: argparse.Namespace, entries: Sequence[Entry]) -> None:
+    """Writes a bag of these documents, and says its digest."""
+    if not entries:
+        raise DeskError(f"{words.bucket} holds no such document: a bag has at least one; vaultdesk ls lists them")
+    info, rows = _info(engine, words), []
+    made = bags.Writer(Target(Path(words.folder), words.force).open)
+    named = list(_named(entries, words.names, for_all=True))
+    for it, name in counted_off(named, "documents are written"):
+        content, row = _got(engine, words, it, name)
+        made.payload(name, content)
+        rows.append(row)
+    made.tag(bags.LIST, _csv(rows))
+    digest = made.end(info)
+    if words.json:
+        print_json({**info, "manifest": digest, "documents": rows})
+    else:
+        print(f"{len(rows)} documents in the bag {words.folder}; the SHA-256 of its manifest-sha256.txt is\n{digest}")
+
+
+def _folder(engine: Engine, words: argparse.Namespace, entries: Sequence[Entry]) -> None:
+    """Writes these documents to a folder, with their list."""
+    target = Target(Path(words.folder), words.force)
+    named = counted_off(list(_named(entries, words.names)), "documents are written")
+    rows = [_exported(engine, words, target, it, name) for it, name in named]
+    _list(target, rows)
     if words.json:
         print_json(rows)
     else:
@@ -148,10 +202,24 @@ def export(engine: Engine, words: argparse.Namespace) -> None:
         say(f"also in {words.folder}, and not in the list: {', '.join(others[:MOST_NAMED])}{more}")
 
 
+def export(engine: Engine, words: argparse.Namespace) -> None:
+    """Writes the documents of a bucket to a folder, with a list that says which is which; or to a bag."""
+    if words.bagit and (words.force or words.into_existing):
+        raise UsageError("a bag is a new folder: leave --force and --into-existing out, or --bagit")
+    if not words.force and not words.into_existing:
+        _look_empty(Path(words.folder))
+    held = [it for it in engine.entries(words.bucket, words.prefix) if not it["delete_marker"]]
+    entries = [it for it in held if it["current"] or words.all_versions]
+    try:
+        (_bag if words.bagit else _folder)(engine, words, entries)
+    except OSError as error:
+        raise of_file(error.filename or words.folder, error) from error
+
+
 def add(commands: argparse._SubParsersAction[argparse.ArgumentParser], common: argparse.ArgumentParser) -> None:
     """Adds the subcommand to the desk's words."""
     what = "write all documents of a bucket to a folder, with a list that says which is which"
-    example = "Example: vaultdesk export letters out --prefix 2025/ --names"
+    example = "Examples: vaultdesk export letters out --prefix 2025/ --names; vaultdesk export letters bag --bagit"
     it = commands.add_parser("export", parents=[common], help=what, epilog=example)
     it.add_argument("bucket")
     it.add_argument("folder", help=f"gets a file for each, named by its number, and {LIST} and {SHEET}, their list")
@@ -159,6 +227,8 @@ def add(commands: argparse._SubParsersAction[argparse.ArgumentParser], common: a
     text = "name each file by its key, in folders, where a file can be named so"
     it.add_argument("--names", action="store_true", help=text)
     it.add_argument("--all-versions", action="store_true", help="older versions too")
+    text = "as a bag of BagIt 1.0 (RFC 8493), for an archive: the documents below data/, with the digests of all files"
+    it.add_argument("--bagit", action="store_true", help=text)
     it.add_argument("--into-existing", action="store_true", help="into a folder that has other files")
     it.add_argument("--force", action="store_true", help="the same, and write over files that are there")
     it.set_defaults(run=export)

@@ -256,7 +256,7 @@ def delete(engine: Engine, words: argparse.Namespace) -> None:
 
 
 def _add_holds(commands: argparse._SubParsersAction[argparse.ArgumentParser], common: argparse.ArgumentParser) -> None:
-    example = 'Example: vaultdesk hold letters --prefix "2025/" --case "Miller 17"'
+    example = 'Example: vaultdesk hold letters --prefix "2025/" --case "4 O 17/25"'
     what = "set a legal hold: on one document, on many by prefix, or by a list"
     it = commands.add_parser("hold", parents=[common], help=what, epilog=example)
     it.set_defaults(run=hold)
@@ -264,7 +264,7 @@ def _add_holds(commands: argparse._SubParsersAction[argparse.ArgumentParser], co
     it.add_argument("--case", metavar="NAME", help="note in NAME.cases, beside NAME.vault, for which case it is")
     it.add_argument("--dry-run", action="store_true", help="say what would be done, and change nothing")
 
-    example = 'Example: vaultdesk release --case "Miller 17"'
+    example = 'Example: vaultdesk release --case "4 O 17/25"'
     what = "lift a legal hold: of one document, of many by prefix, by a list, or all of a case"
     it = commands.add_parser("release", parents=[common], help=what, epilog=example)
     it.set_defaults(run=release)

@@ -3,11 +3,12 @@
 from __future__ import annotations
 
 import hashlib
+import re
 import unicodedata
 from collections import Counter
 from collections.abc import Sequence
 
-from vaultdesk import moments
+from vaultdesk import keys, moments
 from vaultdesk.documents import MOST
 from vaultdesk.folder import Folder, is_of_system
 from vaultdesk.items import MODES, Item
@@ -23,12 +24,14 @@ def _is_unicode(text: str) -> bool:
     return not any("\udc80" <= it <= "\udcff" for it in text)
 
 
-def look_at_words(it: Item, now: str) -> None:
-    """What is wrong with the key and the lock of an item by themselves."""
+def look_at_words(it: Item, now: str, form: re.Pattern[str] | None) -> None:
+    """What is wrong with the key, which has to be of that form, and the lock of an item by themselves."""
     if not _is_unicode(it.key):
         it.wrong.append("the file's name isn't UTF-8, which a key is: rename the file, or give an inventory with keys")
     elif not it.key or len(it.key.encode()) > LONGEST_KEY or any(ord(c) < 32 or ord(c) == 127 for c in it.key):
         it.wrong.append("a key has 1 to 1,024 bytes, none of them a control character")
+    elif why := keys.why_not(it.key, form):
+        it.wrong.append(why)
     if it.key != it.key.strip():
         it.notes.append("the key begins or ends with a blank, which is kept")
     if it.key != unicodedata.normalize("NFC", it.key):
