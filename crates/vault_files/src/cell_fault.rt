@@ -3,7 +3,7 @@ ghost use Rattle.std.specs.Prelude.{◌↔◌, IfOk, IsOk};
 ghost use Rattle.csv.specs.Records.{fields_of};
 ghost use Rattle.vault_files_intake.specs.Row.{row_of};
 
-use crate::shown::{Given, Said, said};
+use crate::shown::{Explanation, Given, explained};
 use csv::ByteRecord;
 use std::alloc::{AllocError, Global};
 use std::str;
@@ -102,15 +102,15 @@ fn words_of(cells: &ByteRecord, place: usize, not_text: &'static str) -> &'stati
 }
 
 /// The fault of cells that were refused: the first one, in their order.
-fn fault_in(cells: &ByteRecord) -> Said<'_> {
+fn fault_in(cells: &ByteRecord) -> Explanation<'_> {
     for (place, not_text) in NOT_TEXT.iter().enumerate() {
         let words = words_of(cells, place, not_text);
         if !words.is_empty() {
             let given = Given::Bytes(cell(cells, place));
-            return Said { words, given };
+            return Explanation { words, given };
         }
     }
-    said("one of the cells isn't as its column has to be")
+    explained("one of the cells isn't as its column has to be")
 }
 
 /// The file of a row, of which nothing else is wanted.
@@ -123,7 +123,7 @@ fn file_of(row: Row) -> FileName {
 pub(crate) fn file_asked<'a>(
     alloc: Global,
     cells: &'a ByteRecord,
-) -> Result<Result<FileName, Said<'a>>, AllocError>
+) -> Result<Result<FileName, Explanation<'a>>, AllocError>
     // A fault is named just where the cells are refused.
     ensures { IfOk result (λ asked. IsOk asked ↔ IsOk (row_of (fields_of cells.now))) }
 {

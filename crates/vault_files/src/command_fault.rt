@@ -1,5 +1,5 @@
 //! Why the command of a row is refused.
-use crate::shown::{Given, Said};
+use crate::shown::{Explanation, Given};
 use vault_base::refusal::{Reason, Refusal};
 
 fn words_of(refusal: Refusal) -> &'static str {
@@ -28,12 +28,12 @@ fn words_of(refusal: Refusal) -> &'static str {
 }
 
 /// Why the command of a row is refused, where its cells and its file are as they have to be.
-pub(crate) fn command_fault(refusal: Refusal) -> Said<'static> {
+pub(crate) fn command_fault(refusal: Refusal) -> Explanation<'static> {
     let right = match refusal {
         Refusal::AccessDenied(Reason::Right(right)) => right.name(),
         _ => "",
     };
     let words = words_of(refusal);
     let given = Given::Bytes(right.as_bytes());
-    Said { words, given }
+    Explanation { words, given }
 }

@@ -2,7 +2,7 @@
 use crate::disk_folder::path_of;
 use crate::opening::is_missing;
 use crate::second_look::TakenList;
-use crate::shown::{Given, Said, said};
+use crate::shown::{Explanation, Given, explained};
 use std::alloc::{AllocError, Global};
 use std::fs::{self, Metadata};
 use std::io::{self, ErrorKind, Read};
@@ -11,20 +11,20 @@ use unicode_normalization::{to_nfc, to_nfd};
 use vault_base::limits::MOST_CONTENT;
 use vault_files_intake::file_name::FileName;
 
-fn unread(error: io::Error) -> Said<'static> {
+fn unread(error: io::Error) -> Explanation<'static> {
     if error.kind() == ErrorKind::PermissionDenied {
-        return said(
+        return explained(
             "it isn't yours to read; have its owner let you, and give the same intake again",
         );
     }
-    Said {
+    Explanation {
         words: "it can't be read: {}; mend or replace it, and give the same intake again",
         given: Given::Error(error),
     }
 }
 
 /// What of a file that is there keeps it from being taken in.
-fn kind_fault(metadata: &Metadata) -> Option<Said<'static>> {
+fn kind_fault(metadata: &Metadata) -> Option<Explanation<'static>> {
     let words = match metadata.len() {
         _ if metadata.is_symlink() =>
             "it is a link, and an intake follows none; put the file itself into the folder",
@@ -36,7 +36,7 @@ fn kind_fault(metadata: &Metadata) -> Option<Said<'static>> {
         _ => return None,
     };
     let given = Given::Count(metadata.len());
-    Some(Said { words, given })
+    Some(Explanation { words, given })
 }
 
 /// Whether there is anything under that name.
@@ -80,20 +80,23 @@ fn missing_words<R: Files>(
 pub(crate) fn look<R: Files>(
     taken: &TakenList<'_, R>,
     name: &FileName,
-) -> Result<Option<Said<'static>>, AllocError> {
+) -> Result<Option<Explanation<'static>>, AllocError> {
     let path = path_of(taken.alloc, taken.folder, name)?;
     match fs::symlink_metadata(taken.files, path.as_str()) {
         Ok(metadata) => Ok(kind_fault(&metadata)),
-        Err(error) if is_missing(&error) => Ok(Some(said(missing_words(taken, name.as_str())?))),
+        Err(error) if is_missing(&error) => Ok(Some(explained(missing_words(
+            taken,
+            name.as_str(),
+        )?))),
         Err(error) => Ok(Some(unread(error))),
     }
 }
 
 /// The error of reading a file to its end.
-fn read_error<R: Read + Drop>(alloc: Global, reader: R) -> Said<'static> {
+fn read_error<R: Read + Drop>(alloc: Global, reader: R) -> Explanation<'static> {
     let mut bytes = Vec::new(alloc);
     match reader.take(MOST_CONTENT as u64).read_to_end(&mut bytes) {
-        Ok(_) => said("it couldn't be read, and can be by now; give the same intake again"),
+        Ok(_) => explained("it couldn't be read, and can be by now; give the same intake again"),
         Err(error) => unread(error),
     }
 }
@@ -102,7 +105,7 @@ fn read_error<R: Read + Drop>(alloc: Global, reader: R) -> Said<'static> {
 pub(crate) fn read_again<R: Files>(
     taken: &TakenList<'_, R>,
     name: &FileName,
-) -> Result<Said<'static>, AllocError> {
+) -> Result<Explanation<'static>, AllocError> {
     if let Some(fault) = look(taken, name)? {
         return Ok(fault);
     }

@@ -1,5 +1,5 @@
 //! Why a list isn't taken in, or a record of it.
-use crate::shown::{Given, Said};
+use crate::shown::{Explanation, Given};
 use csv::ByteRecord;
 use std::str;
 
@@ -79,11 +79,11 @@ fn head_words(list: &[u8], line: &[u8]) -> &'static str {
 }
 
 /// What is wrong with the first record of a list.
-pub(crate) fn head_fault(list: &[u8]) -> Said<'_> {
+pub(crate) fn head_fault(list: &[u8]) -> Explanation<'_> {
     let line = first_line(list);
     let words = head_words(list, line);
     let given = Given::Bytes(line);
-    Said { words, given }
+    Explanation { words, given }
 }
 
 fn has_byte(cells: &ByteRecord, wanted: u8) -> bool {
@@ -91,7 +91,7 @@ fn has_byte(cells: &ByteRecord, wanted: u8) -> bool {
 }
 
 /// What is wrong with a record that hasn't five cells.
-pub(crate) fn shape_fault(cells: &ByteRecord) -> Said<'static> {
+pub(crate) fn shape_fault(cells: &ByteRecord) -> Explanation<'static> {
     let words = match cells.len() {
         _ if has_byte(cells, b'\n') =>
             "a cell of it goes over several lines; a quote may be missing",
@@ -101,5 +101,5 @@ pub(crate) fn shape_fault(cells: &ByteRecord) -> Said<'static> {
         _ => "it has {} cells in place of 5; empty cells keep their commas, as in a.txt,2024/a,,,",
     };
     let given = Given::Count(cells.len() as u64);
-    Said { words, given }
+    Explanation { words, given }
 }

@@ -1,7 +1,7 @@
 //! The list of an intake, read from a file.
 use crate::opening::{is_missing, opened};
 use crate::reading::read_at_most;
-use crate::shown::{Given, Said, Shown, said};
+use crate::shown::{Explanation, Given, Shown, explained};
 use std::alloc::Global;
 use std::fs;
 use std::io::{self, ErrorKind, Write};
@@ -23,7 +23,7 @@ pub fn read_list<R: Files>(alloc: Global, files: &R, path: &str) -> Result<Vec<u
     }
 }
 
-fn unread(error: io::Error) -> Said<'static> {
+fn unread(error: io::Error) -> Explanation<'static> {
     let words = match error.kind() {
         _ if is_missing(&error) => "it isn't there; check the path of LIST",
         ErrorKind::PermissionDenied =>
@@ -31,7 +31,7 @@ fn unread(error: io::Error) -> Said<'static> {
         _ => "it can't be read: {}; check the disk, or give a copy",
     };
     let given = Given::Error(error);
-    Said { words, given }
+    Explanation { words, given }
 }
 
 /// Whether a file stands there that is no folder.
@@ -43,14 +43,16 @@ fn is_file<R: Files>(files: &R, path: &str) -> bool {
 }
 
 /// Why a list couldn't be read, as a second look shows it.
-fn unread_list<R: Files>(files: &R, list: &str, folder: &str) -> Said<'static> {
+fn unread_list<R: Files>(files: &R, list: &str, folder: &str) -> Explanation<'static> {
     match fs::metadata(files, list) {
         Ok(metadata) if metadata.is_dir() && is_file(files, folder) => {
-            said("it is a folder, and FOLDER is a file; the list is given before the folder")
+            explained("it is a folder, and FOLDER is a file; the list is given before the folder")
         }
-        Ok(metadata) if metadata.is_dir() => said("it is a folder; a list is a file"),
+        Ok(metadata) if metadata.is_dir() => explained("it is a folder; a list is a file"),
         Ok(_) => match fs::open(files, list) {
-            Ok(_) => said("it couldn't be read, and can be by now; give the same intake again"),
+            Ok(_) => explained(
+                "it couldn't be read, and can be by now; give the same intake again",
+            ),
             Err(error) => unread(error),
         },
         Err(error) => unread(error),

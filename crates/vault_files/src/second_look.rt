@@ -3,7 +3,7 @@ use crate::cell_fault::{cell, file_asked};
 use crate::command_fault::command_fault;
 use crate::file_fault::{look, read_again};
 use crate::list_fault::{head_fault, shape_fault};
-use crate::shown::{Given, Said, Shown};
+use crate::shown::{Explanation, Given, Shown};
 use csv::ByteRecord;
 use std::alloc::{AllocError, Global};
 use std::io::{self, Write};
@@ -33,7 +33,7 @@ fn refused<'a, R: Files>(
     taken: &TakenList<'_, R>,
     cells: &'a ByteRecord,
     refusal: Refusal,
-) -> Result<Said<'a>, AllocError> {
+) -> Result<Explanation<'a>, AllocError> {
     let name = match file_asked(taken.alloc, cells)? {
         Ok(name) => name,
         Err(fault) => return Ok(fault),
@@ -53,9 +53,9 @@ fn end_of(cells: &ByteRecord) -> Option<Moment> {
 }
 
 /// What is said of a row that was admitted at a moment, where its retention ends late.
-fn late(cells: &ByteRecord, at: Moment) -> Option<Said<'_>> {
+fn late(cells: &ByteRecord, at: Moment) -> Option<Explanation<'_>> {
     match (end_of(cells), at.plus_years(MOST_YEARS)) {
-        (Some(end), Some(latest)) if end > latest => Some(Said {
+        (Some(end), Some(latest)) if end > latest => Some(Explanation {
             words: "`until` is {}, more than 30 years ahead; it was taken in as asked",
             given: Given::Bytes(cell(cells, 3)),
         }),
@@ -68,7 +68,7 @@ fn row_words<'a, R: Files>(
     taken: &TakenList<'_, R>,
     cells: &'a ByteRecord,
     reply: &Reply,
-) -> Result<Option<Said<'a>>, AllocError> {
+) -> Result<Option<Explanation<'a>>, AllocError> {
     match reply {
         Reply::Refused(refusal) => Ok(Some(refused(taken, cells, *refusal)?)),
         Reply::Done(Answer::TakenIn(TakenIn { again: false, .. })) => Ok(late(cells, taken.at)),
@@ -81,7 +81,7 @@ fn write_row<E: Write>(
     err: &mut E,
     line: usize,
     cells: &ByteRecord,
-    said: Said<'_>,
+    said: Explanation<'_>,
 ) -> io::Result<()> {
     let name = cell(cells, 0);
     if name.is_empty() {

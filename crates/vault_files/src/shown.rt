@@ -69,18 +69,18 @@ pub(crate) enum Given<'a> {
 
 /// A sentence, which has what it is about in place of `{}`, or of bytes their number in place of `{n}`.
 #[derive(Clone, Copy)]
-pub(crate) struct Said<'a> {
+pub(crate) struct Explanation<'a> {
     pub(crate) words: &'static str,
     pub(crate) given: Given<'a>,
 }
 
 /// A sentence without such a place.
-pub(crate) fn said(words: &'static str) -> Said<'static> {
+pub(crate) fn explained(words: &'static str) -> Explanation<'static> {
     let given = Given::Count(0);
-    Said { words, given }
+    Explanation { words, given }
 }
 
-impl Display for Said<'_> {
+impl Display for Explanation<'_> {
     fn fmt<W: Write>(&self, f: &mut Formatter<W>) -> fmt::Result {
         let words = self.words;
         let (before, after) = match words.split_once("{}").or(words.split_once("{n}")) {
