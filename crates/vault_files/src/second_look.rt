@@ -54,13 +54,14 @@ fn end_of(cells: &ByteRecord) -> Option<Moment> {
 
 /// What is said of a row that was admitted at a moment, where its retention ends late.
 fn late(cells: &ByteRecord, at: Moment) -> Option<Explanation<'_>> {
-    match (end_of(cells), at.plus_years(MOST_YEARS)) {
-        (Some(end), Some(latest)) if end > latest => Some(Explanation {
-            words: "`until` is {}, more than 30 years ahead; it was taken in as asked",
-            given: Given::Bytes(cell(cells, 3)),
-        }),
-        _ => None,
+    let (end, latest) = (end_of(cells)?, at.plus_years(MOST_YEARS)?);
+    if end <= latest {
+        return None;
     }
+    Some(Explanation {
+        words: "`until` is {}, more than 30 years ahead; it was taken in as asked",
+        given: Given::Bytes(cell(cells, 3)),
+    })
 }
 
 /// What is said of a row that was answered so.
