@@ -26,7 +26,7 @@ class Delivering(WebTest):
         """The path of the plan of a delivery that is sent."""
         browser.get("/deliver")
         form = {"bucket": "docs", "batch": "2025-06", "folder": files, **words}
-        done = browser.send("/deliver/send", form)
+        done = browser.send("/send-delivery", form)
         self.assertEqual(done.status_code, 303, browser.words())
         browser.get(done.location)
         return str(done.location)
@@ -105,7 +105,7 @@ class Delivering(WebTest):
                 self.assertRaises(UsageError, inner_path, name)
         browser.get("/deliver")
         form = {"bucket": "docs", "batch": "b", "folder": [file("s/../../evil")]}
-        self.assertEqual(browser.send("/deliver/send", form).status_code, 400)
+        self.assertEqual(browser.send("/send-delivery", form).status_code, 400)
 
     def test_what_was_sent_is_of_its_session_alone_and_goes_with_it(self) -> None:
         browser, other = self.ann(), self.of("bea")
@@ -129,7 +129,7 @@ class Delivering(WebTest):
         for bucket, status, said in (("docs", 403, "AccessDenied department"), ("none", 404, "NoSuchBucket")):
             browser.get("/deliver")
             form = {"bucket": bucket, "batch": "b", "folder": [file("s/1.txt")]}
-            self.assertEqual(browser.send("/deliver/send", form).status_code, status)
+            self.assertEqual(browser.send("/send-delivery", form).status_code, status)
             self.assertIn(said, browser.words())
 
     def test_a_row_that_the_engine_refuses_says_why(self) -> None:

@@ -99,6 +99,7 @@ ROWS = {
     "users remove": Row("{users} ann --yes", "{users} nobody --yes"),
     "s3 serve": Row(SERVED, "--settings {folder}/none.toml"),
     "s3 key": Row("list --settings {s3}", "remove none --yes --settings {s3}"),
+    "web": Row(SERVED, "{file} --port 0 --users {folder}/none"),
     "standby begin": Row("records", "recrods"),
     "standby lag": Row("records", "recrods"),
     "standby follow": Row(SERVED, "recrods"),

@@ -205,7 +205,7 @@ def drop(name: str) -> Any:
 def add(app: Any) -> None:
     """Adds the pages to the site."""
     app.add_url_rule("/deliver", "deliver", deliver)
-    app.add_url_rule("/deliver/send", "send", send, methods=["POST"])
+    app.add_url_rule("/send-delivery", "send", send, methods=["POST"])
     app.add_url_rule("/deliver/<name>", "plan", plan_page)
     app.add_url_rule("/deliver/<name>/words", "plan_words", plan_words, methods=["POST"])
     app.add_url_rule("/deliver/<name>/plan.csv", "plan_csv", plan_csv)
