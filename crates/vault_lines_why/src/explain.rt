@@ -58,14 +58,16 @@ fn object_words(alloc: Global, pass: Pass, object: &Object, value: &Value) -> Wo
 /// The words for the first fault of a rule and its actions.
 fn rule_words(alloc: Global, pass: Pass, rule: &Value) -> Words {
     for part in &PARTS {
-        let action = rule.get(part.name);
-        let words = match action {
-            Some(action) => object_words(alloc, pass, part, action)?,
-            None if part.name == "a rule" => object_words(alloc, pass, part, rule)?,
-            None => None,
+        let is_action = part.objects.is_empty();
+        let value = if is_action {
+            rule.get(part.name)
+        } else {
+            Some(rule)
         };
-        if words.is_some() {
-            return Ok(words);
+        if let Some(value) = value {
+            if let Some(words) = object_words(alloc, pass, part, value)? {
+                return Ok(Some(words));
+            }
         }
     }
     Ok(None)
