@@ -4,7 +4,7 @@ ghost use Rattle.std.specs.Io.KnownBytes.{Appends};
 ghost use Rattle.vault_http.specs.Calls.{DoneBy, JudgedBy, JudgedLeftBy, JudgedLeavesBy};
 ghost use Rattle.vault_http.specs.Reply.{AnswersRefusal};
 ghost use Rattle.vault_http.specs.Exchange as spec;
-ghost use Rattle.vault_core.specs.Hearing.{HearsOnce};
+ghost use Rattle.vault_core.specs.Hearing.{AtMostOne, HearsOnce};
 ghost use Rattle.vault_http.specs.Left as left;
 ghost use Rattle.vault_http.specs.declared.fault.ServeFault.TheVariants as faults;
 
@@ -58,7 +58,7 @@ fn answer<W: Write, K: Keeper, H: Hears>(
     ensures ok { DoneBy K.Kept keeper.old keeper.new W.Write writer.old writer.new result context.now command.now }
     ensures err { JudgedLeftBy K.Kept keeper.old keeper.new W.Write writer.old writer.new result context.now (Ok command.now) }
     ensures kind { ¬ (result ≡ Err faults.Read) }
-    ensures once { K.is_honest keeper.new → left.AtMostOne (Some context.now.at) (K.vault keeper.old) (K.vault keeper.new) }
+    ensures once { K.is_honest keeper.new → AtMostOne (Some context.now.at) (K.vault keeper.old) (K.vault keeper.new) }
     ensures heard { K.is_honest keeper.new → HearsOnce H.hears hears.old hears.new (Some context.now.at) (K.vault keeper.old) (K.vault keeper.new) }
     ensures leaves { JudgedLeavesBy K.Kept keeper.old keeper.new W.Write writer.old writer.new result context.now (Ok command.now) }
 {
@@ -83,7 +83,7 @@ fn finish<W: Write, K: Keeper, H: Hears>(
     ensures ok { DoneBy K.Kept keeper.old keeper.new W.Write writer.old writer.new result context.now command }
     ensures err { JudgedLeftBy K.Kept keeper.old keeper.new W.Write writer.old writer.new result context.now (Ok command) }
     ensures kind { ¬ (result ≡ Err faults.Read) }
-    ensures once { K.is_honest keeper.new → left.AtMostOne (Some context.now.at) (K.vault keeper.old) (K.vault keeper.new) }
+    ensures once { K.is_honest keeper.new → AtMostOne (Some context.now.at) (K.vault keeper.old) (K.vault keeper.new) }
     ensures heard { K.is_honest keeper.new → HearsOnce H.hears hears.old hears.new (Some context.now.at) (K.vault keeper.old) (K.vault keeper.new) }
     ensures leaves { JudgedLeavesBy K.Kept keeper.old keeper.new W.Write writer.old writer.new result context.now (Ok command) }
 {
@@ -120,7 +120,7 @@ pub fn conclude<W: Write, K: Keeper, H: Hears>(
 ) -> Result<(), ServeFault>
     ensures ok { JudgedBy K.Kept keeper.old keeper.new W.Write writer.old writer.new result context.now judged }
     ensures err { JudgedLeftBy K.Kept keeper.old keeper.new W.Write writer.old writer.new result context.now judged }
-    ensures once { K.is_honest keeper.new → left.AtMostOne (Some context.now.at) (K.vault keeper.old) (K.vault keeper.new) }
+    ensures once { K.is_honest keeper.new → AtMostOne (Some context.now.at) (K.vault keeper.old) (K.vault keeper.new) }
     ensures heard { K.is_honest keeper.new → HearsOnce H.hears hears.old hears.new (Some context.now.at) (K.vault keeper.old) (K.vault keeper.new) }
     ensures kind { ¬ (result ≡ Err faults.Read) }
     ensures leaves { JudgedLeavesBy K.Kept keeper.old keeper.new W.Write writer.old writer.new result context.now judged }

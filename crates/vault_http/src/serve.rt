@@ -4,7 +4,7 @@ ghost use Rattle.std.specs.Io.KnownBytes.{Consumes};
 ghost use Rattle.vault_base.specs.Days.{moment_at};
 ghost use Rattle.vault_http.specs.Calls.{AnsweredBy, LeavesBy, PlanLeftBy, PlanServedBy, UnansweredBy};
 ghost use Rattle.vault_http.specs.Command.{IsWithinLength};
-ghost use Rattle.vault_core.specs.Hearing.{HearsOnce};
+ghost use Rattle.vault_core.specs.Hearing.{AtMostOne, HearsOnce};
 ghost use Rattle.vault_http.specs.Left as left;
 ghost use Rattle.vault_http.specs.declared.fault.ServeFault.TheVariants as faults;
 
@@ -49,7 +49,7 @@ fn serve_plan<R: Read, W: Write, K: Keeper, H: Hears>(
 ) -> Result<(), ServeFault>
     ensures ok { PlanServedBy K.Kept keeper.old keeper.new R.Read reader.old reader.new W.Write writer.old writer.new result planned.shown planned.plan }
     ensures err { PlanLeftBy K.Kept keeper.old keeper.new R.Read reader.old reader.new W.Write writer.old writer.new result planned.shown planned.plan }
-    ensures once { K.is_honest keeper.new → left.AtMostOne (Some planned.plan.at) (K.vault keeper.old) (K.vault keeper.new) }
+    ensures once { K.is_honest keeper.new → AtMostOne (Some planned.plan.at) (K.vault keeper.old) (K.vault keeper.new) }
     ensures heard { K.is_honest keeper.new → HearsOnce H.hears hears.old hears.new (Some planned.plan.at) (K.vault keeper.old) (K.vault keeper.new) }
     ensures unread { result ≡ Err faults.Read → K.vault keeper.new ≡ K.vault keeper.old }
     ensures taken { OnOk result ((taken : List ℕ) × Consumes (R.remaining reader.old) (R.remaining reader.new) taken × IsWithinLength planned.plan.headers.length taken) }
@@ -97,7 +97,7 @@ pub fn serve_one<R: Read, W: Write, K: Keeper>(
 ) -> Result<(), ServeFault>
     ensures ok { AnsweredBy K.Kept keeper.old keeper.new R.Read reader.old reader.new W.Write writer.old writer.new result [] (moment_at reading) }
     ensures err { UnansweredBy K.Kept keeper.old keeper.new R.Read reader.old reader.new W.Write writer.old writer.new result [] (moment_at reading) }
-    ensures once { K.is_honest keeper.new → left.AtMostOne (moment_at reading) (K.vault keeper.old) (K.vault keeper.new) }
+    ensures once { K.is_honest keeper.new → AtMostOne (moment_at reading) (K.vault keeper.old) (K.vault keeper.new) }
     ensures unread { result ≡ Err faults.Read → K.vault keeper.new ≡ K.vault keeper.old }
     ensures taken { OnOk result (left.Taken [] (moment_at reading) (R.remaining reader.old) (R.remaining reader.new)) }
     // Where the count rose, the reply of the one step says that the device failed, and what is written is its
@@ -128,7 +128,7 @@ pub fn serve_for<R: Read, W: Write, K: Keeper, H: Hears>(
 ) -> Result<(), ServeFault>
     ensures ok { AnsweredBy K.Kept keeper.old keeper.new R.Read reader.old reader.new W.Write writer.old writer.new result occasion.now.hosts.now occasion.now.moment }
     ensures err { UnansweredBy K.Kept keeper.old keeper.new R.Read reader.old reader.new W.Write writer.old writer.new result occasion.now.hosts.now occasion.now.moment }
-    ensures once { K.is_honest keeper.new → left.AtMostOne occasion.now.moment (K.vault keeper.old) (K.vault keeper.new) }
+    ensures once { K.is_honest keeper.new → AtMostOne occasion.now.moment (K.vault keeper.old) (K.vault keeper.new) }
     ensures heard { K.is_honest keeper.new → HearsOnce H.hears hears.old hears.new occasion.now.moment (K.vault keeper.old) (K.vault keeper.new) }
     ensures unread { result ≡ Err faults.Read → K.vault keeper.new ≡ K.vault keeper.old }
     ensures taken { OnOk result (left.Taken occasion.now.hosts.now occasion.now.moment (R.remaining reader.old) (R.remaining reader.new)) }
