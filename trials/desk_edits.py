@@ -102,7 +102,7 @@ EDITS = [
     ("answer", "*self.contradictions, *self.differing]", "*self.contradictions]", ANSWER + "test_seals_are_checked_with_it"),
     ("answer", "*self.contradictions, *self.differing]", "*self.differing]",
      ANSWER + "test_histories_that_contradict_each_other_are_said"),
-    ("answer", "html.escape(shown(str(row[it])))", "str(row[it])",
+    ("paper", "html.escape(shown(given), quote=False)", "given",
      ANSWER + "test_the_page_for_print_has_the_same_and_escapes_keys"),
     # seals and copies
     ("evidence", "if any(it != seal for it in there):", "if False:",

@@ -5,6 +5,8 @@ A row is as one of `desk_edits.py`.
 
 MADE, CAME, RECEIPTS = "test_bags.Exported.", "test_bags.Delivered.", "test_bags.Receipts."
 WHERE, KEYS = "test_whereabouts.Where.", "test_whereabouts.Keys."
+SIGNED, PRINTED = "test_paper.Signed.", "test_paper.Printed."
+PAPER_ASKED = "test_paper.Asked.test_the_files_that_are_named_are_written"
 WHOLE = CAME + "test_what_isnt_whole_is_named_and_nothing_comes_in"
 EDITS = [
     # bags that are made
@@ -87,6 +89,36 @@ EDITS = [
     ("whereabouts", "    with snapshot.readable(file) as there:\n        found = _in_tables(there, digest)\n",
      "    found = _in_tables(file, digest)\n",
      "test_whereabouts.Served.test_a_vault_that_is_served_and_a_copy_that_a_program_has"),
+    # pages that are signed
+    ("paper", "{in_words(moments.now())}{by}", "{in_words(moments.now())}",
+     SIGNED + "test_the_head_has_the_office_when_and_by_whom"),
+    ("paper", "{read:%B %Y, %H:%M:%S}", "{read:%B %Y}", SIGNED + "test_the_head_has_the_office_when_and_by_whom"),
+    ("paper", "<meta name=\"viewport\" content=\"width=device-width, initial-scale=1\">", "",
+     SIGNED + "test_the_head_has_the_office_when_and_by_whom"),
+    ("paper", ".fixed { white-space: nowrap } .long, pre, code {", ".fixed { white-space: nowrap } td, pre, code {",
+     SIGNED + "test_no_word_and_no_moment_is_broken"),
+    ("paper", "not is_sentence and len(given) > LONGEST", "len(given) > LONGEST and False",
+     SIGNED + "test_no_word_and_no_moment_is_broken"),
+    ("paper", "return MOMENT.sub(r'<span class=\"fixed\">\\g<0></span>', html.escape(shown(given), quote=False))",
+     "return html.escape(shown(given), quote=False)", SIGNED + "test_no_word_and_no_moment_is_broken"),
+    ("court_page", "    if not page.is_good:\n", "    if False:\n",
+     SIGNED + "test_only_what_nothing_speaks_against_is_certified"),
+    ("court_page", "if page.found[-1].event != \"removed\":", "if page.found[-1].event == \"removed\":",
+     SIGNED + "test_what_of_the_bytes_is_gone"),
+    ("court_page", "    if it.kind == \"marker\":\n", "    if False:\n", SIGNED + "test_what_of_the_bytes_is_gone"),
+    ("certificate_page", "html.escape(text, quote=False)", "html.escape(text.replace(\"by\", \"of\"), quote=False)",
+     SIGNED + "test_a_certificate_is_the_engines_with_what_goes_with_it"),
+    ("certificate_page", "\"as {} asked, who bypassed a retention in GOVERNANCE\"", "\"as {} asked\"",
+     SIGNED + "test_a_certificate_is_the_engines_with_what_goes_with_it"),
+    ("paper", "input=_sized(given, paper).encode()", "input=given.encode()",
+     PRINTED + "test_the_maker_gets_the_page_for_the_paper"),
+    ("paper", "if done.returncode or not done.stdout.startswith(b\"%PDF\"):", "if done.returncode:",
+     PRINTED + "test_what_is_no_pdf_is_a_failure"),
+    ("paper", "    if not shutil.which(MAKER):\n", "    if False:\n", PRINTED + "test_what_is_no_pdf_is_a_failure"),
+    ("paper", "    if words.paper and not words.pdf:\n", "    if False:\n", PAPER_ASKED),
+    ("paper", "words.paper or PAPERS[0]", "PAPERS[0]", PAPER_ASKED),
+    ("answer", "is_written = paper.write(words, as_html(page))", "is_written = bool(words.html or words.pdf)", PAPER_ASKED),
+    ("years_end", "paper.pdf(made, words.paper or paper.PAPERS[0])", "b\"\"", PAPER_ASKED),
     # receipts
     ("receipts", "if digest not in there]", "if not there]", RECEIPTS + "test_a_receipt_without_a_document_isnt_put"),
     ("receipts", "it.decode().lower()", "it.decode()", RECEIPTS + "test_a_receipt_without_a_document_isnt_put"),

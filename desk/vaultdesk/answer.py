@@ -3,30 +3,19 @@
 from __future__ import annotations
 
 import argparse
-import html
-import textwrap
-from collections.abc import Iterator, Mapping, Sequence
+from collections.abc import Iterator, Sequence
 from dataclasses import dataclass, field
 from pathlib import Path
-from typing import Any
 
-from vaultdesk import __version__, evidence, events, moments, reading, recheck
-from vaultdesk.documents import write_content
+from vaultdesk import __version__, evidence, events, moments, paper, reading, recheck
+from vaultdesk.court_page import WHAT, Page, Part, as_html, as_json, as_text
 from vaultdesk.engine import Engine
 from vaultdesk.errors import DeskError
 from vaultdesk.events import Event, Guards
 from vaultdesk.history import document_of, life_of, number
-from vaultdesk.output import print_json, say_while_long, shown, table_lines
+from vaultdesk.output import print_json, say_while_long
 
-WIDTH = 100
 MOST_CONTRADICTIONS = 10
-WHAT = ("what", "is")
-STYLE = (
-    "body{font:11pt/1.4 Georgia,serif;max-width:50em;margin:2em auto;padding:0 1em}h1{font-size:16pt}h2{font-size:12pt}"
-    "table{border-collapse:collapse;width:100%}td,th{border-bottom:1px solid #999;padding:.2em .6em .2em 0;"
-    "text-align:left;vertical-align:top;overflow-wrap:anywhere}thead{display:table-header-group}"
-    "tr,li{break-inside:avoid}h2{break-after:avoid}"
-)
 UNSHOWN = (
     "When the vault was made. A command is dated as its user says, though never before the vault's last change, so a "
     "whole vault with earlier dates can be made later. Only a seal or a copy that somebody else had at the time shows "
@@ -35,17 +24,6 @@ UNSHOWN = (
     "Which person it was. The vault takes the name that it is given; who may give it is for the machine to guard.",
     "What the content says, or who wrote it. The vault has its bytes, and here is their digest.",
 )
-
-
-@dataclass(frozen=True)
-class Part:
-    """A part of the page: sentences, and a table below them. `name` is the part's in JSON."""
-
-    name: str
-    title: str
-    sentences: Sequence[str] = ()
-    columns: Sequence[str] = ()
-    rows: Sequence[Mapping[str, Any]] = ()
 
 
 @dataclass(frozen=True)
@@ -230,55 +208,6 @@ def parts_of(engine: Engine, found: Sequence[Event], at: str, checked: Checked) 
     ]
 
 
-def _is_there(part: Part) -> bool:
-    return bool(part.sentences or part.rows)
-
-
-def as_text(title: str, parts: Sequence[Part]) -> str:
-    """The page as text."""
-    lines = [title, "=" * len(title)]
-    for it in filter(_is_there, parts):
-        lines += ["", it.title, "-" * len(it.title)]
-        for sentence in it.sentences:
-            lines += textwrap.wrap(shown(sentence), WIDTH, initial_indent="- ", subsequent_indent="  ")
-        lines += table_lines(it.rows, it.columns)
-    return "\n".join(lines) + "\n"
-
-
-def _html_table(part: Part) -> str:
-    head = "".join(f"<th>{html.escape(it)}</th>" for it in part.columns)
-    body = ""
-    for row in part.rows:
-        body += "<tr>" + "".join(f"<td>{html.escape(shown(str(row[it])))}</td>" for it in part.columns) + "</tr>"
-    return f"<table><thead><tr>{head}</tr></thead><tbody>{body}</tbody></table>\n"
-
-
-def as_html(title: str, parts: Sequence[Part]) -> str:
-    """The page as HTML, to be printed."""
-    body = f"<h1>{html.escape(title)}</h1>\n"
-    for it in filter(_is_there, parts):
-        body += f"<h2>{html.escape(it.title)}</h2>\n"
-        if it.sentences:
-            body += "<ul>" + "".join(f"<li>{html.escape(shown(line))}</li>" for line in it.sentences) + "</ul>\n"
-        if it.rows:
-            body += _html_table(it)
-    head = f'<meta charset="utf-8"><title>{html.escape(title)}</title><style>{STYLE}</style>'
-    return f'<!DOCTYPE html>\n<html lang="en"><head>{head}</head><body>\n{body}</body></html>\n'
-
-
-def as_json(parts: Sequence[Part]) -> dict[str, Any]:
-    """The page as JSON has it: a part has sentences or rows."""
-    found: dict[str, Any] = {}
-    for it in parts:
-        if it.columns == WHAT:
-            found[it.name] = {row["what"]: row["is"] for row in it.rows}
-        elif it.columns:
-            found[it.name] = [dict(row) for row in it.rows]
-        else:
-            found[it.name] = list(it.sentences)
-    return found
-
-
 def page_of(engine: Engine, version: int, seals: str | None = None) -> tuple[str, list[Part], Checked]:
     """The moment that is asked about, the parts of the page of a version, and what was found as the vault was audited.
 
@@ -290,15 +219,17 @@ def page_of(engine: Engine, version: int, seals: str | None = None) -> tuple[str
 
 
 def answer(engine: Engine, words: argparse.Namespace) -> None:
-    """Prints the page of a version, or writes it as HTML."""
-    at, parts, checked = page_of(engine, words.number, words.seals)
-    title = f"What the vault has of version {words.number}"
-    if words.html:
-        write_content(Path(words.html), as_html(title, parts).encode(), words.force)
+    """Prints the page of a version, or writes it as HTML or PDF/A."""
+    at = engine.at or moments.now()
+    found = events.in_tables(engine.tables, words.number)
+    checked = _checked(engine, words.seals)
+    parts, name = parts_of(engine, found, at, checked), engine.desk.file.name
+    page = Page(parts, found, name, at, checked.is_good, engine.desk.asker)
+    is_written = paper.write(words, as_html(page))
     if words.json:
-        print_json({"title": title, "at": at, "good": checked.is_good, **as_json(parts)})
-    elif not words.html:
-        print(as_text(title, parts), end="")
+        print_json(as_json(page))
+    elif not is_written:
+        print(as_text(page), end="")
     if not checked.is_good:
         raise DeskError(f"the checks found what speaks against this history: {checked.against[0]}")
 
@@ -310,6 +241,5 @@ def add(commands: argparse._SubParsersAction[argparse.ArgumentParser], common: a
     it = commands.add_parser("answer", parents=[common], help=what, epilog=example)
     it.add_argument("number", type=number, metavar="N", help="the version's number, as find and ls print it")
     it.add_argument("--seals", metavar="FILE", help="seals to check (default: NAME.seals beside NAME.vault, if there)")
-    it.add_argument("--html", metavar="FILE", help="write the page as HTML, to be printed")
-    it.add_argument("--force", action="store_true", help="write over a file that is there")
+    paper.add(it)
     it.set_defaults(run=answer)

@@ -4,14 +4,13 @@ from __future__ import annotations
 
 import argparse
 import csv
-import html
 import io
 import sys
 from collections.abc import Callable, Iterable, Iterator, Mapping, Sequence
 from pathlib import Path
 from typing import Any
 
-from vaultdesk import evidence, moments, parts, reading, spreadsheet
+from vaultdesk import certificate_page, evidence, moments, paper, parts, reading, spreadsheet
 from vaultdesk.engine import Engine
 from vaultdesk.errors import DeskError, Refused, UsageError, of_file
 from vaultdesk.history import number
@@ -24,17 +23,6 @@ COLUMNS = (
 )
 CHARGED = ("dept", "since", "before", "byte_days", "admitted", "received", "removed", "handed", "held")
 SUMS = ("admitted", "received", "held", "removed", "handed", "byte_days")
-PAGE = """<!DOCTYPE html>
-<html lang="en"><head><meta charset="utf-8"><title>Certificates of destruction</title>
-<style>section {{ page-break-after: always; }} pre {{ white-space: pre-wrap; font: 11pt monospace; }}</style></head>
-<body>
-{}
-</body></html>
-"""
-
-CERTIFICATE = """<section><pre>{}</pre>
-<p>The vault removed this version; no command reads it again. The certificate doesn't show that its bytes were wiped:
-they may stay readable in unused parts of the vault's files, and in copies of them.</p></section>"""
 
 
 def register(engine: Engine, in_parts: bool = False) -> list[Row]:
@@ -86,17 +74,20 @@ def certificates(engine: Engine, words: argparse.Namespace) -> None:
     rows = reading.query(engine.tables, "removed", since=since, before=before)
     callers = _callers(engine) if words.any_caller else {}
     folder = Path(words.folder)
-    page = folder / "certificates.html"
+    page, pdf = folder / "certificates.html", folder / "certificates.pdf"
     paths = [folder / f"certificate-{it['version']:010}.txt" for it in rows]
-    _free([*paths, page], words.force)
+    _free([*paths, page, *([pdf] if words.pdf else [])], words.force)
     texts = []
     try:
         folder.mkdir(parents=True, exist_ok=True)
         certified = counted_off(_certified(engine, rows, callers), "certificates", len(rows))
         for path, text in zip(paths, certified, strict=True):
             path.write_bytes(text.encode())
-            texts.append(CERTIFICATE.format(html.escape(text)))
-        page.write_text(PAGE.format("\n".join(texts)), encoding="utf-8")
+            texts.append(text)
+        made = certificate_page.page(texts, engine.desk.asker)
+        page.write_text(made, encoding="utf-8")
+        if words.pdf:
+            pdf.write_bytes(paper.pdf(made, words.paper or paper.PAPERS[0]))
     except OSError as error:
         raise of_file(error.filename, error) from error
     if words.json:
@@ -106,7 +97,7 @@ def certificates(engine: Engine, words: argparse.Namespace) -> None:
 
 
 def certificate(engine: Engine, words: argparse.Namespace) -> None:
-    """Prints the certificate of one removed version, by its number alone."""
+    """Prints the certificate of one removed version, by its number alone, or writes its page."""
     statement = "SELECT bucket, id, removed FROM entries WHERE id = ?"
     found = reading.rows(engine.tables, statement, (words.number,))
     if not found or found[0][2] is None:
@@ -114,9 +105,10 @@ def certificate(engine: Engine, words: argparse.Namespace) -> None:
         raise DeskError(f"version {words.number} {what}: a certificate is of a removed version")
     row = {"bucket": str(found[0][0]), "version": words.number}
     [text] = _certified(engine, [row], _callers(engine) if words.any_caller else {})
+    is_written = paper.write(words, certificate_page.page([text], engine.desk.asker))
     if words.json:
         print_json({**row, "text": text})
-    else:
+    elif not is_written:
         print(text, end="")
 
 
@@ -206,12 +198,15 @@ def add(commands: argparse._SubParsersAction[argparse.ArgumentParser], common: a
     it.add_argument("--since", metavar="DATE", help="only of removals from then on")
     it.add_argument("--before", metavar="DATE", help="only of earlier removals")
     it.add_argument("--any-caller", action="store_true", help="ask as a caller of each bucket's own department")
+    it.add_argument("--pdf", action="store_true", help=f"the page as PDF/A too, certificates.pdf, by {paper.MAKER}")
+    it.add_argument("--paper", choices=paper.PAPERS, help=f"of the PDF ({paper.PAPERS[0]})")
     it.add_argument("--force", action="store_true", help="write over files that are there")
 
     texts = ("the certificate of one removed version", "vaultdesk certificate 17 --as ann")
     it = _subcommand(commands, common, "certificate", certificate, texts)
     it.add_argument("number", type=number, metavar="N", help="the version's number, as find and the register print it")
     it.add_argument("--any-caller", action="store_true", help="ask as a caller of the bucket's own department")
+    paper.add(it)
 
     texts = ("the register of removals, also as a spreadsheet", "vaultdesk register --xlsx register.xlsx")
     it = _subcommand(commands, common, "register", print_register, texts)

@@ -1,0 +1,51 @@
+"""Certificates of destruction as an office signs them, a sheet for each: the text itself is the engine's."""
+
+from __future__ import annotations
+
+import html
+from collections.abc import Iterable, Mapping
+
+from vaultdesk import paper
+
+TITLE = "Certificate of destruction"
+CAUSES = {
+    "request": "as {} asked",
+    "bypass": "as {} asked, who bypassed a retention in GOVERNANCE",
+    "rule": "by the lifecycle rule \u201c{}\u201d",
+}
+
+
+def _members(text: str) -> Mapping[str, str]:
+    """The members of a certificate, by the names before their colons."""
+    return dict(line.split(": ", 1) for line in text.split("\n") if ": " in line)
+
+
+def _certified(it: Mapping[str, str]) -> str:
+    """What the office certifies, in a sentence."""
+    cause, _, by = it["cause"].partition(" ")
+    what = f"its vault removed version {it['version']} of the bucket {it['bucket']} on {paper.in_words(it['removed'])}"
+    return f"{paper.office()} certifies that {what}, {CAUSES[cause].format(by)}, and that no command reads it again."
+
+
+def _sheet(text: str, asker: str | None) -> str:
+    it = _members(text)
+    number = it["version"]
+    checks = paper.listed("How to check it", [
+        f"Whoever has the document can compare it: `sha256sum FILE` has to print `{it['sha256']}`.",
+        f"That no letter was altered: `head -n -1 certificate-{int(number):010}.txt | sha256sum` has to print the "
+        "digest of the last line.",
+        "That the office made it: the register of removals has it, and the vault makes it again, "
+        f"`vaultdesk certificate {number}`.",
+    ])  # fmt: skip
+    gone = paper.listed("What of its bytes is gone", [
+        "The vault removed this version; no command reads it again. The certificate doesn't show that its bytes were "
+        "wiped: they may stay readable in unused parts of the vault's files, and in copies of them. "
+        f"`vaultdesk where {number}` lists these.",
+    ])  # fmt: skip
+    certified = f"<p>{paper.text(_certified(it))}</p>\n<pre>{html.escape(text, quote=False)}</pre>\n"
+    return f"<section>\n{paper.head(TITLE, asker)}{certified}{checks}{gone}{paper.signature()}</section>\n"
+
+
+def page(texts: Iterable[str], asker: str | None) -> str:
+    """The page of these certificates, as the engine has them, issued by that caller."""
+    return paper.page(f"{TITLE}s", "".join(_sheet(it, asker) for it in texts))
