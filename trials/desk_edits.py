@@ -294,7 +294,7 @@ EDITS = [
     # what is asked for before it is done, and what is only tried
     ("asking", "    if asked(f\"{question}? [yes/no] \").lower() not in (\"y\", \"yes\"):\n", "    if False:\n", ASKING + "test_yes_alone_goes_on"),
     ("asking", "not in (\"y\", \"yes\")", "in (\"n\", \"no\")", ASKING + "test_yes_alone_goes_on"),
-    ("asking", "    if not sys.stdin.isatty():\n", "    if False:\n", ASKING + "test_where_nobody_can_be_asked_nothing_is_done"),
+    ("asking", "    if is_heard() or not sys.stdin.isatty():\n", "    if False:\n", ASKING + "test_where_nobody_can_be_asked_nothing_is_done"),
     ("locks", "    if any(it.version is None for it in found):\n", "    if False:\n", LOCKS + "test_rm_marks_and_delete_removes"),
     ("locks", "        confirm(words, f\"{len(found)} versions are removed for good\")\n", "        pass\n",
      LOCKS + "test_rm_marks_and_delete_removes"),
@@ -362,12 +362,12 @@ EDITS = [
      OFFICES + "test_one_port_or_one_bucket_for_two_is_refused"),
     ("conf", "    if not NAME.fullmatch(name):\n", "    if False:\n", "test_conf.Conf.test_a_name_is_no_path"),
     # what others may see, or would take for something else
-    ("users", "    users[words.name] = digest_of(ask_password(words.name))\n    write_users(path, users)\n",
+    ("users", "    users[words.name] = _digest(words)\n    write_users(path, users)\n",
      "    users[words.name] = ask_password(words.name)\n    write_users(path, users)\n",
      USERS + "test_one_who_is_added_is_let_in_by_that_password_alone"),
     ("page", "html.escape(str(value))", "str(value)", "test_page.Page.test_keys_are_text_and_no_markup"),
     # what is printed
-    ("output", "    if sys.stderr.isatty():\n", "    if True:\n", "test_output.CountedOff.test_elsewhere_none_does"),
+    ("output", "    if sys.stderr.isatty() and not is_heard():\n", "    if True:\n", "test_output.CountedOff.test_elsewhere_none_does"),
     ("office", "        print_done(words.json, department=words.add, done=\"added\")\n", "",
      "test_words.Every.test_each_prints_one_json_value_where_it_is_done"),
     # moments of another zone, on a machine of another zone

@@ -87,7 +87,7 @@ class Day(Pages):
         self.put(it, width)
         self.remove(it, width)
         self.report(it, width)
-        it.press("header button", "Log out")
+        it.press("header button", "Abmelden")
         it.go("/find")
         check("/login" in it.driver.current_url, it.driver.current_url)
 
@@ -265,6 +265,7 @@ class Others(Pages):
     @needs("nginx", "openssl")
     def test_uploads_that_are_cut_off(self) -> None:
         client = Client(self.office, "ann")
+        self.addCleanup(client.connection.close)
         before = client.ask("GET", "/find?text=cut")[1].count("<tr>")
         token = client.token("/put?bucket=letters&key=cut")
         body = client.form({"token": token, "bucket": "letters", "key": "cut"}, bytes(500_000))
@@ -342,6 +343,7 @@ class Crowd(Pages):
             status, text = client.ask("GET", path)
             took[path].append(time.monotonic() - begun)
             check(status == 200, f"{path}: {status} {text}")
+        client.connection.close()
 
 
 if __name__ == "__main__":

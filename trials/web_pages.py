@@ -215,7 +215,7 @@ class Browser:
 
     def await_next(self, old: Any) -> None:
         """Waits until another page has come in the place of one."""
-        stale = selenium("common.exceptions").StaleElementReferenceException
+        stale = selenium("common.exceptions").WebDriverException  # of a page that is going, which has several names
         end = time.monotonic() + 60
         with contextlib.suppress(stale):
             while time.monotonic() < end:

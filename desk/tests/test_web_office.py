@@ -210,6 +210,7 @@ class Reporting(WebTest):
         browser.get("/disposal")
         browser.send("/disposal/carry-out", {"department": "records"})
         self.assertIn("the rules of 1 buckets are carried out as of this moment", browser.words())
+        self.assertIn('name="yes" value="1"', browser.text())
         browser.send("/disposal/carry-out", {"department": "records", "yes": "1"})
         self.assertIn("docs: 0 marked, 0 removed, 1 lone markers", browser.words())
         browser.get("/disposal")

@@ -9,6 +9,7 @@ from dataclasses import dataclass
 from typing import Any
 
 from vaultdesk import output
+from vaultdesk.asking import Unconfirmed
 from vaultdesk.engine import Engine
 from vaultdesk.errors import DeskError
 
@@ -48,12 +49,14 @@ def words_of(command: str, **given: Any) -> argparse.Namespace:
 
 
 def done(engine: Engine, command: str, **given: Any) -> Done:
-    """What a subcommand comes to. `DeskError` as of that one, where it prints nothing."""
+    """What a subcommand comes to. `DeskError` as of that one, where it prints nothing; `Unconfirmed` where it asks."""
     words = words_of(command, **given)
     error = None
     with output.heard() as found:
         try:
             words.run(engine, words)
+        except Unconfirmed:
+            raise
         except DeskError as fault:
             if not found.values:
                 raise
