@@ -9,8 +9,9 @@ from pathlib import Path
 from unittest import mock
 
 from vaultdesk import backup, copies, inventory, items, looks, moments
+from vaultdesk.classes import Class
 
-DEED = {"deed": items.Class(10, "COMPLIANCE")}
+DEED = {"deed": Class(10, "COMPLIANCE")}
 
 
 class Moments(unittest.TestCase):

@@ -23,6 +23,12 @@ An option is asked first, then the environment, then a file of settings (TOML)::
     [columns]
     "Reference" = "key"      # what a column of an inventory is, which deliver --columns writes here; or "ignore"
 
+    [office]
+    name = "City Archive"    # the office's name, on pages and certificates for print
+    bucket = "office-court"  # where its own documents are, if that is another bucket than docs/RECORDS.md says
+    keep = "30 years"        # how long plans of disposal, approvals and outcomes are kept
+    fields = ["Box"]         # facts of documents that only this office has
+
 A name that isn't there is that of a vault with units, if there is one: /var/lib/vaultctl/NAME.vault.
 """
 
@@ -39,10 +45,21 @@ from typing import Any
 
 from vaultdesk import conf, limits
 from vaultdesk.errors import DeskError, UsageError
-from vaultdesk.limits import Limits
+from vaultdesk.limits import Limits, Period
 from vaultdesk.replacing import write_anew
 
 PLACES = (Path("~/.config/vaultdesk.toml"), Path("/etc/vaultctl/desk.toml"))
+
+
+@dataclass(frozen=True)
+class Office:
+    """What the settings have of the office: its name, the bucket of its own documents (none: the one that is found),
+    how long plans of disposal are kept, and the facts of documents that only it has."""
+
+    name: str = ""
+    bucket: str = ""
+    keep: Period = Period(30, "year")
+    fields: tuple[str, ...] = ()
 
 
 @dataclass(frozen=True)
@@ -57,6 +74,7 @@ class Settings:
     limits: Limits = limits.NONE
     columns: Mapping[str, str] | None = None
     dates: str | None = None
+    office: Office = Office()
 
     def file_of(self, vault: str) -> Path:
         """The file of the vault that is named so, or else that path itself.
@@ -70,14 +88,15 @@ class Settings:
 
 @dataclass(frozen=True)
 class Desk:
-    """The engine's program, and where these were named, which vault is meant, who asks, where a server takes lines, and
-    how long retentions may be."""
+    """The engine's program, and where these were named, which vault is meant, who asks, where a server takes lines, how
+    long retentions may be, and what the office is."""
 
     program: str
     vault: Path | None = None
     asker: str | None = None
     door: str | None = None
     limits: Limits = limits.NONE
+    office: Office = Office()
 
     @property
     def file(self) -> Path:
@@ -108,6 +127,15 @@ def _periods(found: Mapping[str, Any], name: str) -> dict[str, limits.Period]:
     return {bucket: limits.period(text) for bucket, text in given.items()}
 
 
+def _office(found: Mapping[str, Any]) -> Office:
+    given = found.get("office", {})
+    fields = given.get("fields", []) if isinstance(given, dict) else None
+    if not isinstance(fields, list) or not all(isinstance(it, str) and it.strip() for it in fields):
+        raise UsageError('settings: [office] has name, bucket and keep, each in quotes, and fields as ["Box", "Shelf"]')
+    name, bucket, keep = (_text(given, it) or "" for it in ("name", "bucket", "keep"))
+    return Office(name, bucket, limits.period(keep) if keep else Office.keep, tuple(it.strip() for it in fields))
+
+
 def _are_texts(found: Any) -> bool:
     return isinstance(found, dict) and all(isinstance(it, str) for it in found.values())
 
@@ -130,7 +158,7 @@ def read_settings(path: Path) -> Settings:
         raise UsageError(f"settings {path}: [columns] has names of columns, each with what it is in quotes")
     within = Limits(_periods(found, "least"), _periods(found, "greatest"))
     vault, caller, program_, dates = (_text(found, it) for it in ("vault", "caller", "program", "dates"))
-    return Settings(vault, caller, program_, vaults, doors, within, columns, dates)
+    return Settings(vault, caller, program_, vaults, doors, within, columns, dates, _office(found))
 
 
 def _file() -> Path | None:
@@ -214,4 +242,4 @@ def desk(vault: str | None, caller: str | None, door: str | None = None) -> Desk
     vault = vault or named_vault()
     caller = caller or os.environ.get("VAULT_CALLER") or given.caller
     door = door or os.environ.get("VAULT_DOOR") or (given.doors or {}).get(vault or "")
-    return Desk(program(), given.file_of(vault) if vault else None, caller, door, given.limits)
+    return Desk(program(), given.file_of(vault) if vault else None, caller, door, given.limits, given.office)

@@ -13,7 +13,7 @@ from collections.abc import Iterator, Mapping, Sequence
 from pathlib import Path
 from typing import Any, BinaryIO
 
-from vaultdesk import spreadsheet
+from vaultdesk import cards, spreadsheet
 from vaultdesk.documents import checked_content
 from vaultdesk.engine import Engine
 from vaultdesk.errors import DeskError, of_file
@@ -101,19 +101,20 @@ def _look_empty(folder: Path) -> None:
 
 
 def _exported(engine: Engine, words: argparse.Namespace, target: Target, entry: Entry, name: str) -> dict[str, Any]:
-    """Writes a version to its file, and gives its row of the list."""
+    """Writes a version to its file, and gives its row of the list, with its facts."""
     found = engine.ask("get", bucket=words.bucket, key=entry["key"], id=entry["version_id"])
     content = checked_content(found)
     with target.open(name) as file:
         file.write(content)
     row = {"file": name, "key": entry["key"], "version": entry["version_id"], "size": len(content)}
-    return {**row, "sha256": found["sha256"], "admitted": found["admitted"]}
+    facts = cards.of(engine, words.bucket, entry["key"], found["sha256"]).shown()
+    return {**row, "sha256": found["sha256"], "admitted": found["admitted"], **facts}
 
 
 def _list(target: Target, rows: Sequence[Mapping[str, Any]]) -> None:
     """Writes the lists: CSV, which has each key as it is, and a spreadsheet in which each cell is a text."""
-    text = io.StringIO()
-    writer = csv.DictWriter(text, LISTED, lineterminator="\n")
+    text, listed = io.StringIO(), (*LISTED, *dict.fromkeys(it for row in rows for it in row if it not in LISTED))
+    writer = csv.DictWriter(text, listed, restval="", lineterminator="\n")
     writer.writeheader()
     writer.writerows(rows)
     with target.open(LIST) as file:
@@ -122,7 +123,7 @@ def _list(target: Target, rows: Sequence[Mapping[str, Any]]) -> None:
         say(f"{SHEET} isn't written, as a spreadsheet has at most {spreadsheet.MOST_ROWS - 1:,} rows")
         return
     with target.open(SHEET) as file:
-        spreadsheet.write_to(file, "documents", [{it: str(row[it]) for it in LISTED} for row in rows], LISTED)
+        spreadsheet.write_to(file, "documents", [{it: str(row.get(it, "")) for it in listed} for row in rows], listed)
 
 
 def export(engine: Engine, words: argparse.Namespace) -> None:
@@ -130,7 +131,7 @@ def export(engine: Engine, words: argparse.Namespace) -> None:
     if not words.force and not words.into_existing:
         _look_empty(Path(words.folder))
     held = [it for it in engine.entries(words.bucket, words.prefix) if not it["delete_marker"]]
-    entries = [it for it in held if it["current"] or words.all_versions]
+    entries = cards.without_facts([it for it in held if it["current"] or words.all_versions])
     try:
         target = Target(Path(words.folder), words.force)
         named = counted_off(list(_named(entries, words.names)), "documents are written")

@@ -11,7 +11,7 @@ from collections.abc import Callable, Iterable, Iterator, Mapping, Sequence
 from pathlib import Path
 from typing import Any
 
-from vaultdesk import evidence, moments, parts, reading, spreadsheet
+from vaultdesk import evidence, moments, noted, parts, reading, spreadsheet
 from vaultdesk.engine import Engine
 from vaultdesk.errors import DeskError, Refused, UsageError, of_file
 from vaultdesk.history import number
@@ -26,14 +26,15 @@ CHARGED = ("dept", "since", "before", "byte_days", "admitted", "received", "remo
 SUMS = ("admitted", "received", "held", "removed", "handed", "byte_days")
 PAGE = """<!DOCTYPE html>
 <html lang="en"><head><meta charset="utf-8"><title>Certificates of destruction</title>
-<style>section {{ page-break-after: always; }} pre {{ white-space: pre-wrap; font: 11pt monospace; }}</style></head>
+<style>section {{ page-break-after: always; }} pre {{ white-space: pre-wrap; font: 11pt monospace; }}
+.noted th {{ text-align: left; font-weight: normal; padding-right: 1em; vertical-align: top; }}</style></head>
 <body>
 {}
 </body></html>
 """
 
 CERTIFICATE = """<section><pre>{}</pre>
-<p>The vault removed this version; no command reads it again. The certificate doesn't show that its bytes were wiped:
+{}<p>The vault removed this version; no command reads it again. The certificate doesn't show that its bytes were wiped:
 they may stay readable in unused parts of the vault's files, and in copies of them.</p></section>"""
 
 
@@ -85,6 +86,7 @@ def certificates(engine: Engine, words: argparse.Namespace) -> None:
     since, before = _span(words)
     rows = reading.query(engine.tables, "removed", since=since, before=before)
     callers = _callers(engine) if words.any_caller else {}
+    notes = noted.of(engine.tables)
     folder = Path(words.folder)
     page = folder / "certificates.html"
     paths = [folder / f"certificate-{it['version']:010}.txt" for it in rows]
@@ -93,9 +95,9 @@ def certificates(engine: Engine, words: argparse.Namespace) -> None:
     try:
         folder.mkdir(parents=True, exist_ok=True)
         certified = counted_off(_certified(engine, rows, callers), "certificates", len(rows))
-        for path, text in zip(paths, certified, strict=True):
+        for path, row, text in zip(paths, rows, certified, strict=True):
             path.write_bytes(text.encode())
-            texts.append(CERTIFICATE.format(html.escape(text)))
+            texts.append(CERTIFICATE.format(html.escape(text), noted.as_html(notes.of_removed(row))))
         page.write_text(PAGE.format("\n".join(texts)), encoding="utf-8")
     except OSError as error:
         raise of_file(error.filename, error) from error
@@ -132,7 +134,8 @@ def print_register(engine: Engine, words: argparse.Namespace) -> None:
     if words.documents:
         rows = [it for it in rows if it["kind"] == "version"]
     if words.xlsx:
-        spreadsheet.write(Path(words.xlsx), "register", rows, COLUMNS, words.force)
+        whole, facts = noted.of(engine.tables).registered(rows)
+        spreadsheet.write(Path(words.xlsx), "register", whole, (*COLUMNS, *facts), words.force)
     elif words.json:
         print_json(rows)
     else:
