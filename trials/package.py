@@ -50,10 +50,10 @@ COUNTING = '#!/bin/sh\necho "$1" >> /tmp/calls\nexec /usr/bin/vaultctl "$@"\n'
 SYNCHRONIZED = "#!/bin/sh\necho yes\n"
 NIGHT = "vault-serve@records.service"
 # How exposed each unit may be at most, as systemd-analyze counts it from 0 to 10, but for what carries out a command of
-# the office.
+# the office, or sends mail.
 MOST_EXPOSED = {
     "vault-serve@": 1.5, "vault-s3@": 1.5, "vault-health@": 1.5, "vault-follow@": 1.7, "vault-run@": 2.3, "vault-check@": 2.5,
-    "vault-web@": 1.5, "vault-failed@": 10,
+    "vault-web@": 1.5, "vault-failed@": 10, "vault-due@": 10,
 }  # fmt: skip
 # Words of the desk up to the one that is completed, and what that may become.
 DESK_COMPLETED = [

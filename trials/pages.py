@@ -31,7 +31,7 @@ from trials.servers import free_port
 # The pages whose commands are tried here; others need vaults beside them, or a system in which the package is.
 PAGES = """
     README.md contrib/README.md docs/MANUAL.md docs/AUDITOR.md docs/COURT.md docs/ENGINE.md docs/ENGINEER.md
-    docs/OFFICES.md docs/ARCHIVES.md docs/PRIVACY.md
+    docs/OFFICES.md docs/ARCHIVES.md docs/PRIVACY.md docs/RECORDS.md
 """.split()
 PROMPTS = {"```console": "$ ", "```root": "# "}
 PORT = "8080"
@@ -90,7 +90,7 @@ class Here:
 
     def how(self, command, words):
         path = f"{self.path}:{DESK.parent}:{CONTRIB}:{os.environ['PATH']}"
-        return ["sh", "-c", words], {"cwd": self.folder, "env": {**os.environ, "PATH": path}}
+        return ["sh", "-c", words], {"cwd": self.folder, "env": {**os.environ, "PATH": path, "XDG_CACHE_HOME": str(self.path)}}
 
 
 class Installed:

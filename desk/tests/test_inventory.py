@@ -17,7 +17,7 @@ from vaultdesk import dates
 from vaultdesk.columns import NAMES
 from vaultdesk.errors import UsageError
 
-HEADS: list[Cell] = ["Reference", "File name", "Title", "Document date", "Record class"]
+HEADS: list[Cell] = ["Reference", "File name", "Shelf", "Document date", "Record class"]
 MAPPED = 'key=Reference,date="Document date",class=Record class'
 HAS_XLSX = importlib.util.find_spec("openpyxl") is not None
 
@@ -62,7 +62,7 @@ class InventoryTest(OfficeTest):
 
 class Columns(InventoryTest):
     LIST = (
-        "Reference;File name;Title;Document date;Record class\n"
+        "Reference;File name;Shelf;Document date;Record class\n"
         "2010/7;Scan 0.txt;A deed;2010-05-01;deed\n2024/8;Scan 1.txt;A letter;2024-01-02;letter\n"
     )
 
@@ -71,17 +71,17 @@ class Columns(InventoryTest):
         for more in ((), ("--dry-run",), ("--columns", "key=Reference")):
             done = self.deliver(self.LIST, *more)
             self.assertEqual((done.status, done.out), (2, ""), more)
-            self.assertIn("'Title', 'Document date', 'Record class'", done.err)
+            self.assertIn("'Shelf', 'Document date', 'Record class'", done.err)
             self.assertIn("--columns", done.err)
             self.assertIn("--ignore-columns", done.err)
         with mock.patch("sys.stdin", Terminal("")):
-            self.assertIn("aren't known: 'Reference', 'Title'", self.deliver(self.LIST).err)
+            self.assertIn("aren't known: 'Reference', 'Shelf'", self.deliver(self.LIST).err)
         self.assertEqual(self.done("ls", "docs"), "")
         self.assertEqual(self.settings.read_text(), '# of the office\ncaller = "ann"\n')
 
     def test_columns_are_mapped_and_the_settings_keep_it(self) -> None:
         listed = self.LIST.replace("2010-05-01", "2020-05-01")
-        done = self.deliver(listed, "--columns", MAPPED, "--ignore-columns", "Title")
+        done = self.deliver(listed, "--columns", MAPPED, "--ignore-columns", "Shelf")
         self.assertIn(f"kept for the next time in {self.settings}, [columns]: 'Reference' is key", done.err)
         self.assertEqual(self.ends(), {"2010/7": "2027-01-01T00:00:00Z", "2024/8": "2035-01-01T00:00:00Z"})
         self.assertTrue(self.settings.read_text().startswith('# of the office\ncaller = "ann"\n\n[columns]\n'))
@@ -90,11 +90,11 @@ class Columns(InventoryTest):
         self.assertNotIn("kept", again.err)
 
     def test_what_the_settings_have_otherwise_is_written_anew(self) -> None:
-        self.settings.write_text('[columns]\n"Title" = "key"  # once\n"Box" = "ignore"\n\n[least]\ndocs = "1 year"\n')
-        listed = "File name;Reference;Title\nScan 0.txt;a;x\n"
-        done = self.deliver(listed, "--columns", "key=Reference,ignore=Title", "--until", "2030-01-01")
+        self.settings.write_text('[columns]\n"Shelf" = "key"  # once\n"Box" = "ignore"\n\n[least]\ndocs = "1 year"\n')
+        listed = "File name;Reference;Shelf\nScan 0.txt;a;x\n"
+        done = self.deliver(listed, "--columns", "key=Reference,ignore=Shelf", "--until", "2030-01-01")
         self.assertEqual(done.status, 0, done.err)
-        text = '[columns]\n"Reference" = "key"\n"Title" = "ignore"\n"Box" = "ignore"\n\n[least]\ndocs = "1 year"\n'
+        text = '[columns]\n"Reference" = "key"\n"Shelf" = "ignore"\n"Box" = "ignore"\n\n[least]\ndocs = "1 year"\n'
         self.assertEqual(self.settings.read_text(), text)
 
     def test_settings_that_cant_be_written_are_said_with_the_words_to_write(self) -> None:
@@ -118,7 +118,7 @@ class Columns(InventoryTest):
         self.assertEqual(done.status, 0, done.err)
         self.assertEqual(self.ends(), {"2010/7": "2027-01-01T00:00:00Z", "2024/8": "2035-01-01T00:00:00Z"})
         self.assertIn('"Document date" = "date"', self.settings.read_text())
-        words = "--columns 'key=Reference,ignore=Title,date=Document date,class=Record class'"
+        words = "--columns 'key=Reference,ignore=Shelf,date=Document date,class=Record class'"
         self.assertIn(words, done.err)
 
     def test_an_answer_that_is_no_column_ends_it(self) -> None:
@@ -363,8 +363,8 @@ class Manual(InventoryTest):
         listed, planned = book(Sheet1=self.ROWS), self.folder / "plan.csv"
         looked = self.deliver(listed, "--dry-run")
         self.assertEqual((looked.status, looked.out), (2, ""))
-        self.assertIn("'Reference', 'Title', 'Document date', 'Record class'", looked.err)
-        mapped = ("--columns", MAPPED, "--ignore-columns", "Title")
+        self.assertIn("'Reference', 'Shelf', 'Document date', 'Record class'", looked.err)
+        mapped = ("--columns", MAPPED, "--ignore-columns", "Shelf")
         looked = self.deliver(listed, "--dry-run", "--csv", str(planned), *mapped)
         self.assertEqual(looked.status, 0, looked.err)
         self.assertIn("4 of 4 rows would be taken in", looked.err)

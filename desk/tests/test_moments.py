@@ -9,8 +9,9 @@ from pathlib import Path
 from unittest import mock
 
 from vaultdesk import backup, copies, inventory, items, looks, moments
+from vaultdesk.classes import Class
 
-DEED = {"deed": items.Class(10, "COMPLIANCE")}
+DEED = {"deed": Class(10, "COMPLIANCE")}
 
 
 class Moments(unittest.TestCase):
@@ -50,7 +51,7 @@ class Rows(unittest.TestCase):
     def lock(self, **row: str) -> tuple[str, str, str, bool]:
         """The mode, the end and the hold of a row, and whether it is wrong."""
         [it] = items.items_of([inventory.Row(2, {"file": "a.pdf", **row})], items.Asked(DEED), None, {})
-        looks.look_at_words(it, "2024-01-15T10:00:00Z")
+        looks.look_at_words(it, "2024-01-15T10:00:00Z", None)
         return it.mode, it.until, it.hold, bool(it.wrong)
 
     def test_it_is_the_one_that_the_row_says(self) -> None:

@@ -117,7 +117,7 @@ class Signed(PaperTest):
 
     def test_a_certificate_is_the_engines_with_what_goes_with_it(self) -> None:
         by_bypass = CERTIFICATE.replace("rule old versions", "bypass gov")
-        text = certificate_page.page([CERTIFICATE, by_bypass], "ann")
+        text = certificate_page.page([(CERTIFICATE, ""), (by_bypass, "")], "ann")
         self.assertEqual(html.unescape(text.partition("<pre>")[2].partition("</pre>")[0]), CERTIFICATE)
         said = "removed version 17 of the bucket letters on 5 February 2024, 03:00:00 UTC, "
         self.assertIn(said + "by the lifecycle rule \u201cold versions\u201d, and that no command reads", text)

@@ -27,6 +27,7 @@ from vaultdesk.cli import words
 TOP = Path(__file__).resolve().parents[2]
 Command = tuple[str, argparse.ArgumentParser]
 SERVED = "by a test of its own"
+TWO = SERVED  # it takes two callers
 
 
 class Row(NamedTuple):
@@ -75,6 +76,21 @@ ROWS = {
     "departments": Row("--add court --as registrar", "--add records --as registrar"),
     "buckets": Row(*(f"--add {it} --department records --as registrar" for it in ("files", "docs"))),
     "callers": Row(*(f"--add {it} --department records --rights get --as registrar" for it in ("bob", "ann"))),
+    "facts": Row("docs a --set title=T", "docs none"),
+    "schedule set": Row("{folder}/classes.csv", "{folder}/one.txt"),
+    "schedule show": Row("", NO_VAULT),
+    "schedule diff": Row("", "{folder}/one.txt"),
+    "event": Row(*(f'"case 17 closed" --on 2024-01-10 --yes {it}' for it in ("", "--as registrar"))),
+    "disposal plan": Row("records --dry-run", "court --dry-run"),
+    "disposal list": Row("", "none"),
+    "disposal approve": Row(TWO, "none --yes"),
+    "disposal carry-out": Row(TWO, "none --yes"),
+    "disposal reject": Row(TWO, "none --reason x"),
+    "approve": Row(TWO, "none --yes"),
+    "carry-out": Row(TWO, "none --yes"),
+    "due": Row("", NO_VAULT),
+    "people add": Row('ann "Anna Berg"', 'zed "Zed"'),
+    "people list": Row("", NO_VAULT),
     "trail": Row("docs {folder}/one.txt", "docs {folder}/none"),
     "where": Row("1", "99"),
     "status": Row(SERVED, ""),
@@ -139,7 +155,9 @@ class Every(MachineTest):
         for key in "abc":
             self.lines({"do": "put", "bucket": "docs", "key": key, "text": key})
         self.lines({"do": "delete-version", "bucket": "docs", "key": "c", "id": 3})
+        self.lines({"do": "add-bucket", "as": "registrar", "bucket": "office", "dept": "records"})
         self.written("one.txt", b"one")
+        self.written("classes.csv", b"class,years,mode\nletter,6,GOVERNANCE\n")
         (self.folder / "scans").mkdir()
         self.written("scans/two.txt", b"two")
         self.names = {"folder": str(self.folder), "file": str(self.file), "users": f"{self.folder}/vault.users"}

@@ -7,7 +7,7 @@ from collections.abc import Iterator, Sequence
 from dataclasses import dataclass, field
 from pathlib import Path
 
-from vaultdesk import __version__, evidence, events, moments, paper, reading, recheck
+from vaultdesk import __version__, evidence, events, moments, noted, paper, reading, recheck
 from vaultdesk.court_page import WHAT, Page, Part, as_html, as_json, as_text
 from vaultdesk.engine import Engine
 from vaultdesk.errors import DeskError
@@ -183,9 +183,10 @@ def _unshown_sentences(checked: Checked) -> Iterator[str]:
 # ---- the page
 
 
-def _people(file: Path, found: Sequence[Event]) -> list[reading.Row]:
+def _people(file: Path, found: Sequence[Event], notes: noted.Noted) -> list[reading.Row]:
     names = {it.by for it in found if it.by and not it.who.startswith("rule ")}
-    return [it for it in reading.query(file, "callers") if it["caller"] in names]
+    rows = [it for it in reading.query(file, "callers") if it["caller"] in names]
+    return [{**it, "person": notes.persons(found, it["caller"])} for it in rows]
 
 
 def parts_of(engine: Engine, found: Sequence[Event], at: str, checked: Checked) -> list[Part]:
@@ -196,12 +197,17 @@ def parts_of(engine: Engine, found: Sequence[Event], at: str, checked: Checked) 
     guards = list(guard_sentences(found, events.guards_at(found, at)))
     if at > checked.last:
         guards.append(f"The vault's last change is of {checked.last}: this is so if nothing was changed after it.")
-    people = ("caller", "department", "state", "rights")
+    notes = noted.of(engine.tables)
+    people = ("caller", *(["person"] if notes.people else []), "department", "state", "rights")
+    life = [{**row, "who": notes.who(row["who"], row["moment"])} for row in life_of(found)]
+    facts = [dict(zip(WHAT, it, strict=True)) for it in notes.of_version(found).items()]
+    document |= {"office": notes.office} if notes.office else {}
     return [
         Part("document", "The document", (), WHAT, [dict(zip(WHAT, it, strict=True)) for it in document.items()]),
-        Part("life", "What happened to it", (), ("moment", "who", "what"), life_of(found)),
+        *([Part("facts", "What the office noted of it", (), WHAT, facts)] if facts else []),
+        Part("life", "What happened to it", (), ("moment", "who", "what"), life),
         Part("guarded", f"What guarded it at {at}", guards),
-        Part("people", "Who they are, as the file has it", (), people, _people(engine.tables, found)),
+        Part("people", "Who they are, as the file has it", (), people, _people(engine.tables, found, notes)),
         Part("checked", "What was checked", list(_checked_sentences(checked, found))),
         Part("shows", "What this shows", list(_shown_sentences(checked))),
         Part("shows_not", "What this doesn't show", list(_unshown_sentences(checked))),

@@ -27,7 +27,7 @@ def _certified(it: Mapping[str, str]) -> str:
     return f"{paper.office()} certifies that {what}, {CAUSES[cause].format(by)}, and that no command reads it again."
 
 
-def _sheet(text: str, asker: str | None) -> str:
+def _sheet(text: str, noted: str, asker: str | None) -> str:
     it = _members(text)
     number = it["version"]
     checks = paper.listed("How to check it", [
@@ -43,9 +43,10 @@ def _sheet(text: str, asker: str | None) -> str:
         f"`vaultdesk where {number}` lists these.",
     ])  # fmt: skip
     certified = f"<p>{paper.text(_certified(it))}</p>\n<pre>{html.escape(text, quote=False)}</pre>\n"
-    return f"<section>\n{paper.head(TITLE, asker)}{certified}{checks}{gone}{paper.signature()}</section>\n"
+    return f"<section>\n{paper.head(TITLE, asker)}{certified}{noted}{checks}{gone}{paper.signature()}</section>\n"
 
 
-def page(texts: Iterable[str], asker: str | None) -> str:
-    """The page of these certificates, as the engine has them, issued by that caller."""
-    return paper.page(f"{TITLE}s", "".join(_sheet(it, asker) for it in texts))
+def page(certificates: Iterable[tuple[str, str]], asker: str | None) -> str:
+    """The page of these certificates, as the engine has them, each with what the office noted of it as HTML, issued by
+    that caller."""
+    return paper.page(f"{TITLE}s", "".join(_sheet(text, noted, asker) for text, noted in certificates))

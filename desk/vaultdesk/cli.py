@@ -7,8 +7,8 @@ import sys
 from collections.abc import Sequence
 
 from vaultdesk import (
-    __version__, answer, cases, deliveries, documents, evidence, exporting, find, history, locks, moments, office,
-    policies, reading, trail, whereabouts, years_end,
+    __version__, answer, cases, deliveries, described, disposal, documents, due, evidence, exporting, find, history,
+    locks, moments, office, people, policies, reading, schedule, trail, whereabouts, years_end,
 )
 from vaultdesk import (
     backup, closing, copies, glue, health_port, metrics, night, offices, page, restoring, server, standby, status,
@@ -24,8 +24,8 @@ from vaultdesk.spelling import Parser, parsed
 
 # Those that ask about a vault, and those that look after files, servers and users.
 FAMILIES = (
-    documents, exporting, find, history, locks, cases, policies, deliveries, years_end, evidence, answer, office, trail,
-    whereabouts, status, closing,
+    documents, described, exporting, find, history, locks, cases, policies, deliveries, years_end, evidence, answer,
+    office, people, schedule, disposal, due, trail, whereabouts, status, closing,
 )  # fmt: skip
 MACHINE = (page, backup, copies, restoring, night, server, health_port, metrics, offices, users, s3, web, standby, glue)
 SHOWN = 8  # names of buckets in one sentence

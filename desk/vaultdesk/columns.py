@@ -17,7 +17,7 @@ from vaultdesk.errors import DeskError, UsageError
 from vaultdesk.output import is_heard, say
 
 IGNORED = "ignore"
-OF_ROWS = ("file", "key", "class", "date", "mode", "until", "hold", "sha256")
+OF_ROWS = ("file", "key", "class", "date", "mode", "until", "hold", "sha256", "title", "sender", "reference", "event")
 OF_CLASSES = ("class", "years", "mode")
 # A column's name as offices write it, in small letters, and what it is.
 NAMES = {
@@ -45,6 +45,16 @@ NAMES = {
     "years": "years",
     "jahre": "years",
     "sha256": "sha256",
+    "title": "title",
+    "titel": "title",
+    "betreff": "title",
+    "sender": "sender",
+    "absender": "sender",
+    "file reference": "reference",
+    "dossier": "reference",
+    "akte": "reference",
+    "event": "event",
+    "ereignis": "event",
     # What the list of an export has beside.
     "version": IGNORED,
     "size": IGNORED,
@@ -52,8 +62,14 @@ NAMES = {
     "retention_mode": IGNORED,
     "retention_until": IGNORED,
     "legal_hold": IGNORED,
+    "kept": IGNORED,
+    "authority": IGNORED,
 }
 ALL = ""  # of --ignore-columns: all that aren't known
+# Names that lists of documents have for other things.
+TAKEN = (
+    "row", "end", "note", "bucket", "by", "state", "kind", "removed", "cause", "fields", "plan",
+)  # fmt: skip
 PAGE = f"{beside.page('INVENTORY')} has the names that are known"
 Meanings = Mapping[str, str]
 
@@ -63,10 +79,26 @@ def folded(name: str) -> str:
     return " ".join(unicodedata.normalize("NFC", name).split()).casefold()
 
 
+def fields() -> tuple[str, ...]:
+    """The facts of documents that only this office has, as the settings name them. `UsageError` where one has a name
+    that is another column's."""
+    found = config.settings().office.fields
+    for it in found:
+        if folded(it) in (*NAMES, *OF_ROWS, *TAKEN, IGNORED):
+            raise UsageError(f"settings: [office] fields: {it!r} is the name of a column that is known already")
+    return found
+
+
+def of_rows() -> tuple[str, ...]:
+    """What the columns of an inventory can be."""
+    return (*OF_ROWS, *fields())
+
+
 def _meant(text: str) -> str:
     """What a column of rows is, by a word of either language for it; empty where it is no such word."""
-    what = IGNORED if folded(text) == IGNORED else NAMES.get(folded(text), "")
-    return what if what in (*OF_ROWS, IGNORED) else ""
+    own = {folded(it): it for it in (*of_rows(), IGNORED)}
+    what = own.get(folded(text), NAMES.get(folded(text), ""))
+    return what if what in own.values() else ""
 
 
 def _parts(given: Iterable[str]) -> list[str]:
@@ -91,7 +123,7 @@ def given_by(words: argparse.Namespace) -> dict[str, str]:
         meaning, sign, name = it.partition("=")
         what = _meant(meaning)
         if not what or not name.strip():
-            raise UsageError(f"--columns {it}: write WHAT=COLUMN, where WHAT is one of {', '.join(OF_ROWS)}")
+            raise UsageError(f"--columns {it}: write WHAT=COLUMN, where WHAT is one of {', '.join(of_rows())}")
         found[name.strip()] = what
     return found | {it: IGNORED for it in _parts(words.ignore_columns or [])}
 
@@ -100,11 +132,12 @@ def meanings_of(given: Mapping[str, str]) -> Meanings:
     """What each name means: as it was given, else as the settings keep it, else as the desk knows it.
 
     `UsageError` where the settings have what no column is."""
-    kept = config.settings().columns or {}
+    kept, known = config.settings().columns or {}, of_rows()
     for name, what in kept.items():
-        if what not in (*OF_ROWS, IGNORED):
-            raise UsageError(f"settings: [columns]: {name!r} is {', '.join(OF_ROWS)} or {IGNORED}, and not {what!r}")
-    return NAMES | {folded(name): what for names in (kept, given) for name, what in names.items()}
+        if what not in (*known, IGNORED):
+            raise UsageError(f"settings: [columns]: {name!r} is {', '.join(known)} or {IGNORED}, and not {what!r}")
+    own = {it: it for it in fields()}
+    return NAMES | {folded(name): what for names in (own, kept, given) for name, what in names.items()}
 
 
 def look_given(given: Iterable[str], heads: Sequence[str], place: str) -> None:
@@ -117,7 +150,7 @@ def look_given(given: Iterable[str], heads: Sequence[str], place: str) -> None:
 
 def _ask(name: str) -> str:
     """What a column is, by who is at the terminal."""
-    answer = asked(f"column {name!r}: is it {', '.join(OF_ROWS)}, or {IGNORED}? ")
+    answer = asked(f"column {name!r}: is it {', '.join(of_rows())}, or {IGNORED}? ")
     what = _meant(answer)
     if not what:
         raise DeskError(f"{answer!r} is none of these: nothing was changed")

@@ -18,7 +18,7 @@ from vaultdesk.output import say
 
 KNOWN = (
     "PORT", "LINES_GROUP", "ADMIN", "BUCKETS", "NIGHT", "BACKUP", "KEEP", "ALARM", "TRUST_CLOCK", "MAX_JUMP", "STANDBY",
-    "HEALTH", "WEB",
+    "HEALTH", "WEB", "DUE_MAIL",
 )  # fmt: skip
 NAME = re.compile(r"[A-Za-z0-9_][A-Za-z0-9_.-]*")  # of a vault: a file's name, and a unit's
 CALLER = re.compile(r"[a-z0-9._-]{1,64}")
@@ -137,6 +137,10 @@ class Configuration:
     def standby(self) -> str:
         """The machine that follows the vault, as ssh has it; empty where none is named."""
         return self.values.get("STANDBY", "")
+
+    def due_mail(self) -> str:
+        """Who gets by mail what is due; empty where nobody is named."""
+        return self.values.get("DUE_MAIL", "")
 
     def alarm(self) -> str:
         """The shell command that reports a failure; empty where none is set."""

@@ -28,6 +28,9 @@ An option is asked first, then the environment, then a file of settings (TOML)::
 
     [office]
     name = "County Archive"  # as it signs pages, certificates and what it hands over
+    bucket = "office-court"  # where its own documents are, if that is another bucket than docs/RECORDS.md says
+    keep = "30 years"        # how long plans of disposal, approvals and outcomes are kept
+    fields = ["Box"]         # facts of documents that only this office has
 
 A name that isn't there is that of a vault with units, if there is one: /var/lib/vaultctl/NAME.vault.
 """
@@ -45,10 +48,21 @@ from typing import Any
 
 from vaultdesk import conf, limits
 from vaultdesk.errors import DeskError, UsageError
-from vaultdesk.limits import Limits
+from vaultdesk.limits import Limits, Period
 from vaultdesk.replacing import write_anew
 
 PLACES = (Path("~/.config/vaultdesk.toml"), Path("/etc/vaultctl/desk.toml"))
+
+
+@dataclass(frozen=True)
+class Office:
+    """What the settings have of the office: its name, the bucket of its own documents (none: the one that is found),
+    how long plans of disposal are kept, and the facts of documents that only it has."""
+
+    name: str = ""
+    bucket: str = ""
+    keep: Period = Period(30, "year")
+    fields: tuple[str, ...] = ()
 
 
 @dataclass(frozen=True)
@@ -63,7 +77,7 @@ class Settings:
     limits: Limits = limits.NONE
     columns: Mapping[str, str] | None = None
     dates: str | None = None
-    office: str | None = None
+    office: Office = Office()
     keys: str | None = None
 
     def file_of(self, vault: str) -> Path:
@@ -78,14 +92,15 @@ class Settings:
 
 @dataclass(frozen=True)
 class Desk:
-    """The engine's program, and where these were named, which vault is meant, who asks, where a server takes lines, and
-    how long retentions may be."""
+    """The engine's program, and where these were named, which vault is meant, who asks, where a server takes lines, how
+    long retentions may be, and what the office is."""
 
     program: str
     vault: Path | None = None
     asker: str | None = None
     door: str | None = None
     limits: Limits = limits.NONE
+    office: Office = Office()
 
     @property
     def file(self) -> Path:
@@ -124,6 +139,15 @@ def _periods(found: Mapping[str, Any], name: str) -> dict[str, limits.Period]:
     return {bucket: limits.period(text) for bucket, text in given.items()}
 
 
+def _office(found: Mapping[str, Any]) -> Office:
+    given = found.get("office", {})
+    fields = given.get("fields", []) if isinstance(given, dict) else None
+    if not isinstance(fields, list) or not all(isinstance(it, str) and it.strip() for it in fields):
+        raise UsageError('settings: [office] has name, bucket and keep, each in quotes, and fields as ["Box", "Shelf"]')
+    name, bucket, keep = (_text(given, it) or "" for it in ("name", "bucket", "keep"))
+    return Office(name, bucket, limits.period(keep) if keep else Office.keep, tuple(it.strip() for it in fields))
+
+
 def _are_texts(found: Any) -> bool:
     return isinstance(found, dict) and all(isinstance(it, str) for it in found.values())
 
@@ -144,10 +168,10 @@ def read_settings(path: Path) -> Settings:
     columns = found.get("columns", {})
     if not _are_texts(columns):
         raise UsageError(f"settings {path}: [columns] has names of columns, each with what it is in quotes")
-    office, keys = _of_table(found, "office", "name"), _of_table(found, "keys", "pattern")
+    keys = _of_table(found, "keys", "pattern")
     within = Limits(_periods(found, "least"), _periods(found, "greatest"))
     vault, caller, program_, dates = (_text(found, it) for it in ("vault", "caller", "program", "dates"))
-    return Settings(vault, caller, program_, vaults, doors, within, columns, dates, office, keys)
+    return Settings(vault, caller, program_, vaults, doors, within, columns, dates, _office(found), keys)
 
 
 def _file() -> Path | None:
@@ -166,7 +190,7 @@ def settings() -> Settings:
 
 def office_name() -> str:
     """The office's name, as the settings have it; empty where they have none."""
-    return settings().office or ""
+    return settings().office.name
 
 
 def _with_columns(text: str, given: Mapping[str, str]) -> str:
@@ -236,4 +260,4 @@ def desk(vault: str | None, caller: str | None, door: str | None = None) -> Desk
     vault = vault or named_vault()
     caller = caller or os.environ.get("VAULT_CALLER") or given.caller
     door = door or os.environ.get("VAULT_DOOR") or (given.doors or {}).get(vault or "")
-    return Desk(program(), given.file_of(vault) if vault else None, caller, door, given.limits)
+    return Desk(program(), given.file_of(vault) if vault else None, caller, door, given.limits, given.office)

@@ -67,7 +67,7 @@ def as_json(page: Page) -> dict[str, Any]:
         if it.columns == WHAT:
             found[it.name] = {row["what"]: row["is"] for row in it.rows}
         elif it.columns:
-            found[it.name] = [dict(row) for row in it.rows]
+            found[it.name] = [{name: row[name] for name in it.columns} for row in it.rows]
         else:
             found[it.name] = list(it.sentences)
     return found

@@ -5,10 +5,11 @@ from __future__ import annotations
 import argparse
 import hashlib
 from collections.abc import Iterator, Mapping, Sequence
+from dataclasses import dataclass, field
 from pathlib import Path
 from typing import Any
 
-from vaultdesk import columns, config, dates, looks, moments, plan, there
+from vaultdesk import cards, columns, config, dates, looks, moments, plan, there
 from vaultdesk.asking import add_yes, confirm
 from vaultdesk.bags import Bag
 from vaultdesk.delivery import Delivery, look, look_at_words, open_bag
@@ -19,9 +20,19 @@ from vaultdesk.intake import Intake, results, taken_in
 from vaultdesk.items import Item
 from vaultdesk.output import counted_off, print_json, print_table, refusals, say
 from vaultdesk.receipts import receipt
+from vaultdesk.refusals import meaning
 
 FOUND = ("row", "file", "wrong", "note")
+OTHERWISE = "it came with other facts before, which stay: vaultdesk facts --set changes them"
 Row = dict[str, Any]
+
+
+@dataclass
+class FactsIn:
+    """How many documents of a delivery have their facts beside them, and the rows whose facts were refused."""
+
+    count: int = 0
+    refused: list[Row] = field(default_factory=list)
 
 
 # ---- afterwards
@@ -59,7 +70,7 @@ def _why_not_all(intake: Intake, refused: Sequence[Row], done: int, wanted: int)
 
 
 def _report(
-    engine: Engine, words: argparse.Namespace, given: Delivery, intake: Intake, bag: Bag | None
+    engine: Engine, words: argparse.Namespace, given: Delivery, intake: Intake, bag: Bag | None, facts: FactsIn
 ) -> None:
     """Prints what became of the delivery. `DeskError` where not all that was right is in the vault as it is there, or
     who came by a server's door may not read the tables to compare it."""
@@ -77,9 +88,11 @@ def _report(
     if words.json:
         told = {"taken_in": len(taken), "refused": refused, "differing": differing, "rows": rows}
         skipped = [it.number for it in items if it.is_skipped]
-        print_json({**told, "findings": plan.findings(items), "skipped": skipped, "in_no_row": given.unnamed})
+        told |= {"findings": plan.findings(items), "skipped": skipped, "in_no_row": given.unnamed}
+        print_json({**told, "with_facts": facts.count, "facts_refused": facts.refused})
     else:
         _print_result(items, refused, taken, differing)
+        _print_facts(facts)
     if differing:
         raise DeskError(f"the vault holds other content than the folder has now: {', '.join(differing)}")
     not_all = _why_not_all(intake, refused, len(rows), wanted)
@@ -87,6 +100,14 @@ def _report(
         raise DeskError(not_all)
     if why:
         raise DeskError(why)
+    if facts.refused:
+        raise DeskError(f"the facts of {len(facts.refused)} rows were refused: their documents are there without them")
+
+
+def _print_facts(facts: FactsIn) -> None:
+    print_table(facts.refused, ("row", "file", "key", "cause"), as_json=False)
+    if facts.count:
+        print(f"{facts.count} of them have their facts beside them")
 
 
 def _write_receipt(
@@ -116,6 +137,29 @@ def _print_result(
     print(f"{len(taken)} of {len(items)} rows are in the vault{same}{left}")
 
 
+# ---- the facts of what came in
+
+
+def _facts_in(engine: Engine, words: argparse.Namespace, given: Delivery, intake: Intake) -> FactsIn:
+    """Puts the facts of what is in the vault beside it, each as a line of a batch of their own: given again, none is
+    taken in twice."""
+    rows = list(results(intake, given.items))
+    there = [it for it, row in zip(_of_rows(rows, given.items), rows) if row["result"] != "refused" and it.card]
+    found = FactsIn()
+    for it in counted_off(there, "documents got their facts"):
+        assert it.card
+        lock = {name: value or None for name, value in (("mode", it.mode), ("until", it.until), ("hold", it.hold))}
+        place = {"bucket": words.bucket, "batch": cards.batch_of(words.batch), "line": it.line}
+        content = it.card.content(it.key, it.digest).hex()
+        try:
+            engine.ask("intake", **place, key=cards.key_of(it.key), hex=content, **lock)
+            found.count += 1
+        except Refused as error:
+            why = OTHERWISE if error.code == "IntakeConflict" else meaning(error)
+            found.refused.append({"row": it.number, "file": it.file, "key": it.key, "cause": why})
+    return found
+
+
 # ---- the whole
 
 
@@ -141,7 +185,7 @@ def _print_look(words: argparse.Namespace, given: Delivery, is_last: bool) -> No
         say(f"the plan is in {words.csv}")
     found = plan.findings(given.items)
     if not words.json and words.dry_run:
-        print_table(rows, plan.COLUMNS, as_json=False)
+        print_table(rows, plan.columns_of(rows), as_json=False)
     elif not words.json:
         print_table(found, FOUND, as_json=False)
     elif is_last:
@@ -182,7 +226,8 @@ def deliver(engine: Engine, words: argparse.Namespace) -> None:
         say("this delivery was made already: nothing new comes in, and what is there is compared once more")
     _ask(words, given)
     columns.keep(said)
-    _report(engine, words, given, taken_in(engine, words, given.items), bag)
+    intake = taken_in(engine, words, given.items)
+    _report(engine, words, given, intake, bag, _facts_in(engine, words, given, intake))
     if words.keep_inventory:
         _keep_list(engine, words)
 

@@ -8,13 +8,15 @@ from collections.abc import Sequence
 from dataclasses import dataclass
 from pathlib import Path
 
-from vaultdesk import bags, columns, config, dates, folder, inventory, keys, limits, looks, moments, plan, there
+from vaultdesk import (
+    bags, book, classes, columns, config, dates, folder, inventory, keys, limits, looks, moments, plan, schedule, there,
+)  # fmt: skip
 from vaultdesk.bags import Bag
 from vaultdesk.documents import read_content
 from vaultdesk.engine import Engine
 from vaultdesk.errors import UsageError
 from vaultdesk.folder import Folder
-from vaultdesk.items import Asked, Item, items_of, read_classes
+from vaultdesk.items import Asked, Item, items_of
 from vaultdesk.output import counted_off, say
 from vaultdesk.there import There
 
@@ -104,7 +106,13 @@ def _asked(engine: Engine, words: argparse.Namespace) -> Asked:
     until = moments.read(words.until) if words.until else ""
     if until:
         limits.look(engine.desk.limits, words.bucket, until, engine.at or moments.now())
-    return Asked(read_classes(Path(words.classes)) if words.classes else None, until, words.mode or "")
+    scheduled = schedule.current(engine)
+    if scheduled is not None and words.classes:
+        why = "the department has a schedule, and its classes count (vaultdesk schedule show)"
+        raise UsageError(f"--classes {words.classes}: {why}: leave --classes out")
+    found = classes.read(Path(words.classes)) if words.classes else scheduled
+    reported = schedule.events(engine, book.found_bucket(engine)) if scheduled else {}
+    return Asked(found, until, words.mode or "", columns.fields(), reported)
 
 
 def _order(words: argparse.Namespace) -> str | None:

@@ -12,7 +12,7 @@ from collections.abc import Callable, Mapping
 from pathlib import Path
 from typing import Any
 
-from vaultdesk import defaults, keys, limits, moments, receipts
+from vaultdesk import cards, defaults, keys, limits, moments, receipts, schedule
 from vaultdesk.asking import confirm
 from vaultdesk.engine import Engine
 from vaultdesk.errors import DeskError, Refused, UsageError, of_file
@@ -118,20 +118,24 @@ def put(engine: Engine, words: argparse.Namespace) -> None:
     """Puts a file's content as a new version, and prints its number."""
     now = engine.at or moments.now()
     keys.look(words.key)
-    until, mode = end_of(engine, words, now), words.mode or "GOVERNANCE"
+    card = _card(engine, words)
+    mode, until = _retention(engine, words, card, now)
     content = read_content(words.path)
     if words.receipt_for:
         receipts.look(Path(words.receipt_for), content)
-    members = {
-        "bucket": words.bucket,
-        "key": words.key,
-        "hex": content.hex(),
+    lock = {
         "mode": mode if until else None,
         "until": until,
         "hold": "ON" if words.hold else None,
     }
+    members = {
+        "bucket": words.bucket,
+        "key": words.key,
+        "hex": content.hex(),
+        **lock,
+    }
     version = _put_new(engine, words, members) if words.new else int(engine.ask("put", **members)["version_id"])
-    note = _guard_note(engine, words, version, mode)
+    note = _guard_note(engine, words, version, mode if until else "")
     if words.json:
         place = {"version": version, "bucket": words.bucket, "key": words.key}
         print_json({**place, "size": len(content), "sha256": hashlib.sha256(content).hexdigest(), "note": note})
@@ -139,15 +143,42 @@ def put(engine: Engine, words: argparse.Namespace) -> None:
         print(version)
     if note:
         say(note)
+    if card:
+        cards.put(engine, (words.bucket, words.key), card, hashlib.sha256(content).hexdigest(), lock)
     if words.new:
         _look_still_new(engine, words, version)
     if not until:
         _look_kept(engine, words, version, now)
 
 
+def _card(engine: Engine, words: argparse.Namespace) -> cards.Card | None:
+    """The facts that the words give. `UsageError` where one isn't understood, or none can be of such a key."""
+    found = cards.given(words)
+    if found and cards.why_not(words.key):
+        raise UsageError(f"{cards.why_not(words.key)}: nothing was put")
+    return schedule.classed(engine, cards.Card().with_facts(found)) if found else None
+
+
+def _retention(
+    engine: Engine, words: argparse.Namespace, card: cards.Card | None, now: str
+) -> tuple[str, str | None]:
+    """The mode and the end that the words give, or else the class by the schedule. `UsageError` as of `end_of`, or
+    where the mode isn't that of the class."""
+    if words.until or not card or not card.kept:
+        return words.mode or "GOVERNANCE", end_of(engine, words, now)
+    mode, until = schedule.lock_of(engine, card)
+    if words.mode not in (None, mode):
+        raise UsageError(f"--mode {words.mode}: that of the class is {mode}: leave --mode out; nothing was put")
+    limits.look(engine.desk.limits, words.bucket, until, now)
+    if moments.is_far(until, now) and card.kept.mode == mode:
+        confirm(words, f"the retention ends in more than {moments.FAR} years, at {until}")
+    return mode, until
+
+
 def _guard_note(engine: Engine, words: argparse.Namespace, version: int, mode: str) -> str:
-    """What is said where a version has another mode than the bucket's default, or nothing guards it; else empty."""
-    if words.until:
+    """What is said where a version has another mode than the bucket's default, or nothing guards it; else empty. It has
+    no mode where it came without a retention."""
+    if mode:
         return defaults.mode_note(engine, words.bucket, mode)
     is_looked_at = words.bucket in engine.desk.limits.least  # by _look_kept
     return "" if words.hold or is_looked_at else defaults.guard_note(engine, words.bucket, words.key, version)
@@ -195,6 +226,7 @@ def info(engine: Engine, words: argparse.Namespace) -> None:
     row = {name: found[name] for name in ("size", "sha256", "admitted")}
     whole = {"version": found["version_id"], "bucket": words.bucket, "key": words.key, **row}
     whole |= {"mode": retention.get("mode"), "until": retention.get("until"), "hold": found["hold"]}
+    whole |= cards.of(engine, words.bucket, words.key, found["sha256"]).shown()
     if words.json:
         print_json(whole)
     else:
@@ -253,6 +285,8 @@ def add(commands: argparse._SubParsersAction[argparse.ArgumentParser], common: a
     it.add_argument("--new", action="store_true", help="only if nothing is held under KEY")
     text = "only if the file has the SHA-256 of each document of that bag, of export --bagit: a receipt for it"
     it.add_argument("--receipt-for", metavar="BAG", help=text)
+    cards.add_words(it, cards.PUTTING)
+    it.add_argument("--date", metavar="DATE", help="its own date")
     it.add_argument("--yes", action="store_true", help="don't ask")
 
     example = 'get letters "2025/002 permit" letter.pdf'

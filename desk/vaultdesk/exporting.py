@@ -14,7 +14,7 @@ from collections.abc import Iterator, Mapping, Sequence
 from pathlib import Path
 from typing import Any, BinaryIO
 
-from vaultdesk import __version__, bags, config, moments, spreadsheet
+from vaultdesk import __version__, bags, cards, config, moments, spreadsheet
 from vaultdesk.documents import checked_content
 from vaultdesk.engine import Engine
 from vaultdesk.errors import DeskError, UsageError, of_file
@@ -115,13 +115,14 @@ def _look_empty(folder: Path) -> None:
 
 
 def _got(engine: Engine, words: argparse.Namespace, entry: Entry, name: str) -> tuple[bytes, dict[str, Any]]:
-    """The content of a version, and its row of the list."""
+    """The content of a version, and its row of the list, with its facts."""
     found = engine.ask("get", bucket=words.bucket, key=entry["key"], id=entry["version_id"])
     content, retention = checked_content(found), found["retention"] or {}
     row = {"file": name, "key": entry["key"], "version": entry["version_id"], "size": len(content)}
     row |= {"sha256": found["sha256"], "admitted": found["admitted"]}
     lock = {"retention_mode": retention.get("mode", ""), "retention_until": retention.get("until", "")}
-    return content, {**row, **lock, "legal_hold": found["hold"]}
+    facts = cards.of(engine, words.bucket, entry["key"], found["sha256"]).shown()
+    return content, {**row, **lock, "legal_hold": found["hold"], **facts}
 
 
 def _exported(engine: Engine, words: argparse.Namespace, target: Target, entry: Entry, name: str) -> dict[str, Any]:
@@ -132,9 +133,14 @@ def _exported(engine: Engine, words: argparse.Namespace, target: Target, entry: 
     return row
 
 
+def _listed(rows: Sequence[Mapping[str, Any]]) -> Sequence[str]:
+    """The columns of the list: those of each, and the facts that some have."""
+    return (*LISTED, *dict.fromkeys(it for row in rows for it in row if it not in LISTED))
+
+
 def _csv(rows: Sequence[Mapping[str, Any]]) -> bytes:
     text = io.StringIO()
-    writer = csv.DictWriter(text, LISTED, lineterminator="\n")
+    writer = csv.DictWriter(text, _listed(rows), restval="", lineterminator="\n")
     writer.writeheader()
     writer.writerows(rows)
     return text.getvalue().encode()
@@ -142,13 +148,14 @@ def _csv(rows: Sequence[Mapping[str, Any]]) -> bytes:
 
 def _list(target: Target, rows: Sequence[Mapping[str, Any]]) -> None:
     """Writes the lists: CSV, which has each key as it is, and a spreadsheet in which each cell is a text."""
+    listed = _listed(rows)
     with target.open(LIST) as file:
         file.write(_csv(rows))
     if len(rows) >= spreadsheet.MOST_ROWS:
         say(f"{SHEET} isn't written, as a spreadsheet has at most {spreadsheet.MOST_ROWS - 1:,} rows")
         return
     with target.open(SHEET) as file:
-        spreadsheet.write_to(file, "documents", [{it: str(row[it]) for it in LISTED} for row in rows], LISTED)
+        spreadsheet.write_to(file, "documents", [{it: str(row.get(it, "")) for it in listed} for row in rows], listed)
 
 
 def _info(engine: Engine, words: argparse.Namespace) -> dict[str, str]:
@@ -209,7 +216,7 @@ def export(engine: Engine, words: argparse.Namespace) -> None:
     if not words.force and not words.into_existing:
         _look_empty(Path(words.folder))
     held = [it for it in engine.entries(words.bucket, words.prefix) if not it["delete_marker"]]
-    entries = [it for it in held if it["current"] or words.all_versions]
+    entries = cards.without_facts([it for it in held if it["current"] or words.all_versions])
     try:
         (_bag if words.bagit else _folder)(engine, words, entries)
     except OSError as error:

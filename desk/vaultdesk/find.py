@@ -7,21 +7,28 @@ import csv
 import hashlib
 import re
 import sys
-import unicodedata
 from collections.abc import Sequence
 from pathlib import Path
 
-from vaultdesk import moments, reading
+from vaultdesk import cards, dates, index, moments, reading
 from vaultdesk.documents import MOST
 from vaultdesk.engine import Engine
 from vaultdesk.errors import DeskError, UsageError, of_file
+from vaultdesk.index import FOUND
 from vaultdesk.output import print_json, print_rows, print_table, say
+from vaultdesk.texts import folded
 
 COLUMNS = ("version", "bucket", "size", "admitted", "by", "state", "key")
-FOUND = (
-    "version", "bucket", "key", "kind", "size", "sha256", "admitted", "admitted_by", "removed", "cause", "cause_by",
-)  # fmt: skip
+BY_FACTS = ("version", "bucket", "date", "class", "title", "sender", "reference", "removed", "key")
+DAYS = ("dated_since", "dated_before")
+BY_TEXT = ("title", "sender", "reference", "event", "kind")
 HELD = ("department", "bucket", "version", "size", "retention", "until", "hold", "key")
+# What the options of facts mean here.
+FINDING = {
+    "title": "a part of its title, as its facts have it", "class": "its class", "sender": "a part of its sender's name",
+    "reference": "a part of its file reference", "event": "a part of the event from which its class counts",
+    "field": "a part of another fact, of those that the settings name",
+}  # fmt: skip
 DIGEST = re.compile(r"[0-9a-fA-F]{8,64}")
 
 
@@ -36,11 +43,6 @@ def digest_of(path: Path) -> str:
             return hashlib.file_digest(file, "sha256").hexdigest()
     except OSError as error:
         raise of_file(path, error) from error
-
-
-def folded(text: str) -> str:
-    """A text by which small and large letters, and letters written in two Unicode forms, are one."""
-    return unicodedata.normalize("NFC", unicodedata.normalize("NFC", text).casefold())
 
 
 def _wanted_digest(words: argparse.Namespace) -> str | None:
@@ -62,7 +64,7 @@ def found_by(engine: Engine, words: argparse.Namespace, ignore_case: bool) -> li
         sha256=_wanted_digest(words),
         since=moments.read(words.since) if words.since else None,
         before=moments.read(words.before) if words.before else None,
-        state="held" if words.held else "removed" if words.removed else None,
+        state=_state_wanted(words),
     )
     if words.text and ignore_case:
         rows = [it for it in rows if folded(words.text) in folded(it["key"])]
@@ -70,7 +72,7 @@ def found_by(engine: Engine, words: argparse.Namespace, ignore_case: bool) -> li
 
 
 def _print_csv(rows: Sequence[reading.Row], columns: Sequence[str]) -> None:
-    writer = csv.DictWriter(sys.stdout, columns, lineterminator="\n")
+    writer = csv.DictWriter(sys.stdout, columns, extrasaction="ignore", lineterminator="\n")
     writer.writeheader()
     writer.writerows(rows)
 
@@ -86,17 +88,38 @@ def _say_nothing(engine: Engine, words: argparse.Namespace) -> None:
     say("nothing was found" + (f" letter by letter: with -i there are {others}" if others else ""))
 
 
+def _state_wanted(words: argparse.Namespace) -> str | None:
+    return "held" if words.held else "removed" if words.removed else None
+
+
+def by_facts(engine: Engine, words: argparse.Namespace) -> list[reading.Row]:
+    """The versions that have such facts. The case of letters doesn't count there, and a part of a fact is enough, but
+    of a class."""
+    own = cards.own(words.fields or [])
+    days = {it: dates.day_of(getattr(words, it)).isoformat() for it in DAYS if getattr(words, it)}
+    admitted = {it: moments.read(getattr(words, it)) for it in ("since", "before") if getattr(words, it)}
+    facts = {it: folded(getattr(words, it)) for it in BY_TEXT if getattr(words, it)}
+    place = {"bucket": words.bucket, "prefix": words.prefix, "sha256": _wanted_digest(words)}
+    text = {"folded_text" if words.ignore_case else "text": folded(words.text) if words.ignore_case else words.text}
+    rows = index.rows(engine, {**facts, **days, **admitted, **place, **text, "state": _state_wanted(words)})
+    return [it for it in rows if all(folded(part) in folded(it["fields"].get(name, "")) for name, part in own.items())]
+
+
 def find(engine: Engine, words: argparse.Namespace) -> None:
     """Prints the versions that are asked for."""
-    rows = found_by(engine, words, words.ignore_case)
+    is_by_facts = any(getattr(words, it) for it in (*DAYS, *BY_TEXT, "fields"))
+    rows = by_facts(engine, words) if is_by_facts else found_by(engine, words, words.ignore_case)
     if words.json:
         print_json(rows)
         return
     if words.csv:
-        _print_csv(rows, FOUND)
+        _print_csv(rows, (*FOUND, *cards.NAMES) if is_by_facts else FOUND)
     else:
-        print_rows([{**it, "by": it["admitted_by"], "state": _state(it)} for it in rows], COLUMNS)
-    if not rows:
+        columns = [it for it in BY_FACTS if any(row[it] for row in rows)] if is_by_facts else COLUMNS
+        print_rows([{**it, "by": it["admitted_by"], "state": _state(it)} for it in rows], columns)
+    if not rows and is_by_facts:
+        say("nothing was found that has such facts: find without them looks at keys")
+    elif not rows:
         _say_nothing(engine, words)
 
 
@@ -136,8 +159,9 @@ def add(commands: argparse._SubParsersAction[argparse.ArgumentParser], common: a
     it = commands.add_parser(
         "find",
         parents=[common],
-        help="find versions, held and removed ones: by a part of the key, content, date",
+        help="find versions, held and removed ones: by a part of the key, content, date, and by facts",
         epilog="Examples: vaultdesk find permit --held; vaultdesk find --same-as scan.pdf; "
+        "vaultdesk find --title permit --class letter --sender miller --since 2024-06-01; "
         "vaultdesk find --prefix 2024/ --since 2024-06-01 --before 2024-07-01 --csv",
     )
     it.add_argument("text", nargs="?", help="a part of the key, letter by letter")
@@ -149,6 +173,9 @@ def add(commands: argparse._SubParsersAction[argparse.ArgumentParser], common: a
     content.add_argument("--same-as", metavar="FILE", help="the content is this file's")
     it.add_argument("--since", metavar="DATE", help="admitted at that moment or later")
     it.add_argument("--before", metavar="DATE", help="admitted earlier than that")
+    cards.add_words(it, FINDING)
+    it.add_argument("--dated-since", metavar="DATE", help="its own date is that day or later")
+    it.add_argument("--dated-before", metavar="DATE", help="its own date is earlier than that")
     state = it.add_mutually_exclusive_group()
     state.add_argument("--held", action="store_true", help="without what was removed")
     state.add_argument("--removed", action="store_true", help="only what was removed")

@@ -7,7 +7,7 @@ from dataclasses import dataclass
 from pathlib import Path
 
 from vaultdesk import sheets
-from vaultdesk.columns import IGNORED, NAMES, OF_ROWS, Meanings, folded
+from vaultdesk.columns import IGNORED, NAMES, Meanings, folded, of_rows
 from vaultdesk.errors import DeskError, UsageError
 from vaultdesk.output import say
 from vaultdesk.sheets import Line, Sheet
@@ -118,20 +118,21 @@ def _squared(place: str, heads: Sequence[str], lines: Sequence[Line], is_cut: bo
     return Listed(place, names, even)
 
 
-def unknown(given: Listed, meanings: Meanings, allowed: Sequence[str] = OF_ROWS) -> list[str]:
+def unknown(given: Listed, meanings: Meanings, allowed: Sequence[str] | None = None) -> list[str]:
     """The names of its columns that aren't known, or that nothing of such an inventory is."""
-    return [it for it in given.heads if it.strip() and meanings.get(folded(it)) not in (*allowed, IGNORED)]
+    known = (*(allowed or of_rows()), IGNORED)
+    return [it for it in given.heads if it.strip() and meanings.get(folded(it)) not in known]
 
 
-def rows(given: Listed, meanings: Meanings, allowed: Sequence[str] = OF_ROWS) -> list[Row]:
+def rows(given: Listed, meanings: Meanings, of_classes: Sequence[str] | None = None) -> list[Row]:
     """The rows by what their columns are; columns that aren't known are left out.
 
     `DeskError` where two columns are the same."""
-    kinds = [meanings.get(folded(it), "") for it in given.heads]
+    kinds, allowed = [meanings.get(folded(it), "") for it in given.heads], of_classes or of_rows()
     for kind in allowed:
         names = [repr(it) for it, there in zip(given.heads, kinds, strict=True) if there == kind]
         if len(names) > 1:
-            how = "leave all but one of them out by --ignore-columns" if allowed == OF_ROWS else "leave one of them"
+            how = "leave one of them" if of_classes else "leave all but one of them out by --ignore-columns"
             raise DeskError(f"{given.place}: two columns mean the same, {kind}: {', '.join(names)}: {how}")
     found = []
     for number, cells in given.lines:

@@ -2,21 +2,17 @@
 
 from __future__ import annotations
 
-import datetime as dt
 import re
 from collections.abc import Mapping, Sequence
 from dataclasses import dataclass, field
-from pathlib import Path
 
-from vaultdesk import dates, inventory, moments
-from vaultdesk.columns import NAMES, OF_CLASSES
-from vaultdesk.errors import DeskError, UsageError
-from vaultdesk.output import say
+from vaultdesk import cards, classes, dates, inventory, moments
+from vaultdesk.cards import Card
+from vaultdesk.classes import Class
+from vaultdesk.errors import UsageError
 
-MOST_YEARS = 1_000  # of a class
 ERRORS = ("#N/A", "#REF!", "#VALUE!", "#NAME?", "#DIV/0!", "#NULL!", "#NUM!")
 SHORTENED = re.compile(r"\d([.,]\d+)?E\+\d+")
-PERMANENT = ("permanent", "unlimited", "dauernd")  # in the place of a class's years
 MODES = ("", "GOVERNANCE", "COMPLIANCE")
 
 
@@ -29,7 +25,8 @@ class Item:
     `is_far`: its retention ends in more than thirty years; `is_doubled`: the vault holds its content already;
     `is_second`: an earlier row of the delivery has the same one; `is_skipped`: it is left out for one of the two;
     `is_above`: the bucket holds a document of its key already, `is_here`: one of its content, `is_again`: of both;
-    `is_taken`: its line of the batch was taken in before; `is_by_default`: its retention is the bucket's default."""
+    `is_taken`: its line of the batch was taken in before; `is_by_default`: its retention is the bucket's default.
+    `event` is the one that its class may count from; `card` has the facts that are kept beside it."""
 
     number: int
     line: int
@@ -39,6 +36,7 @@ class Item:
     until: str
     hold: str
     kind: str = ""
+    event: str = ""
     date: str = ""
     wanted: str = ""
     digest: str = ""
@@ -52,6 +50,7 @@ class Item:
     is_taken: bool = False
     is_skipped: bool = False
     is_by_default: bool = False
+    card: Card | None = None
     wrong: list[str] = field(default_factory=list)
     notes: list[str] = field(default_factory=list)
 
@@ -62,63 +61,30 @@ class Item:
 
 
 @dataclass(frozen=True)
-class Class:
-    """How long documents of a class are kept: up to the first January after that many whole years, or for ever."""
-
-    years: int | None
-    mode: str
-
-
-@dataclass(frozen=True)
 class Asked:
-    """What the words of a delivery ask of its rows: the classes, and the end and the mode of rows without their own."""
+    """What the words of a delivery ask of its rows: the classes, and the end and the mode of rows without their own;
+    what the settings have of facts that only the office knows; and the days of the events that were reported."""
 
     classes: Mapping[str, Class] | None = None
     until: str = ""
     mode: str = ""
-
-
-def read_classes(path: Path) -> dict[str, Class]:
-    """The classes of a file with the columns class, years and mode. `DeskError` where a cell isn't right."""
-    found = {}
-    given = inventory.listed(path, OF_CLASSES)
-    unused = inventory.unknown(given, NAMES, OF_CLASSES)
-    if unused:
-        say(f"{given.place}: columns that aren't used: {', '.join(map(repr, unused))}")
-    for row in inventory.rows(given, NAMES, OF_CLASSES):
-        name, years, mode = (row.cells[it] for it in OF_CLASSES)
-        is_number = years.isascii() and years.isdecimal() and int(years) <= MOST_YEARS
-        if not is_number and years.casefold() not in PERMANENT or mode not in MODES[1:]:
-            why = f"years is a number up to {MOST_YEARS:,}, or permanent, and mode GOVERNANCE or COMPLIANCE"
-            raise DeskError(f"{given.place}: row {row.number}: class {name!r}: {why}")
-        if name in found:
-            raise DeskError(f"{given.place}: row {row.number}: class {name!r} comes twice")
-        found[name] = Class(int(years) if is_number else None, mode)
-    return found
-
-
-def end_of(kept: Class, begun: dt.date | None) -> str:
-    """The end of a class's retention: 1 January after `years` whole years from the year of that day, or the last moment
-    that there is. `UsageError` where no day is given, or the end would be later than that moment."""
-    if kept.years is None:
-        return moments.LAST
-    if begun is None:
-        raise UsageError("its class counts from the document's date, and it has none")
-    if begun.year + kept.years + 1 > dt.MAXYEAR:
-        raise UsageError(f"its class ends after {moments.LAST}: years is permanent for what is kept for ever")
-    return f"{begun.year + kept.years + 1:04}-01-01T00:00:00Z"
+    fields: tuple[str, ...] = ()
+    events: Mapping[str, str] = field(default_factory=dict)
 
 
 def _of_class(it: Item, asked: Asked) -> tuple[str, str]:
     """The mode and the end of an item's class."""
     if asked.classes is None:
-        raise UsageError(f"class {it.kind!r}: give the file of classes by --classes, or pass its column over")
+        how = "give the file of classes by --classes, set a schedule (vaultdesk schedule set), or pass its column over"
+        raise UsageError(f"class {it.kind!r}: {how}")
     if it.kind not in asked.classes:
         raise UsageError(f"no class {it.kind!r} in the file of classes")
     kept = asked.classes[it.kind]
     if it.mode not in ("", kept.mode):
         raise UsageError(f"its mode is {it.mode}, and that of its class {kept.mode}: leave one of them out")
-    return kept.mode, end_of(kept, dates.day_of(it.date) if it.date else None)
+    if classes.is_waiting(kept, it.event, asked.events):
+        it.notes.append(f"it waits for the event {it.event!r}, which sets its end")
+    return classes.lock_of(kept, it.date, it.event, asked.events)
 
 
 def _lock(it: Item, asked: Asked) -> tuple[str, str]:
@@ -140,6 +106,7 @@ def item_of(line: int, row: inventory.Row, asked: Asked, orders: Mapping[str, da
     """A row of the inventory as an item; `orders` has how the columns date and until have their dates."""
     cells = row.cells
     it = Item(row.number, line, cells["file"], cells.get("key") or cells["file"], cells.get("mode", ""), "", "")
+    it.event = " ".join(cells.get("event", "").split())
     it.hold, it.kind, it.wanted = cells.get("hold", "").upper(), cells.get("class", ""), cells.get("sha256", "").lower()
     if not cells.get("key", "-"):
         it.notes.append("it has no key: its file's name is taken")
@@ -153,7 +120,20 @@ def item_of(line: int, row: inventory.Row, asked: Asked, orders: Mapping[str, da
     except UsageError as error:
         it.until = ""
         it.wrong.append(str(error))
+    it.card = _card_of(it, cells, asked)
+    if it.card and cards.why_not(it.key):
+        it.wrong.append(cards.why_not(it.key))
     return it
+
+
+def _card_of(it: Item, cells: Mapping[str, str], asked: Asked) -> Card | None:
+    """The facts of a row, where it has more than its date and a class that no schedule of the vault has."""
+    more = {name: cells[name] for name in ("title", "sender", "reference") if cells.get(name)}
+    own = {name: cells[name] for name in asked.fields if cells.get(name)}
+    found = (asked.classes or {}).get(it.kind) if it.kind else None
+    kept = found if found and found.schedule else None
+    whole = {**more, "date": it.date, "class": it.kind, "event": it.event}
+    return Card(whole, own, kept) if more or own or kept else None
 
 
 def items_of(rows: Sequence[inventory.Row], asked: Asked, order: str | None, paths: Mapping[str, str]) -> list[Item]:

@@ -16,6 +16,7 @@ from vaultdesk.errors import UsageError
 
 PERIOD = re.compile(r"(\d{1,6}) (day|year)s?")
 SECONDS = 86_400
+LONGEST_KEY = 1_024  # bytes of UTF-8 that a key has at most
 
 
 @dataclass(frozen=True)

@@ -10,7 +10,7 @@ from collections.abc import Callable, Mapping, Sequence
 from pathlib import Path
 from typing import Any
 
-from vaultdesk import defaults, limits, moments
+from vaultdesk import cards, defaults, limits, moments, reasons
 from vaultdesk.asking import add_yes, confirm
 from vaultdesk.cases import HOLD, RELEASE, Cases, Note, check_name, file_beside
 from vaultdesk.engine import Engine
@@ -146,11 +146,17 @@ class _Holds:
             return _each(found, change)
 
 
+def _meant(engine: Engine, words: argparse.Namespace) -> list[Target]:
+    """The versions that a lock is set on: those that are named, and the facts of each. A prefix names both."""
+    found = targets(engine, words)
+    return found if words.prefix is not None else cards.with_facts(engine, found)
+
+
 def hold(engine: Engine, words: argparse.Namespace) -> None:
     """Sets a legal hold on each version that is meant."""
     with work(engine, words.dry_run) as done:
         holds = _Holds(done, words, engine.desk.file)
-        rows = holds.carry_out(targets(done.engine, words), holds.hold)
+        rows = holds.carry_out(_meant(done.engine, words), holds.hold)
     _print(rows, words)
 
 
@@ -160,7 +166,7 @@ def release(engine: Engine, words: argparse.Namespace) -> None:
     with work(engine, words.dry_run) as done:
         holds = _Holds(done, words, engine.desk.file)
         if named or holds.case is None:
-            rows = holds.carry_out(targets(done.engine, words), holds.release)
+            rows = holds.carry_out(_meant(done.engine, words), holds.release)
         else:
             rows = _release_case(holds, holds.case)
     _print(rows, words)
@@ -190,7 +196,7 @@ def retain(engine: Engine, words: argparse.Namespace) -> None:
     """Sets a retention on each version that is meant."""
     until = moments.read(words.until)
     with work(engine, words.dry_run) as done:
-        found = targets(done.engine, words)
+        found = _meant(done.engine, words)
         _look_at_end(engine, words, found, until)
         rows = _each(found, lambda it: _retained(done, words, it, until))
         _note_modes(done.engine, rows, words.mode)
@@ -244,6 +250,7 @@ def delete(engine: Engine, words: argparse.Namespace) -> None:
         if any(it.version is None for it in found):
             why = "what is removed for good is named by its number"
             raise UsageError(f"{why}: give --version N, or a list with versions")
+        noting = reasons.begun(engine, words)
         if not words.dry_run:
             confirm(words, f"{len(found)} versions are removed for good")
 
@@ -252,6 +259,8 @@ def delete(engine: Engine, words: argparse.Namespace) -> None:
             return {"is": done.text(f"removed ({removed['cause']})" if removed else "asked for")}
 
         rows = _each(found, change)
+    if noting and not words.dry_run:
+        reasons.note(engine, noting, [it for it in rows if not it["refused"]])
     _print(rows, words)
 
 
@@ -297,5 +306,7 @@ def add(commands: argparse._SubParsersAction[argparse.ArgumentParser], common: a
     it = commands.add_parser("delete", parents=[common], help=what, description=UNWIPED, epilog=example)
     add_targets(it)
     it.add_argument("--bypass", action="store_true", help="also under a retention in GOVERNANCE")
+    it.add_argument("--reason", metavar="TEXT", help="why, which is kept as a document of the office")
+    it.add_argument("--authority", metavar="TEXT", help="with --reason: by which disposal authority")
     add_yes(it)
     it.set_defaults(run=delete)

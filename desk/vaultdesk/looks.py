@@ -12,10 +12,9 @@ from vaultdesk import keys, moments
 from vaultdesk.documents import MOST
 from vaultdesk.folder import Folder, is_of_system
 from vaultdesk.items import MODES, Item
-from vaultdesk.limits import Limits, why_outside
+from vaultdesk.limits import LONGEST_KEY, Limits, why_outside
 from vaultdesk.there import There
 
-LONGEST_KEY = 1_024  # bytes of UTF-8
 HOLDS = ("", "ON", "OFF")
 
 

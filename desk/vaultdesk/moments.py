@@ -39,6 +39,19 @@ def tomorrow() -> str:
     return text_of(dt.datetime.now(dt.timezone.utc) + dt.timedelta(days=1))
 
 
+def day_after(moment: str) -> str:
+    """The day after that of a moment, as 2024-01-16."""
+    return (dt.date.fromisoformat(moment[:10]) + dt.timedelta(days=1)).isoformat()
+
+
+def after_days(moment: str, days: int) -> str:
+    """The moment a number of days after another one; the last that there is where it would be later."""
+    try:
+        return of_seconds(seconds_of(moment) + days * 86_400)
+    except (ValueError, OverflowError):
+        return LAST
+
+
 def is_far(end: str, at: str) -> bool:
     """Whether an end lies more than thirty years after a moment, as one with a mistyped year does.
 

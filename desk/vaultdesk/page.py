@@ -8,12 +8,13 @@ import sys
 from collections.abc import Sequence
 from pathlib import Path
 
-from vaultdesk import config, moments, snapshot
+from vaultdesk import config, moments, noted, snapshot
 from vaultdesk.documents import write_content
 from vaultdesk.errors import UsageError
 from vaultdesk.facts import (
     CAUSES, Bucket, Caller, Department, Ending, Facts, Hold, Removal, Rule, as_json, facts_of, removed_by_month,
 )  # fmt: skip
+from vaultdesk.noted import Noted
 from vaultdesk.output import print_json
 from vaultdesk.page_style import HATCH, SCRIPT, STYLE
 
@@ -117,26 +118,31 @@ def _buckets(found: Sequence[Bucket], rules: Sequence[Rule]) -> list[str]:
     ]
 
 
-def _callers(found: Sequence[Caller]) -> list[str]:
+def _callers(found: Sequence[Caller], notes: Noted) -> list[str]:
+    head = ["person"] if notes.people else []
+    rows = [(it.name, *([notes.all_persons(it.name)] if head else []), *it[1:]) for it in found]
     return [
         "<h2>Callers</h2>",
         "<p>Who may do what, in the buckets of the caller's department. A closed caller can do nothing.</p>",
-        table(("caller", "department", "state", "rights"), found, "callers"),
+        table(("caller", *head, "department", "state", "rights"), rows, "callers"),
     ]
 
 
-def _register(found: Sequence[Removal]) -> list[str]:
+def _register(found: Sequence[Removal], notes: Noted) -> list[str]:
+    titles = [notes.facts(it._asdict()).get("title", "") for it in found]
+    head: Sequence[str] = (*Removal._fields, *(["title"] if any(titles) else []))
+    rows = [(*it, title)[:len(head)] for it, title in zip(found, titles, strict=True)]
     markers = sum(it.kind == "marker" for it in found)
     return [
         "<h2>Register of removals</h2>",
         f"<p>{text(len(found) - markers)} documents and {text(markers)} delete markers.</p>",
         '<p class="tools"><label>Search <input id="search" type="search" size="40"></label>'
         ' <output id="found"></output> — a click on a column’s name sorts by it.</p>',
-        table(Removal._fields, found, "register"),
+        table(head, rows, "register"),
     ]
 
 
-def page_of(facts: Facts) -> str:
+def page_of(facts: Facts, notes: Noted) -> str:
     """The whole page."""
     return "\n".join(
         [
@@ -145,6 +151,7 @@ def page_of(facts: Facts) -> str:
             '<meta name="viewport" content="width=device-width, initial-scale=1"><link rel="icon" href="data:,">',
             f"<title>{text(facts.name)}</title><style>{STYLE}</style></head><body>",
             HATCH,
+            *([f"<p>{text(notes.office)}</p>"] if notes.office else []),
             f"<h1>{text(facts.name)}</h1>",
             f"<p>As it stood at {facts.at}; its last change is of {facts.last}. The audit of"
             " <code>vaultctl verify</code> isn’t part of this page.</p>",
@@ -153,9 +160,9 @@ def page_of(facts: Facts) -> str:
             *_ending(facts.ending),
             *_holds(facts.holds),
             *_buckets(facts.buckets, facts.rules),
-            *_callers(facts.callers),
+            *_callers(facts.callers, notes),
             '<div class="wide">',
-            *_register(facts.removals),
+            *_register(facts.removals, notes),
             f"</div><script>{SCRIPT}</script></body></html>",
         ]
     )
@@ -168,11 +175,11 @@ def page(words: argparse.Namespace) -> int:
         raise UsageError("no vault is named: give FILE, or set $VAULT")
     at = moments.seconds_of(moments.read(words.at) if words.at else moments.now())
     with snapshot.readable(config.settings().file_of(vault)) as tables:
-        found = facts_of(tables, at)
+        found, notes = facts_of(tables, at), noted.of(tables)
     if words.json:
         print_json(as_json(found))
         return 0
-    content = page_of(found).encode() + b"\n"
+    content = page_of(found, notes).encode() + b"\n"
     if words.out:
         write_content(Path(words.out), content, words.force)
     else:

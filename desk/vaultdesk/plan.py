@@ -32,13 +32,20 @@ def row_of(it: Item, default: Default) -> Row:
     said += ["taken in before"] if it.is_taken and not it.is_out else []
     said += [f"by the bucket's default of {default.period}"] if it.is_by_default and not it.is_out else []
     row = {"row": it.number, "file": it.file, "key": it.key, "class": it.kind, "date": it.date, "mode": mode}
-    return {**row, "end": end, "size": "" if it.size is None else it.size, "note": "; ".join([*said, *it.notes])}
+    row |= {"end": end, "size": "" if it.size is None else it.size, "note": "; ".join([*said, *it.notes])}
+    return row | {name: value for name, value in (it.card.shown() if it.card else {}).items() if name not in row}
+
+
+def columns_of(rows: Sequence[Row]) -> tuple[str, ...]:
+    """The columns of the plan: also those of facts that a row has."""
+    facts = dict.fromkeys(name for row in rows for name in row if name not in COLUMNS)
+    return (*COLUMNS[:5], *facts, *COLUMNS[5:])
 
 
 def write(path: Path, rows: Sequence[Row], force: bool) -> None:
     """Writes the plan as CSV. `DeskError` where the file is there and may not be written over."""
     text = io.StringIO()
-    writer = csv.DictWriter(text, COLUMNS, lineterminator="\n")
+    writer = csv.DictWriter(text, columns_of(rows), restval="", lineterminator="\n")
     writer.writeheader()
     writer.writerows(rows)
     write_content(path, text.getvalue().encode("utf-8", "backslashreplace"), force)

@@ -1,5 +1,5 @@
 """What the desk reads in the vault's tables while the engine hasn't the file; it never writes there, and nothing else
-of the desk opens them.
+of the desk opens them, or an index of them (`index.py`).
 
 Lists, pasts and sums are asked by the queries that auditors have too (`contrib/queries`), so that stock `sqlite3` gives
 the same answers.
@@ -7,10 +7,11 @@ the same answers.
 
 from __future__ import annotations
 
+import os
 import re
 import sqlite3
 import urllib.parse
-from collections.abc import Iterator, Mapping, Sequence
+from collections.abc import Iterable, Iterator, Mapping, Sequence
 from contextlib import closing, contextmanager
 from pathlib import Path
 from typing import Any
@@ -130,6 +131,22 @@ def unguarded(file: Path, name: str, **values: Any) -> list[Row]:
     with _opened(file) as opened:
         opened.execute(NO_LOCKS)
         return Tables(opened).query(name, **values)
+
+
+def make(file: Path, statements: Sequence[str], tables: Mapping[str, Iterable[Sequence[Any]]]) -> None:
+    """Makes a new file of tables by these statements, for this user alone, with their rows; it is no vault.
+
+    `EngineError` where that can't be done."""
+    try:
+        os.close(os.open(file, os.O_WRONLY | os.O_CREAT | os.O_EXCL, 0o600))
+        with closing(sqlite3.connect(file)) as made, made:
+            for it in statements:
+                made.execute(it)
+            for name, found in tables.items():
+                width = len(made.execute(f"SELECT * FROM {name}").description)
+                made.executemany(f"INSERT INTO {name} VALUES ({', '.join('?' * width)})", found)
+    except sqlite3.Error as error:
+        raise _error(file, error) from error
 
 
 def of_two(file: Path, old: Path, statement: str) -> list[tuple[Any, ...]]:

@@ -10,7 +10,7 @@ from collections.abc import Callable, Iterable, Iterator, Mapping, Sequence
 from pathlib import Path
 from typing import Any
 
-from vaultdesk import certificate_page, evidence, moments, paper, parts, reading, spreadsheet
+from vaultdesk import certificate_page, evidence, moments, noted, paper, parts, reading, spreadsheet
 from vaultdesk.engine import Engine
 from vaultdesk.errors import DeskError, Refused, UsageError, of_file
 from vaultdesk.history import number
@@ -73,6 +73,7 @@ def certificates(engine: Engine, words: argparse.Namespace) -> None:
     since, before = _span(words)
     rows = reading.query(engine.tables, "removed", since=since, before=before)
     callers = _callers(engine) if words.any_caller else {}
+    notes = noted.of(engine.tables)
     folder = Path(words.folder)
     page, pdf = folder / "certificates.html", folder / "certificates.pdf"
     paths = [folder / f"certificate-{it['version']:010}.txt" for it in rows]
@@ -81,9 +82,9 @@ def certificates(engine: Engine, words: argparse.Namespace) -> None:
     try:
         folder.mkdir(parents=True, exist_ok=True)
         certified = counted_off(_certified(engine, rows, callers), "certificates", len(rows))
-        for path, text in zip(paths, certified, strict=True):
+        for path, row, text in zip(paths, rows, certified, strict=True):
             path.write_bytes(text.encode())
-            texts.append(text)
+            texts.append((text, noted.as_html(notes.of_removed(row))))
         made = certificate_page.page(texts, engine.desk.asker)
         page.write_text(made, encoding="utf-8")
         if words.pdf:
@@ -96,6 +97,15 @@ def certificates(engine: Engine, words: argparse.Namespace) -> None:
         print(f"{len(rows)} certificates in {folder}")
 
 
+def _noted(engine: Engine, words: argparse.Namespace) -> str:
+    """What the office noted of a removed version, for its page; empty where no page is asked for."""
+    if not (words.html or words.pdf):
+        return ""
+    rows = reading.query(engine.tables, "removed", since=None, before=None)
+    notes = noted.of(engine.tables)
+    return next((noted.as_html(notes.of_removed(it)) for it in rows if it["version"] == words.number), "")
+
+
 def certificate(engine: Engine, words: argparse.Namespace) -> None:
     """Prints the certificate of one removed version, by its number alone, or writes its page."""
     statement = "SELECT bucket, id, removed FROM entries WHERE id = ?"
@@ -105,7 +115,7 @@ def certificate(engine: Engine, words: argparse.Namespace) -> None:
         raise DeskError(f"version {words.number} {what}: a certificate is of a removed version")
     row = {"bucket": str(found[0][0]), "version": words.number}
     [text] = _certified(engine, [row], _callers(engine) if words.any_caller else {})
-    is_written = paper.write(words, certificate_page.page([text], engine.desk.asker))
+    is_written = paper.write(words, certificate_page.page([(text, _noted(engine, words))], engine.desk.asker))
     if words.json:
         print_json({**row, "text": text})
     elif not is_written:
@@ -124,7 +134,8 @@ def print_register(engine: Engine, words: argparse.Namespace) -> None:
     if words.documents:
         rows = [it for it in rows if it["kind"] == "version"]
     if words.xlsx:
-        spreadsheet.write(Path(words.xlsx), "register", rows, COLUMNS, words.force)
+        whole, facts = noted.of(engine.tables).registered(rows)
+        spreadsheet.write(Path(words.xlsx), "register", whole, (*COLUMNS, *facts), words.force)
     elif words.json:
         print_json(rows)
     else:

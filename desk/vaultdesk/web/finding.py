@@ -8,7 +8,7 @@ from typing import Any
 
 from vaultdesk import reading
 from vaultdesk.documents import kind_of
-from vaultdesk.find import FOUND
+from vaultdesk.index import FOUND
 from vaultdesk.web.allowed import Allowed, all_buckets, allowed, buckets_of
 from vaultdesk.web.libraries import library
 from vaultdesk.web.visit import given, page, visit
