@@ -35,7 +35,7 @@ const light = (text) => {
 const below = (it) => {
     for (; it; it = it.parentElement) {
         const back = getComputedStyle(it).backgroundColor;
-        if (!back.endsWith(", 0)") && back !== "transparent") return back;
+        if (!/^rgba\\(.*, 0\\)$/.test(back)) return back;
     }
     return "rgb(255, 255, 255)";
 };
