@@ -77,7 +77,8 @@ def certificates(engine: Engine, words: argparse.Namespace) -> None:
     folder = Path(words.folder)
     page, pdf = folder / "certificates.html", folder / "certificates.pdf"
     paths = [folder / f"certificate-{it['version']:010}.txt" for it in rows]
-    _free([*paths, page, *([pdf] if words.pdf else [])], words.force)
+    _free([*paths, page], words.force)
+    _free([pdf] if words.pdf else [], words.force)
     texts = []
     try:
         folder.mkdir(parents=True, exist_ok=True)
