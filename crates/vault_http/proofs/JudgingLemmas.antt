@@ -19,7 +19,7 @@ use Rattle.vault_http.specs.declared.fault.ServeFault.{ServeFault}
 use Rattle.vault_http.specs.declared.fault.ServeFault.TheVariants as faults
 use Rattle.vault_http.specs.declared.judging.Judgement.{Judgement}
 use Rattle.vault_http.specs.declared.judging.Judgement.TheVariants.{Nothing, Denied, Planned}
-use Rattle.vault_http_request.specs.declared.plan.Planned.TheVariants as asked
+use Rattle.vault_http_request.specs.declared.plan.HeadPlan.TheVariants as asked
 use Rattle.vault_http_request.specs.declared.plan.Plan.{Plan}
 
 -- the parts of a head ask for what the head does

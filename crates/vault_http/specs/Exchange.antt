@@ -23,8 +23,8 @@ use Rattle.vault_http_request.specs.Plan.{asked_in, asked_of}
 use Rattle.vault_http_target.specs.Fields.{Fields}
 use Rattle.vault_http_request.specs.declared.operation.Resource.{Resource}
 use Rattle.vault_http_request.specs.declared.operation.Resource.TheVariants as resource
-use Rattle.vault_http_request.specs.declared.plan.Planned.{Planned}
-use Rattle.vault_http_request.specs.declared.plan.Planned.TheVariants as asked
+use Rattle.vault_http_request.specs.declared.plan.HeadPlan.{HeadPlan}
+use Rattle.vault_http_request.specs.declared.plan.HeadPlan.TheVariants as asked
 use Rattle.vault_http_request.specs.declared.plan.Plan.{Plan}
 use Rattle.vault_http.specs.Command.{command_after}
 
@@ -78,7 +78,7 @@ allow_of resource.Lifecycle = allow.Lifecycle
 
 -- what a head asks for, or why it is refused
 abbrev pub Said : Type 0
-Said = Result Planned Refusal
+Said = Result HeadPlan Refusal
 
 -- a head asks for a plan, or is refused, with the methods that its target has where it hasn't this one
 abbrev pub OnSaid : (Plan → Type 0) → (Refusal → Option Allow → Type 0) → Said → Type 0
@@ -96,7 +96,7 @@ abbrev pub is_shown : List ℕ → Bool
 is_shown method = not (is_head method)
 
 -- what a head asks for
-abbrev pub head_asked : Option ℕ → RequestHead → Result Planned Refusal
+abbrev pub head_asked : Option ℕ → RequestHead → Result HeadPlan Refusal
 head_asked moment h = asked_of moment h.method h.target h.minor (map name_and_value h.fields)
 
 -- a head with these headers is refused where it is for none of the hosts

@@ -7,7 +7,7 @@ use Rattle.vault_http_request.specs.Head.{IsHead, HasNoHead}
 use Rattle.vault_http.specs.declared.carrying.Denial.{Denial}
 use Rattle.vault_http.specs.declared.judging.Judgement.{Judgement}
 use Rattle.vault_http.specs.declared.judging.Judgement.TheVariants.{Nothing, Denied, Planned}
-use Rattle.vault_http_request.specs.declared.plan.Planned.TheVariants as asked
+use Rattle.vault_http_request.specs.declared.plan.HeadPlan.TheVariants as asked
 
 -- there is no head
 abbrev pub no_head : Denial

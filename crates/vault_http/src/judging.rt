@@ -17,7 +17,7 @@ use vault_base::moment::Moment;
 use vault_base::refusal::Refusal;
 use vault_http_request::host::{Hosts, is_for};
 use vault_http_request::operation::Resource;
-use vault_http_request::plan::{Planned, Plan, asked_of};
+use vault_http_request::plan::{HeadPlan, Plan, asked_of};
 use vault_http_request::read::head::{Front, read_head};
 use vault_values::fault::LineFault;
 
@@ -59,7 +59,7 @@ fn spans_asked(
     buf: &[u8],
     headers: &[HeaderSpan],
     spans: RequestSpans,
-) -> Result<Planned, LineFault>
+) -> Result<HeadPlan, LineFault>
     requires within { IsRequestWithin buf.now headers.now spans }
     requires room { length headers.now ≡ 64 }
     ensures value { Gives (λ x. x) result (spec.spans_asked hosts.now moment buf.now headers.now spans) }
@@ -72,12 +72,12 @@ fn spans_asked(
 }
 
 /// What a head comes to that asks for this.
-fn judgement_of(asked: Planned, shown: bool) -> Judgement
+fn judgement_of(asked: HeadPlan, shown: bool) -> Judgement
     ensures { (moment : Option ℕ) → IsAt moment asked → ComesTo moment shown (Ok asked) result }
 {
     match asked {
-        Planned::Plan(plan) => Judgement::Planned(plan, shown),
-        Planned::NotAllowed(resource) => Judgement::Denied(
+        HeadPlan::Plan(plan) => Judgement::Planned(plan, shown),
+        HeadPlan::NotAllowed(resource) => Judgement::Denied(
             Refusal::MethodNotAllowed,
             Some(allow_of(resource)),
             shown,

@@ -24,7 +24,7 @@ pub struct Plan {
 
 /// What a head asks for.
 #[derive(Drop)]
-pub enum Planned {
+pub enum HeadPlan {
     Plan(Plan),
     /// The target hasn't the method.
     NotAllowed(Resource),
@@ -48,14 +48,14 @@ fn planned(
     minor: u8,
     buf: &[u8],
     headers: &[HeaderSpan],
-) -> Result<Planned, LineFault>
+) -> Result<HeadPlan, LineFault>
     requires within { All (IsHeaderWithin (length buf.now)) headers.now }
     requires few { length headers.now ≤ 64 }
     ensures value { Gives (λ x. x) result (spec.planned at operation minor (map (header_bytes buf.now) headers.now)) }
     ensures at { IfOk result (spec.IsAt (Some at)) }
 {
     match request_headers_of(alloc, accepted_headers_of(&operation), minor, buf, headers) {
-        Ok(read) => Ok(Planned::Plan(Plan {
+        Ok(read) => Ok(HeadPlan::Plan(Plan {
             at,
             operation,
             headers: read,
@@ -74,7 +74,7 @@ fn allowed(
     minor: u8,
     buf: &[u8],
     headers: &[HeaderSpan],
-) -> Result<Planned, LineFault>
+) -> Result<HeadPlan, LineFault>
     requires within { All (IsHeaderWithin (length buf.now)) headers.now }
     requires few { length headers.now ≤ 64 }
     ensures value { Gives (λ x. x) result (spec.allowed at operation minor (map (header_bytes buf.now) headers.now)) }
@@ -82,7 +82,7 @@ fn allowed(
 {
     match operation {
         Ok(operation) => planned(alloc, at, operation, minor, buf, headers),
-        Err(resource) => Ok(Planned::NotAllowed(resource)),
+        Err(resource) => Ok(HeadPlan::NotAllowed(resource)),
     }
 }
 
@@ -97,7 +97,7 @@ pub fn asked_of(
     buf: &[u8],
     headers: &[HeaderSpan],
     spans: RequestSpans,
-) -> Result<Planned, LineFault>
+) -> Result<HeadPlan, LineFault>
     requires within { IsRequestWithin buf.now headers.now spans }
     requires few { length headers.now ≤ 64 }
     ensures value { Gives (λ x. x) result (spec.asked_in moment buf.now headers.now spans) }

@@ -10,8 +10,8 @@ use Rattle.vault_http.specs.declared.answer.head.Allow.{Allow}
 use Rattle.vault_http.specs.declared.fault.ServeFault.{ServeFault}
 use Rattle.vault_http.specs.declared.fault.ServeFault.TheVariants as faults
 use Rattle.vault_http_request.specs.declared.operation.Operation.{Operation}
-use Rattle.vault_http_request.specs.declared.plan.Planned.{Planned}
-use Rattle.vault_http_request.specs.declared.plan.Planned.TheVariants as asked
+use Rattle.vault_http_request.specs.declared.plan.HeadPlan.{HeadPlan}
+use Rattle.vault_http_request.specs.declared.plan.HeadPlan.TheVariants as asked
 use Rattle.vault_http_request.specs.declared.plan.Plan.{Plan}
 use Rattle.vault_http_request.specs.declared.request_headers.Locks.{Locks}
 use Rattle.vaultctl_serve.specs.Whole.{IsBodyWhole, WaitsForAll}
@@ -27,7 +27,7 @@ module _ (Failed : Type 0) (at : ℕ) (shown : Bool) (who : List ℕ) (operation
   stepped-whole (Some bytes) stepped = refl
 
 module _ (Failed : Type 0) (moment : Option ℕ) (shown : Bool) (rest : List ℕ) (old new : Vault) where
-  head-whole : (said : Result Planned Refusal) (out : List ℕ) → HeadJudged Failed moment shown said rest old out new → (new ≡ old) ⊎ IsBodyWhole said rest
+  head-whole : (said : Result HeadPlan Refusal) (out : List ℕ) → HeadJudged Failed moment shown said rest old out new → (new ≡ old) ⊎ IsBodyWhole said rest
   head-whole (Ok (asked.Plan plan)) out served =
       judged-whole Failed plan.at shown plan.headers.caller plan.operation plan.headers.locks old new (body_of plan.headers.length rest) served.0 served.2
   head-whole (Ok (asked.NotAllowed r)) out served = inl served.0
@@ -52,7 +52,7 @@ module _ (Failed : Type 0) (moment : Option ℕ) (shown : Bool) (rest : List ℕ
   denied-left-same faults.Memory r allow before after left = left.0
   denied-left-same faults.Write r allow before after left = left.1.0
 
-  head-left-whole : (e : ServeFault) (said : Result Planned Refusal) (unread before after : Option (List ℕ)) → HeadLeft Failed e moment shown said rest unread old new before after → (new ≡ old) ⊎ IsBodyWhole said rest
+  head-left-whole : (e : ServeFault) (said : Result HeadPlan Refusal) (unread before after : Option (List ℕ)) → HeadLeft Failed e moment shown said rest unread old new before after → (new ≡ old) ⊎ IsBodyWhole said rest
   head-left-whole e (Ok (asked.Plan plan)) unread before after left = plan-left-whole e plan unread before after left
   head-left-whole e (Ok (asked.NotAllowed r)) unread before after left = inr tt
   head-left-whole e (Err r) unread before after left = inr tt

@@ -6,16 +6,16 @@ use Rattle.vault_core_model.specs.Vault.{Vault}
 use Rattle.vault_http.specs.Command.{body_of}
 use Rattle.vault_http.specs.Exchange.{head_asked_for}
 use Rattle.vault_http_request.specs.Head.{IsHead}
-use Rattle.vault_http_request.specs.declared.plan.Planned.{Planned}
-use Rattle.vault_http_request.specs.declared.plan.Planned.TheVariants as asked
+use Rattle.vault_http_request.specs.declared.plan.HeadPlan.{HeadPlan}
+use Rattle.vault_http_request.specs.declared.plan.HeadPlan.TheVariants as asked
 
 -- all of the body came that belongs to what is asked
-abbrev pub IsAskedWhole : Planned → List ℕ → Type 0
+abbrev pub IsAskedWhole : HeadPlan → List ℕ → Type 0
 IsAskedWhole (asked.Plan plan) rest = IsSome (body_of plan.headers.length rest)
 IsAskedWhole (asked.NotAllowed r) rest = Unit {0}
 
 -- the same of a head that may be refused: then it is whole without a body
-abbrev pub IsBodyWhole : Result Planned Refusal → List ℕ → Type 0
+abbrev pub IsBodyWhole : Result HeadPlan Refusal → List ℕ → Type 0
 IsBodyWhole (Ok a) rest = IsAskedWhole a rest
 IsBodyWhole (Err r) rest = Unit {0}
 
