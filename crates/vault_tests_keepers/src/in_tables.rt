@@ -1,5 +1,5 @@
 //! Three commands that are carried out from tables to tables: their replies, and what the tables state then.
-use crate::calls::{batch, made, number};
+use crate::calls::{made, number};
 use sqlite::{Alter, Connection};
 use std::alloc::{AllocError, Global};
 use std::test::Fail;
@@ -69,36 +69,19 @@ fn names_in<S: Alter>(
     }
 }
 
-/// The three commands over a new vault, and what is to come of them.
-#[derive(Clone, Copy)]
-struct Three {
-    /// How the vault's tables are changed before.
-    change: &'static str,
-    /// The names of the replies.
-    names: &'static str,
-    /// How many departments there are then.
-    depts: i64,
-    /// The last moment then, in seconds.
-    last: i64,
-}
-
-/// Makes the vault, and changes its tables.
-fn prepare<S: Alter>(conn: &mut Connection<S>, three: &Three) -> Result<(), Fail> {
-    made(conn).ok().ok_or("a vault can't be made")?;
-    batch(conn, three.change)?;
-    Ok(())
-}
-
-/// Fails unless those are the replies, and the tables state that.
+/// Fails unless those are the replies, and the tables state one department and the last moment.
 fn judge<S: Alter>(
     conn: &mut Connection<S>,
     names: Result<String, AllocError>,
-    three: &Three,
 ) -> Result<(), Fail> {
-    compare("the replies", names?.as_str(), three.names)?;
+    compare(
+        "the replies",
+        names?.as_str(),
+        "done\nNameTaken\nClockBack\n",
+    )?;
     let depts = number(conn, "SELECT count(*) FROM departments")?;
     let last = number(conn, "SELECT last FROM meta")?;
-    if depts == three.depts && last == three.last {
+    if depts == 1 && last == 1_705_309_200 {
         return Ok(());
     }
     Err(Fail::new(format_args!("{depts} departments, and the last moment is {last}")))
@@ -108,24 +91,21 @@ fn carry_out_in<S: Alter>(
     alloc: Global,
     conn: Connection<S>,
     commands: &[Timed],
-    three: &Three,
 ) -> (Result<(), Fail>, Connection<S>) {
     let mut conn = conn;
-    match prepare(&mut conn, three) {
-        Ok(()) => {
-            let (names, conn) = names_in(alloc, conn, commands);
-            let mut conn = conn;
-            (judge(&mut conn, names, three), conn)
-        }
-        Err(fail) => (Err(fail), conn),
+    if made(&mut conn).is_err() {
+        return (Err(Fail::new("a vault can't be made")), conn);
     }
+    let (names, conn) = names_in(alloc, conn, commands);
+    let mut conn = conn;
+    (judge(&mut conn, names), conn)
 }
 
-/// Carries them out in tables in memory. This alone owns these.
-fn carry_out(alloc: Global, three: &Three) -> Result<(), Fail> {
+/// Carries the three commands out in tables in memory. This alone owns these.
+fn carry_out(alloc: Global) -> Result<(), Fail> {
     let commands = commands(alloc).ok_or("three commands")?;
     let conn = Connection::open_in_memory(alloc)?;
-    let (tried, conn) = carry_out_in(alloc, conn, commands.as_slice(), three);
+    let (tried, conn) = carry_out_in(alloc, conn, commands.as_slice());
     drop(conn);
     drop(commands);
     tried
@@ -133,22 +113,5 @@ fn carry_out(alloc: Global, three: &Three) -> Result<(), Fail> {
 
 #[test]
 fn commands_are_carried_out_one_after_another(rt: HostRuntime) -> Result<(), Fail> {
-    let three = Three {
-        change: "",
-        names: "done\nNameTaken\nClockBack\n",
-        depts: 1,
-        last: 1_705_309_200,
-    };
-    carry_out(rt.alloc(), &three)
-}
-
-#[test]
-fn no_command_is_carried_out_over_damaged_tables(rt: HostRuntime) -> Result<(), Fail> {
-    let three = Three {
-        change: "UPDATE meta SET next = 2",
-        names: "Damaged",
-        depts: 0,
-        last: 0,
-    };
-    carry_out(rt.alloc(), &three)
+    carry_out(rt.alloc())
 }
