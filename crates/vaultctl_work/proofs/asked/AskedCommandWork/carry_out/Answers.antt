@@ -1,6 +1,6 @@
 use Rattle.std.proofs.lemmas.Result.{IfOk-weaker}
 use Rattle.vaultctl_work.proofs.AskedLemmas.{done_plainly}
-use Rattle.vaultctl_work.proofs.asked.AskedWork.carry_out.Goals as goal
+use Rattle.vaultctl_work.proofs.asked.AskedCommandWork.carry_out.Goals as goal
 
 pub returns-clause-printed : goal.returns-clause-printed
 returns-clause-printed g c = (c.carry_out_asked.ensures.printed, c.carry_out_asked.ensures.reader, c.carry_out_asked.ensures.device)
