@@ -3,8 +3,9 @@
 A text is `examples/requests/NAME.txt`. It has requests, each a line, and after them the answer to each of these,
 in a line that begins with two spaces; an empty line goes before requests of another answer. `|` stands for CR LF, `\\n`
 for a line feed, `\\t` for a tab, NOTHING for no byte at all, and ` .. ` in an answer for whatever is between its
-beginning and its end; `{TEXT*N}` is that text N times. Where an answer is to have `date: NOW` or `"admitted":"NOW"`, it has a moment, as RFC 9110 writes
-a date or as `YYYY-MM-DDTHH:MM:SSZ`, that is the machine's but for two minutes. Lines that begin with `#` say something.
+beginning and its end; `{TEXT*N}` is that text N times. Where an answer is to have `date: NOW` or `"admitted":"NOW"`, it has a moment, as
+RFC 9110 writes a date or as `YYYY-MM-DDTHH:MM:SSZ`, that is the machine's but for two minutes. Lines that begin with
+`#` say something.
 
 Each text has a vault of its own, which begins with the lines of `examples/requests/opening.jsonl`, and each request a
 connection of its own: its client sends it, ends its sending, and reads up to the end. After the last request the
