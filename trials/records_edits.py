@@ -78,7 +78,7 @@ EDITS = [
     ("page", "*([\"title\"] if any(titles) else [])", "", SHOWN + "test_on_the_page_of_the_vault"),
     ("cards", "if not (it[\"key\"].endswith(ENDING) and it[\"key\"].removesuffix(ENDING) in keys)]", "]",
      SHOWN + "test_in_the_list_of_an_export_and_not_as_files"),
-    ("exporting", "\"admitted\": found[\"admitted\"], **facts}", "\"admitted\": found[\"admitted\"]}",
+    ("exporting", "\"legal_hold\": found[\"hold\"], **facts}", "\"legal_hold\": found[\"hold\"]}",
      SHOWN + "test_in_the_list_of_an_export_and_not_as_files"),
     # the schedule
     ("schedule", "        elif before and after and before.cells != after.cells:\n", "        elif False:\n",
