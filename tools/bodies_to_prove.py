@@ -1,4 +1,4 @@
-"""Wrong bodies that are given to the prover, in a copy of the sources, at most one of a function at a time."""
+"""Mutants that are given to the prover, in a copy of the sources, at most one of a function at a time."""
 
 import pathlib
 import re

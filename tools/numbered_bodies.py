@@ -1,4 +1,4 @@
-"""The sources with wrong bodies, of which a program chooses one by its number."""
+"""The sources with mutants, of which a program chooses one by its number."""
 
 import pathlib
 import re

@@ -1,4 +1,4 @@
-"""Desk: its tests on wrong bodies. Each edit of the four tables has to make the test fail that is beside it.
+"""Desk: its tests on mutants. Each row of the five tables has to make the test fail that is beside it.
 
 The tables are desk_edits.py, records_edits.py (for records officers), door_edits.py (a vault that is served),
 handover_edits.py (what is handed over, on paper too) and s3_edits.py (the gateway for clients of S3). A row of each has

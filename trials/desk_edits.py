@@ -1,4 +1,4 @@
-"""Wrong bodies of the desk, each with the test that has to fail by it (`desk.py`).
+"""Mutants of the desk, each with the test that has to fail by it (`desk.py`).
 
 A row has the module of `desk/vaultdesk`, or a file by its path from the top of the repository, a text that is in it,
 the text in its place, and the test.

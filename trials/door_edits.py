@@ -1,4 +1,4 @@
-"""Wrong bodies of the desk over a server's door, and of copies of a vault that is served; `desk.py` tries them.
+"""Mutants of the desk over a server's door, and of copies of a vault that is served; `desk.py` tries them.
 
 Each is a module of the desk, a text in it and the one that takes its place, and the test that then has to fail.
 """

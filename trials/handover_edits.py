@@ -1,4 +1,4 @@
-"""Wrong bodies of what the desk hands over and takes over, each with the test that has to fail by it (`desk.py`).
+"""Mutants of what the desk hands over and takes over, each with the test that has to fail by it (`desk.py`).
 
 A row is as one of `desk_edits.py`.
 """

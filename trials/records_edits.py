@@ -1,4 +1,4 @@
-"""Wrong bodies of what the desk keeps for records officers, each with the test that has to fail by it (`desk.py`).
+"""Mutants of what the desk keeps for records officers, each with the test that has to fail by it (`desk.py`).
 
 A row has the module of `desk/vaultdesk`, a text that is in it, the text in its place, and the test.
 """

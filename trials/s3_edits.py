@@ -1,4 +1,4 @@
-"""Wrong bodies of the gateway for clients of S3, each with the test that has to fail by it (`desk.py`).
+"""Mutants of the gateway for clients of S3, each with the test that has to fail by it (`desk.py`).
 
 A row has the module of `desk/vaultdesk/s3`, a text that is in it, the text in its place, and the test.
 """
