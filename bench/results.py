@@ -1,6 +1,7 @@
 """What was measured: for each work, size and who did it the times of its turns, and the most memory; as a table, in a
-file, and in a page."""
+file, in a page, and as rows of the CSV files that bench/figures prints."""
 
+import csv
 import json
 import pathlib
 import re
@@ -18,6 +19,22 @@ AIMS = {
     "put, new key": {1_000: 0.72, 10_000: 0.72, 100_000: 0.72, 1_000_000: 0.72},
     "put, key with versions": {1_000: 0.72, 10_000: 0.75, 100_000: 0.90, 1_000_000: 1.0},
 }
+# What the sizes of a part count, where it isn't the entries of the vault.
+SIZES = {
+    "departments": "departments",
+    "volume": "MiB_of_contents",
+    "runs": "keys",
+    "intakes": "files",
+    "mebibytes": "contents_of_1_MiB_a_turn",
+    "listings": "entries_or_held_versions",
+    "removed": "removed_versions",
+    "bodies": "KiB_of_body",
+}
+HOW = re.compile(
+    r"(?P<day>[\d-]+): (?P<processors>\d+) processors, load (?P<load>[\d.]+), SQLite (?P<SQLite>[\d.]+), "
+    r"(?P<synced_writes_of_4_KiB_a_second>[\d,]+) synced .*; (?P<turns>\d+) turns of (?P<ops_a_turn>\d+), "
+    r"(?P<repeats>\d+) repeats"
+)
 
 
 class Results:
@@ -109,6 +126,34 @@ def table(part, kept):
     for row in kept["rows"]:
         lines.append(f"{row['what']:30}{row['size']:>10,}" + "".join(f"{it:>10}" for it in cells(row, both)))
     return "".join(it.rstrip() + "\n" for it in lines)
+
+
+def figures(part, kept):
+    """The rows of a part as the CSV files have them: the day first, and each unit in the name of its column."""
+    both, unit, found = (PROGRAM, kept.get("beside", PEER)), kept["unit"], []
+    names = [f"{who}_{kind}_{unit}" for who in both for kind in ("wall", "processor")]
+    names += ["times_wall", "times_processor", *(f"{who}_most_MiB" for who in both)]
+    for row in kept["rows"]:
+        how = {name: it.replace(",", "") for name, it in HOW.fullmatch(row["how"]).groupdict().items()}
+        numbers = [it.replace(",", "").removesuffix("-") for it in cells(row, both)]
+        found.append({**how, "what": row["what"], SIZES.get(part, "entries"): row["size"], **dict(zip(names, numbers))})
+    return found
+
+
+def add_figures(results, folder):
+    """Adds the rows of a file of results to the CSV files of a folder; rows of other days, works or sizes stay."""
+    for part, kept in json.loads(pathlib.Path(results).read_text()).items():
+        path, new = pathlib.Path(folder) / f"{part}.csv", figures(part, kept)
+        size = SIZES.get(part, "entries")
+        named = {(row["day"], row["what"], str(row[size])) for row in new}
+        old = []
+        if path.exists():
+            with open(path, encoding="utf-8", newline="") as file:
+                old = [it for it in csv.DictReader(file) if (it["day"], it["what"], it[size]) not in named]
+        with open(path, "w", encoding="utf-8", newline="") as file:
+            rows = csv.DictWriter(file, list(new[0]), lineterminator="\n")
+            rows.writeheader()
+            rows.writerows(old + new)
 
 
 def memory_by_size(rows):
