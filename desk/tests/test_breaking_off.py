@@ -120,23 +120,31 @@ class InTheMiddle(OfficeTest):
 class Interrupted(OfficeTest):
     """The desk as a process of its own, which gets the signal of Ctrl-C while the engine is at work."""
 
-    def test_the_vault_is_closed_and_what_was_done_is_said(self) -> None:
-        listed = self.written("list.csv", b"key\n" + b"".join(b"%d\n" % it for it in range(2_000)))
-        self.lines(*({"do": "put", "bucket": "docs", "key": str(it), "text": "a"} for it in range(2_000)))
+    def broken_off(self, listed: str, seconds: int) -> tuple[int, bytes]:
+        """The status and what is written, where the signal comes after these seconds."""
         out, err = os.pipe()
         words = [sys.executable, "-B", str(TOP / "desk" / "bin" / "vaultdesk"), "hold", "docs", "--from", listed]
         child = os.posix_spawn(sys.executable, words, os.environ, file_actions=[
             (os.POSIX_SPAWN_DUP2, err, 1), (os.POSIX_SPAWN_DUP2, err, 2),
         ], setsigdef=[signal.SIGINT])  # fmt: skip
         os.close(err)
-        time.sleep(1.5)
+        time.sleep(seconds)
         os.kill(child, signal.SIGINT)
         said = b""
         while piece := os.read(out, 65_536):
             said += piece
         os.close(out)
-        _, status = os.waitpid(child, 0)
-        self.assertEqual(os.waitstatus_to_exitcode(status), 1, said[-500:])
+        return os.waitstatus_to_exitcode(os.waitpid(child, 0)[1]), said
+
+    def test_the_vault_is_closed_and_what_was_done_is_said(self) -> None:
+        listed = self.written("list.csv", b"key\n" + b"".join(b"%d\n" % it for it in range(10_000)))
+        self.lines(*({"do": "put", "bucket": "docs", "key": str(it), "text": "a"} for it in range(10_000)))
+        # How long the reading takes before the first change depends on the machine.
+        for seconds in range(2, 60):
+            status, said = self.broken_off(listed, seconds)
+            if b"interrupted: nothing was changed" not in said:
+                break
+        self.assertEqual(status, 1, said[-500:])
         self.assertIn(b"Interrupted: it was under way", said)
         self.assertNotIn(b"Traceback", said)
         self.assertEqual(self.done("verify", at=None), "sound\n")
