@@ -24,7 +24,7 @@ import desk_words
 
 TAKES_LONG = True
 INCLUDED = "python3,curl,sqlite3,openssl"
-OTHER_PAGES = ("AUDITOR", "COURT", "ENGINE", "OFFICES", "ENGINEER")
+OTHER_PAGES = ("AUDITOR", "COURT", "formats/PROGRAM", "OFFICES", "ENGINEER")
 STOP = """\
 read -r server < /tmp/server
 rm /tmp/server

@@ -30,7 +30,7 @@ from trials.servers import free_port
 
 # The pages whose commands are tried here; others need vaults beside them, or a system in which the package is.
 PAGES = """
-    README.md contrib/README.md docs/MANUAL.md docs/AUDITOR.md docs/COURT.md docs/ENGINE.md docs/ENGINEER.md
+    README.md contrib/README.md docs/MANUAL.md docs/AUDITOR.md docs/COURT.md docs/ENGINEER.md docs/formats/PROGRAM.md
     docs/OFFICES.md docs/ARCHIVES.md docs/PRIVACY.md docs/RECORDS.md
 """.split()
 PROMPTS = {"```console": "$ ", "```root": "# "}

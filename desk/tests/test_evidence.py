@@ -54,7 +54,7 @@ class Verify(Evidence):
         forged = self.forged("UPDATE departments SET held = held + 1, admitted = admitted + 1")
         done = self.desk("verify", "--vault", str(forged))
         self.assertEqual((done.status, done.out), (1, ""))
-        self.assertRegex(done.err, "damaged departments: /.*/docs/ENGINE.md says what each verdict means")
+        self.assertRegex(done.err, "damaged departments: /.*/docs/formats/PROGRAM.md says what each verdict means")
         told = json.loads(self.desk("verify", "--vault", str(forged), "--json").out)
         self.assertEqual(told, {"sound": False, "verdict": "damaged departments", "of_a_copy": False})
 

@@ -18,7 +18,7 @@ def place_of(name: str) -> Path:
 
 
 def page(name: str) -> Path:
-    """Where a page of the documentation is, such as `ENGINE` or `formats/PROGRAM`: in the sources, or as the package
+    """Where a page of the documentation is, such as `MANUAL` or `formats/PROGRAM`: in the sources, or as the package
     has it."""
     source = HERE.parents[2] / "docs" / f"{name}.md"
     return source if source.is_file() else Path("/usr/share/doc/vaultctl/html") / f"{name.replace('/', '-')}.html"

@@ -181,7 +181,7 @@ def verify(engine: Engine, words: argparse.Namespace) -> None:
     elif is_sound:
         print("sound, by a copy of the vault as it is now" if is_copy else "sound")
     if not is_sound:
-        raise DeskError(f"{engine.desk.file}: {verdict}: {beside.page('ENGINE')} says what each verdict means")
+        raise DeskError(f"{engine.desk.file}: {verdict}: {beside.page('formats/PROGRAM')} says what each verdict means")
 
 
 def _judged(engine: Engine) -> str:
