@@ -1,5 +1,6 @@
 -- The removed entries, handed on one after another.
-use Rattle.std.proofs.Common.{◌≡◌, ◌⊎◌, inl, inr, List, [], ◌∷◌, ◌++◌, map, length, drop, Bool, true, false, Result, Ok, Err, IfOk, OnErr, IsTrue, refl, sym, ap, subst, ◌∙◌}
+use Rattle.std.proofs.Common.{◌≡◌, ◌⊎◌, inl, inr, List, [], ◌∷◌, ◌++◌, map, length, drop, Bool, true, false, Option, Some, None, Result, Ok, Err, IfErr, OnErr, OnOk, IsTrue, arith, refl, sym, ap, subst, ◌∙◌}
+use Rattle.std.specs.Borrow.{Bor}
 use Rattle.std.proofs.Math.Logic.{∥∥₁_elim, ∥∥₁_map}
 use Rattle.std.proofs.Math.Seq.{drop-append_seam}
 use Rattle.std.specs.Coded.{Coded-set, coded_list}
@@ -7,26 +8,40 @@ use Rattle.sqlite_value.specs.Order.{Row}
 use Rattle.sqlite_value.specs.contracts.row.Row as row
 use Rattle.sqlite_schema.specs.contracts.schema.Schema as schema
 use Rattle.sqlite.specs.declared.error.Error.{Error}
+use Rattle.sqlite.specs.declared.error.Error.TheVariants.{SqliteFailure}
+use Rattle.sqlite.specs.declared.error.ErrorCode.TheVariants.{OutOfMemory}
+use Rattle.sqlite.specs.declared.rows.stream.Rows.{Rows}
+use Rattle.sqlite.specs.Next.{HasMoved}
 use Rattle.sqlite_trees.specs.declared.store.Store as store
 use Rattle.sqlite.specs.Given.{HasGiven, HasBegun, IsRefused}
 use Rattle.sqlite.specs.Held.{Held, state}
 use Rattle.sqlite.specs.Listing.{understood}
-use Rattle.sqlite.specs.State.{State, HasCleanDisk, Shown, Begins, IsUnchanged, IsRolledBack, Fails}
-use Rattle.sqlite.proofs.Callers.{IsPlain, begun_plain, given_begin}
+use Rattle.sqlite.specs.State.{State, HasCleanDisk, Survives, CommitsShowing, Shown, Begins, IsUnchanged, IsRolledBack, Fails}
+use Rattle.sqlite.proofs.Callers.{IsPlain, begun_plain, given_begin, unchanged_then}
+use Rattle.sqlite.proofs.StateLemmas.{survives_then}
 use Rattle.vault_core_model.specs.declared.records.Entry.{Entry}
 use Rattle.vault_core_model.specs.Handing.{Taking, TakesAll, TakesSome, Refuses, Hands}
 use Rattle.vault_core_model.specs.Reads.{removed_entries}
 use Rattle.vault_core_model.specs.Vault.{Vault}
+use Rattle.vault_audit_model.specs.Limits.{IsEntry}
 use Rattle.vault_audit_model.specs.Rows.{entry_row}
 use Rattle.vault_audit_model.specs.Tables.{vault_schema}
 use Rattle.vault_audit_model.proofs.SameRows.{same_entry}
+use Rattle.vault_audit_rows.specs.Health.{IsMemory}
+use Rattle.vault_audit_rows.specs.Records.{ReportsOne}
 use Rattle.vault_audit_rows.specs.Walk.{Goes}
 use Rattle.vault_audit_rows.proofs.ScanLemmas.{goes_on_to}
+use Rattle.vault_audit_rows.proofs.WalkLemmas.{goes_on}
 use Rattle.vault_store_model.specs.Keeping.{Keeps}
+use Rattle.vault_store_reads.specs.Quiet.{IsOpenIfOk, IsQuiet, OnlyReads, ReadsQuietly}
+use Rattle.vault_store_reads.specs.Wants.{WantsMemoryIfErr}
+use Rattle.vault_store_reads.proofs.OpenLemmas.{only_reads, quiet}
 use Rattle.vault_store_reads.proofs.QueryLemmas.{finds, keeps_after, unchanged_keeps, was_open}
+use Rattle.vault_store_reads.proofs.WantLemmas.{cause_of}
 use Rattle.vault_store_walks.specs.Handed.{Takes, as_fault}
 use Rattle.vault_store_walks.proofs.RemovedLemmas.{found_removed, removed_query}
-use Rattle.vault_store_walks.proofs.WalkTexts.{removed_text, removed_is, removed_command, removed_plain}
+use Rattle.vault_store_walks.proofs.ReadableRows.{removed_readable}
+use Rattle.vault_store_walks.proofs.WalkTexts.{removed_text, removed_is, removed_command, removed_plain, removed_asked}
 
 module _ {T : Type 0} (takes : Taking T) where
   same_one : (row : Row) (x e : Entry) → row ≡ entry_row x → row ≡ entry_row e → x ≡ e
@@ -106,24 +121,145 @@ module _ {S : Type 0} (g : store.Ghosts S) where
   given_removed old now v was same rows given =
       on_removed (state g now) v (still_kept (state g old) (state g now) v (inl same) was) same.0.is_open rows (given_begin g removed_text [] now rows given)
 
--- ---- answers
+abbrev Undone : State → State → Type 0
+Undone old new = IsUnchanged old new ⊎ IsRolledBack old new
 
-module _ {T : Type 0} (takes : Taking T) (s t : T) (old : State) where
-  -- where the walk failed, some were taken, whatever else it answers
-  pub some_err : (r : Result Bool Error) → ((v : Vault) → ∥ Keeps old v ∥₁ → TakesSome takes s (removed_entries v) t) → OnErr r ((v : Vault) → ∥ Keeps old v ∥₁ → TakesSome takes s (removed_entries v) t)
-  some_err (Ok done) some = tt
-  some_err (Err e) some = some
+undone : {X : Type 0} (old new : State) (r : Result X Error) → OnOk r (IsUnchanged old new) → IfErr r (λ e. Fails old new ⊥ e ⊎ IsUnchanged old new) → Undone old new
+undone old new (Ok x) same kept = inl same
+undone old new (Err e) same (inl fails) = inr fails.3
+undone old new (Err e) same (inr still) = inl still
 
-  pub stated : (r : Result Bool Error) → IfOk r (λ done. (v : Vault) → ∥ Keeps old v ∥₁ → Hands takes s (removed_entries v) (Ok done) t) → OnErr r ((v : Vault) → ∥ Keeps old v ∥₁ → TakesSome takes s (removed_entries v) t)
-      → (v : Vault) → ∥ Keeps old v ∥₁ → Hands takes s (removed_entries v) (as_fault r) t
-  stated (Ok done) all some v was = all v was
-  stated (Err e) all some v was = some v was
+-- ---- a walk as far as it has come, and how it ends
 
--- a query that is refused leaves the vault
-pub refused_keeps : {S X : Type 0} (g : store.Ghosts S) (old new : Held S) (v : Vault) → Keeps (state g old) v → HasCleanDisk (state g new) → (r : Result X Error) → OnErr r (IsRefused g removed_text [] old r new) → IfOk r (λ _. ⊥) → Keeps (state g new) v
-refused_keeps g old new v was clean (Ok x) refused none = absurd none
-refused_keeps g old new v was clean (Err e) refused none = keeps_after removed_text [] (state g old) (state g new) v was (λ (rows : List Row). rows) removed_query removed_is (Err e) tt (refused.err clean)
+module _ {S T : Type 0} (g : store.Ghosts S) (takes : Taking T) (old : Held S) (from : T) where
+  -- the entries of the rows that were given were taken
+  pub record Walking (now : Held S) (to : T) : Type 0 where
+    pub survives : Survives (state g old) (state g now) (IsQuiet (state g old))
+    pub mode : old.in_transaction ≡ false → now.in_transaction ≡ false
+    pub rows : HasCleanDisk (state g now) → (v : Vault) → ∥ Keeps (state g old) v ∥₁ → (given : List Row) × HasGiven g removed_text [] now given × IsUnchanged (state g old) (state g now) × Goes (Takes takes) from given to
 
-pub undone : (old new : State) (e : Error) → Fails old new ⊥ e ⊎ IsUnchanged old new → IsUnchanged old new ⊎ IsRolledBack old new
-undone old new e (inl fails) = inr fails.3
-undone old new e (inr same) = inl same
+  -- what `walk_removed` ensures
+  pub record HasWalked (new : Held S) (to : T) (result : Result Bool Error) : Type 0 where
+    pub value : HasCleanDisk (state g new) → (v : Vault) → ∥ Keeps (state g old) v ∥₁ → Hands takes from (removed_entries v) (as_fault result) to
+    pub read : OnlyReads g old new
+    pub opened : IsOpenIfOk g new result
+    pub memory : WantsMemoryIfErr g old new result
+
+  pub begun : (now : Held S) → (HasCleanDisk (state g now) → HasBegun g removed_text [] old now) → Survives (state g old) (state g now) (CommitsShowing removed_text [] (state g old)) → (old.in_transaction ≡ false → now.in_transaction ≡ false) → Walking now from
+  begun now begins kept alone = record {
+    survives = quiet removed_text [] _ _ removed_query removed_is kept;
+    mode = alone;
+    rows = λ clean v was. let it = begun_removed g old now v was (begins clean) in ([], it.0, it.1, refl);
+  }
+
+  -- the query doesn't begin
+  pub not_begun : {X : Type 0} (new : Held S) (e : Error) (r : Result X Error) → r ≡ Err e → OnErr r (IsRefused g removed_text [] old r new) → HasWalked new from (Err e)
+  not_begun new e r is held = let refused = rw is at held in record {
+    value = λ clean v was. none_taken takes from (removed_entries v);
+    read = only_reads (record {
+      same = λ clean v was. keeps_after removed_text [] (state g old) (state g new) v was (λ (rows : List Row). rows) removed_query removed_is (Err e) tt (refused.err clean);
+      honest = λ clean. omega (arith, refused.survives.clean, clean);
+      mode = refused.mode;
+      survives = quiet removed_text [] _ _ removed_query removed_is refused.survives;
+    });
+    opened = λ clean. tt;
+    memory = λ well v was. cause_of removed_text [] (state g old) (state g new) v was well refused.survives.limit removed_plain removed_is.unlisted removed_asked e (refused.err well.clean);
+  }
+
+  module _ (now : Held S) (to : T) (walking : Walking now to) where
+    so_far : HasCleanDisk (state g now) → (v : Vault) → ∥ Keeps (state g old) v ∥₁ → TakesSome takes from (removed_entries v) to
+    so_far clean v was =
+        let it = walking.rows clean v was in
+        let on = given_removed g old now v was it.2 it.0 it.1 in
+        some_taken takes from to it.0 on.0 (removed_entries v) it.3 on.1
+
+    still : HasCleanDisk (state g now) → (v : Vault) → Keeps (state g old) v → Keeps (state g now) v
+    still clean v was = unchanged_keeps (state g old) (state g now) v (inl (walking.rows clean v ∣ was ∣₁).2) was
+
+    -- more rows than can be counted
+    pub too_many : HasWalked now to (Err (SqliteFailure OutOfMemory))
+    too_many = record {
+      value = so_far;
+      read = only_reads (record { same = still; honest = λ clean. omega (arith, walking.survives.clean, clean); mode = walking.mode; survives = walking.survives });
+      opened = λ clean. tt;
+      memory = λ well v was. refl;
+    }
+
+  module _ (rows after : Rows S g) (to : T) (walking : Walking rows.conn.now to) where
+    before : {r : Result (Option (Bor Row)) Error} → HasMoved g rows r after → HasCleanDisk (state g after.conn.now) → HasCleanDisk (state g rows.conn.now)
+    before moved clean = omega (arith, moved.survives.clean, clean)
+
+    reads : (r : Result (Option (Bor Row)) Error) → HasMoved g rows r after → ReadsQuietly g old after.conn.now
+    reads r moved = record {
+      same = λ clean v was. unchanged_keeps (state g rows.conn.now) (state g after.conn.now) v (undone _ _ r (moved.same clean) (moved.kept clean)) (still rows.conn.now to walking (before moved clean) v was);
+      honest = λ clean. omega (arith, walking.survives.clean, moved.survives.clean, clean);
+      mode = λ alone. moved.mode (walking.mode alone);
+      survives = survives_then (state g old) (state g rows.conn.now) (state g after.conn.now) _ _ _ (λ _ db q. q) (λ _ db none. absurd none) walking.survives moved.survives;
+    }
+
+    -- no further row
+    pub ended : HasMoved g rows (Ok None) after → HasWalked after.conn.now to (Ok true)
+    ended moved = record {
+      value = λ clean v was.
+          let it = walking.rows (before moved clean) v was in
+          all_taken takes from to it.0 (removed_entries v) it.3 (all_removed (state g rows.conn.now) (state g after.conn.now) v (still_kept (state g old) _ v (inl it.2) was) it.0 (moved.ok clean removed_text [] it.0 it.1));
+      read = only_reads (reads (Ok None) moved);
+      opened = λ clean. (moved.same clean).0.is_open;
+      memory = λ well v was. tt;
+    }
+
+    -- no row could be had
+    pub no_row : (e : Error) → HasMoved g rows (Err e) after → HasWalked after.conn.now to (Err e)
+    no_row e moved = record {
+      value = λ clean. so_far rows.conn.now to walking (before moved clean);
+      read = only_reads (reads (Err e) moved);
+      opened = λ clean. tt;
+      memory = λ well v was.
+          let it = walking.rows (before moved well.clean) v ∣ was ∣₁ in
+          cause_of removed_text [] (state g rows.conn.now) (state g after.conn.now) v (still rows.conn.now to walking (before moved well.clean) v was) well moved.survives.limit removed_plain removed_is.unlisted removed_asked e (moved.err well.clean removed_text [] it.0 it.1);
+    }
+
+    module _ (row : Bor Row) (moved : HasMoved g rows (Ok (Some row)) after) where
+      -- the row is the next of a removed entry
+      next_row : HasCleanDisk (state g after.conn.now) → (v : Vault) → ∥ Keeps (state g old) v ∥₁ → (given : List Row) × Goes (Takes takes) from given to × HasGiven g removed_text [] after.conn.now (given ++ row.now ∷ []) × IsUnchanged (state g old) (state g after.conn.now)
+      next_row clean v was =
+          let it = walking.rows (before moved clean) v was in
+          (it.0, it.3, moved.ok clean removed_text [] it.0 it.1, unchanged_then _ _ _ it.2 (moved.same clean))
+
+      on_from : HasCleanDisk (state g after.conn.now) → (v : Vault) → ∥ Keeps (state g old) v ∥₁ → (given : List Row) × Goes (Takes takes) from given to × (tail : List Row) × ((given ++ row.now ∷ []) ++ tail ≡ map entry_row (removed_entries v))
+      on_from clean v was =
+          let it = next_row clean v was in
+          let on = given_removed g old after.conn.now v was it.3 (it.0 ++ row.now ∷ []) it.2 in
+          (it.0, it.1, on.0, on.1)
+
+      pub goes_on_with : (end : T) → Takes takes to row.now end → Walking after.conn.now end
+      goes_on_with end took = record {
+        survives = (reads (Ok (Some row)) moved).survives;
+        mode = (reads (Ok (Some row)) moved).mode;
+        rows = λ clean v was.
+            let it = next_row clean v was in
+            (it.0 ++ row.now ∷ [], it.2, it.3, goes_on (Takes takes) from to end it.0 row.now it.1 took);
+      }
+
+      -- the sink refuses
+      pub refused : (end : T) → (e : Entry) × (row.now ≡ entry_row e) × takes to e false end → HasWalked after.conn.now end (Ok false)
+      refused end one = record {
+        value = λ clean v was.
+            let it = on_from clean v was in
+            one_refused takes from to end it.0 row.now one.0 it.2 (removed_entries v) it.1 one.1 one.2 it.3;
+        read = only_reads (reads (Ok (Some row)) moved);
+        opened = λ clean. (moved.same clean).0.is_open;
+        memory = λ well v was. tt;
+      }
+
+      -- it failed at an entry
+      pub misread : (end : T) (e : Error) → end ≡ to → (ReportsOne entry_row IsEntry row.now → IsMemory e) → HasWalked after.conn.now end (Err e)
+      misread end e stays wants = record {
+        value = λ clean v was. subst (λ s. TakesSome takes from (removed_entries v) s) (sym stays) (so_far rows.conn.now to walking (before moved clean) v was);
+        read = only_reads (reads (Ok (Some row)) moved);
+        opened = λ clean. tt;
+        memory = λ well v was.
+            let it = on_from well.clean v ∣ was ∣₁ in
+            let kept = (was (next_row well.clean v ∣ was ∣₁).3.0.was_open).0.spells.kept in
+            wants (removed_readable v kept it.0 row.now it.2 it.3);
+      }

@@ -1,9 +1,9 @@
 //! The walk over the removed entries.
-ghost use Rattle.std.specs.Prelude.{◌≡◌, false, Ok, IfOk, IfErr, OnErr};
+ghost use Rattle.std.specs.Prelude.{◌≡◌, IfOk, IfErr, OnErr};
 ghost use Rattle.sqlite.specs.Held.{state};
-ghost use Rattle.sqlite.specs.State.{HasCleanDisk, Survives};
+ghost use Rattle.sqlite.specs.State.{HasCleanDisk};
 ghost use Rattle.vault_core_model.specs.declared.records.Entry.{Entry};
-ghost use Rattle.vault_core_model.specs.Handing.{Hands, TakesSome};
+ghost use Rattle.vault_core_model.specs.Handing.{Hands};
 ghost use Rattle.vault_core_model.specs.Reads.{removed_entries};
 ghost use Rattle.vault_core_model.specs.Vault.{Vault};
 ghost use Rattle.vault_audit_model.specs.Limits.{IsEntry};
@@ -11,8 +11,7 @@ ghost use Rattle.vault_audit_model.specs.Rows.{entry_row};
 ghost use Rattle.vault_audit_rows.specs.Health.{IsMemory};
 ghost use Rattle.vault_audit_rows.specs.Records.{ReportsOne};
 ghost use Rattle.vault_store_model.specs.Keeping.{Keeps};
-ghost use Rattle.vault_store_reads.specs.Quiet.{IsOpenIfOk, IsQuiet, OnlyReads};
-ghost use Rattle.vault_store_reads.specs.Staying.{LeavesKept};
+ghost use Rattle.vault_store_reads.specs.Quiet.{IsOpenIfOk, OnlyReads};
 ghost use Rattle.vault_store_reads.specs.Wants.{WantsMemoryIfErr};
 ghost use Rattle.vault_store_walks.specs.Handed.{as_fault};
 
@@ -34,15 +33,16 @@ fn hand<T: Sink>(row: &Row, sink: &mut T) -> Result<bool, Error>
     }
 }
 
-/// Hands on each removed entry, as `walk_removed` does.
-fn hand_each<S: Alter, T: Sink>(conn: &mut Connection<S>, sink: &mut T) -> Result<bool, Error>
-    ensures done { HasCleanDisk (state S.Store conn.new) → IfOk result (λ done. (v : Vault) → ∥ Keeps (state S.Store conn.old) v ∥₁ → Hands T.takes sink.old (removed_entries v) (Ok done) sink.new) }
-    ensures some { HasCleanDisk (state S.Store conn.new) → OnErr result ((v : Vault) → ∥ Keeps (state S.Store conn.old) v ∥₁ → TakesSome T.takes sink.old (removed_entries v) sink.new) }
-    ensures leaves { LeavesKept S.Store conn.old conn.new }
-    ensures mode { conn.old.in_transaction ≡ false → conn.new.in_transaction ≡ false }
+/// Hands on each removed entry by rising id, one at a time: true after all of them, false where the sink
+/// refused. Where it fails, some of the first of them were handed on.
+pub fn walk_removed<S: Alter, T: Sink>(
+    conn: &mut Connection<S>,
+    sink: &mut T,
+) -> Result<bool, Error>
+    ensures value { HasCleanDisk (state S.Store conn.new) → (v : Vault) → ∥ Keeps (state S.Store conn.old) v ∥₁ → Hands T.takes sink.old (removed_entries v) (as_fault result) sink.new }
+    ensures read { OnlyReads S.Store conn.old conn.new }
     ensures open { IsOpenIfOk S.Store conn.new result }
     ensures memory { WantsMemoryIfErr S.Store conn.old conn.new result }
-    ensures survives { Survives (state S.Store conn.old) (state S.Store conn.new) (IsQuiet (state S.Store conn.old)) }
 {
     let mut rows = conn.query(
         entries_columns!(select_text, " WHERE removed IS NOT NULL ORDER BY id"),
@@ -57,18 +57,4 @@ fn hand_each<S: Alter, T: Sink>(conn: &mut Connection<S>, sink: &mut T) -> Resul
         }
     }
     Err(Error::SqliteFailure(ErrorCode::OutOfMemory))
-}
-
-/// Hands on each removed entry by rising id, one at a time: true after all of them, false where the sink
-/// refused. Where it fails, some of the first of them were handed on.
-pub fn walk_removed<S: Alter, T: Sink>(
-    conn: &mut Connection<S>,
-    sink: &mut T,
-) -> Result<bool, Error>
-    ensures value { HasCleanDisk (state S.Store conn.new) → (v : Vault) → ∥ Keeps (state S.Store conn.old) v ∥₁ → Hands T.takes sink.old (removed_entries v) (as_fault result) sink.new }
-    ensures read { OnlyReads S.Store conn.old conn.new }
-    ensures open { IsOpenIfOk S.Store conn.new result }
-    ensures memory { WantsMemoryIfErr S.Store conn.old conn.new result }
-{
-    hand_each(conn, sink)
 }

@@ -1,5 +1,5 @@
 -- What a subcommand with its words asks for.
-use Rattle.std.specs.Prelude.{◌&&◌, nat_lt, ℕ, Bool, List, [], length, codes, Option, Some, None, if◌then◌else◌, unwrap_or}
+use Rattle.std.specs.Prelude.{◌≡◌, ◌&&◌, false, nat_lt, ℕ, Bool, List, [], length, codes, Option, Some, None, if◌then◌else◌, unwrap_or}
 use Rattle.std.specs.Char.{digit_value}
 use Rattle.std.specs.List.{list_all}
 use Rattle.std.specs.Str.{bytes_eq}
@@ -25,6 +25,10 @@ use Rattle.vaultctl_job.specs.declared.job.ServeJob.{ServeJob}
 use Rattle.vaultctl_job.specs.declared.job.MigrateJob.{MigrateJob}
 use Rattle.vaultctl_job.specs.declared.job.Job.{Job}
 use Rattle.vaultctl_job.specs.declared.job.Job.TheVariants as job
+
+-- where memory isn't short after, it wasn't before, and this holds
+abbrev pub IfEnough : Bool → Bool → Type 0 → Type 0
+IfEnough before after P = after ≡ false → (before ≡ false) × P
 
 -- the text of a word; clap takes no words without those that have to be there
 abbrev pub text_of : Text → List Row → Text

@@ -1,5 +1,5 @@
 //! The words of a subcommand, as clap has found them, read as a job.
-ghost use Rattle.std.specs.Prelude.{◌≡◌, IfOk, codes, map, option_map};
+ghost use Rattle.std.specs.Prelude.{◌≡◌, IfOk, codes, false, map, option_map};
 ghost use Rattle.clap.specs.Words.{all_of, found_of, rows_of, first_of};
 ghost use Rattle.vaultctl_job.specs.Jobs as spec;
 
@@ -26,28 +26,6 @@ fn texts<'b, 'a>(matches: &'b ArgMatches<'a>, id: &str) -> Option<&'b [&'a str]>
     matches.get_strs(id)
 }
 
-fn word(alloc: Global, matches: &ArgMatches<'_>, id: &str) -> Result<Word, AllocError>
-    ensures { IfOk result (λ word. word ≡ spec.text_of id.now (rows_of (found_of matches.now))) }
-{
-    match text(matches, id) {
-        Some(text) => Word::of(alloc, text),
-        None => Word::of(alloc, ""),
-    }
-}
-
-fn optional_word(
-    alloc: Global,
-    matches: &ArgMatches<'_>,
-    id: &str,
-) -> Result<Option<Word>, AllocError>
-    ensures { IfOk result (λ word. word ≡ first_of id.now (rows_of (found_of matches.now))) }
-{
-    match text(matches, id) {
-        Some(text) => Ok(Some(Word::of(alloc, text)?)),
-        None => Ok(None),
-    }
-}
-
 fn copied(alloc: Global, texts: &[&str]) -> Result<Words, AllocError>
     ensures { IfOk result (λ words. words ≡ map (λ t. t.now) texts.now) }
 {
@@ -56,15 +34,6 @@ fn copied(alloc: Global, texts: &[&str]) -> Result<Words, AllocError>
         words.push(Word::of(alloc, text)?)?;
     }
     Ok(words)
-}
-
-fn words(alloc: Global, matches: &ArgMatches<'_>, id: &str) -> Result<Words, AllocError>
-    ensures { IfOk result (λ words. words ≡ spec.texts_of id.now (rows_of (found_of matches.now))) }
-{
-    match texts(matches, id) {
-        Some(texts) => copied(alloc, texts),
-        None => Ok(Words::new(alloc)),
-    }
 }
 
 fn is_set(matches: &ArgMatches<'_>, id: &str) -> bool
@@ -88,231 +57,245 @@ fn count(matches: &ArgMatches<'_>) -> u32
     matches.get_one::<u32>("count").unwrap_or(0)
 }
 
-fn asking(alloc: Global, matches: &ArgMatches<'_>) -> Result<Asking, AllocError>
-    ensures { IfOk result (λ asking. asking ≡ spec.asking_of (rows_of (found_of matches.now))) }
-{
-    Ok(Asking {
-        who: word(alloc, matches, "as")?,
-        at: optional_word(alloc, matches, "at")?,
-    })
-}
-
-/// The file, and who asks.
-fn asked(alloc: Global, matches: &ArgMatches<'_>) -> Result<(Word, Asking), AllocError>
-    ensures { IfOk result (λ read. (read.0 ≡ spec.file_of (rows_of (found_of matches.now)))
-        × (read.1 ≡ spec.asking_of (rows_of (found_of matches.now)))) }
-{
-    Ok((word(alloc, matches, "FILE")?, asking(alloc, matches)?))
-}
-
-fn two_words(
+/// Memory for the words of a job. Once it is short, words are left empty.
+#[derive(Drop)]
+struct Memory {
     alloc: Global,
-    matches: &ArgMatches<'_>,
-    first: &str,
-    second: &str,
-) -> Result<(Word, Word), AllocError>
-    ensures { IfOk result (λ read. (read.0 ≡ spec.text_of first.now (rows_of (found_of matches.now)))
-        × (read.1 ≡ spec.text_of second.now (rows_of (found_of matches.now)))) }
-{
-    Ok((word(alloc, matches, first)?, word(alloc, matches, second)?))
+    is_short: bool,
 }
 
-#[tactic(auto, unfolding(crate::specs::Jobs::init_of))]
-fn init(alloc: Global, matches: &ArgMatches<'_>) -> Result<InitJob, AllocError>
-    ensures { IfOk result (λ job. job ≡ spec.init_of (rows_of (found_of matches.now))) }
-{
-    Ok(InitJob {
-        file: word(alloc, matches, "FILE")?,
-    })
+impl Memory {
+    fn copy(&mut self, text: &str) -> Word
+        ensures { spec.IfEnough self.old.is_short self.new.is_short (result ≡ text.now) }
+    {
+        match Word::of(self.alloc, text) {
+            Ok(word) => word,
+            Err(_) => {
+                self.is_short = true;
+                Word::new(self.alloc)
+            }
+        }
+    }
+
+    fn word(&mut self, matches: &ArgMatches<'_>, id: &str) -> Word
+        ensures { spec.IfEnough self.old.is_short self.new.is_short (result ≡ spec.text_of id.now (rows_of (found_of matches.now))) }
+    {
+        match text(matches, id) {
+            Some(text) => self.copy(text),
+            None => Word::new(self.alloc),
+        }
+    }
+
+    fn optional_word(&mut self, matches: &ArgMatches<'_>, id: &str) -> Option<Word>
+        ensures { spec.IfEnough self.old.is_short self.new.is_short (result ≡ first_of id.now (rows_of (found_of matches.now))) }
+    {
+        match text(matches, id) {
+            Some(text) => Some(self.copy(text)),
+            None => None,
+        }
+    }
+
+    fn words(&mut self, matches: &ArgMatches<'_>, id: &str) -> Words
+        ensures { spec.IfEnough self.old.is_short self.new.is_short (result ≡ spec.texts_of id.now (rows_of (found_of matches.now))) }
+    {
+        let Some(texts) = texts(matches, id) else {
+            return Words::new(self.alloc);
+        };
+        match copied(self.alloc, texts) {
+            Ok(words) => words,
+            Err(_) => {
+                self.is_short = true;
+                Words::new(self.alloc)
+            }
+        }
+    }
+
+    fn asking(&mut self, matches: &ArgMatches<'_>) -> Asking
+        ensures { spec.IfEnough self.old.is_short self.new.is_short (result ≡ spec.asking_of (rows_of (found_of matches.now))) }
+    {
+        Asking {
+            who: self.word(matches, "as"),
+            at: self.optional_word(matches, "at"),
+        }
+    }
 }
 
 #[tactic(auto, unfolding(crate::specs::Jobs::dept_of))]
-fn dept(alloc: Global, matches: &ArgMatches<'_>) -> Result<DeptJob, AllocError>
-    ensures { IfOk result (λ job. job ≡ spec.dept_of (rows_of (found_of matches.now))) }
+fn dept(memory: &mut Memory, matches: &ArgMatches<'_>) -> DeptJob
+    ensures { spec.IfEnough memory.old.is_short memory.new.is_short (result ≡ spec.dept_of (rows_of (found_of matches.now))) }
 {
-    let (file, asking) = asked(alloc, matches)?;
-    Ok(DeptJob {
-        file,
-        name: word(alloc, matches, "NAME")?,
-        asking,
-    })
+    DeptJob {
+        file: memory.word(matches, "FILE"),
+        name: memory.word(matches, "NAME"),
+        asking: memory.asking(matches),
+    }
 }
 
 #[tactic(auto, unfolding(crate::specs::Jobs::caller_of))]
-fn caller(alloc: Global, matches: &ArgMatches<'_>) -> Result<CallerJob, AllocError>
-    ensures { IfOk result (λ job. job ≡ spec.caller_of (rows_of (found_of matches.now))) }
+fn caller(memory: &mut Memory, matches: &ArgMatches<'_>) -> CallerJob
+    ensures { spec.IfEnough memory.old.is_short memory.new.is_short (result ≡ spec.caller_of (rows_of (found_of matches.now))) }
 {
-    let (file, asking) = asked(alloc, matches)?;
-    Ok(CallerJob {
-        file,
-        name: word(alloc, matches, "NAME")?,
-        rights: words(alloc, matches, "RIGHT")?,
-        asking,
-        dept: optional_word(alloc, matches, "dept")?,
+    CallerJob {
+        file: memory.word(matches, "FILE"),
+        name: memory.word(matches, "NAME"),
+        rights: memory.words(matches, "RIGHT"),
+        asking: memory.asking(matches),
+        dept: memory.optional_word(matches, "dept"),
         close: is_set(matches, "close"),
-    })
+    }
 }
 
 #[tactic(auto, unfolding(crate::specs::Jobs::bucket_of))]
-fn bucket(alloc: Global, matches: &ArgMatches<'_>) -> Result<BucketJob, AllocError>
-    ensures { IfOk result (λ job. job ≡ spec.bucket_of (rows_of (found_of matches.now))) }
+fn bucket(memory: &mut Memory, matches: &ArgMatches<'_>) -> BucketJob
+    ensures { spec.IfEnough memory.old.is_short memory.new.is_short (result ≡ spec.bucket_of (rows_of (found_of matches.now))) }
 {
-    let (file, asking) = asked(alloc, matches)?;
-    let (name, dept) = two_words(alloc, matches, "NAME", "DEPT")?;
-    Ok(BucketJob {
-        file,
-        name,
-        dept,
-        asking,
-    })
+    BucketJob {
+        file: memory.word(matches, "FILE"),
+        name: memory.word(matches, "NAME"),
+        dept: memory.word(matches, "DEPT"),
+        asking: memory.asking(matches),
+    }
 }
 
 #[tactic(auto, unfolding(crate::specs::Jobs::move_of))]
-fn moving(alloc: Global, matches: &ArgMatches<'_>) -> Result<MoveJob, AllocError>
-    ensures { IfOk result (λ job. job ≡ spec.move_of (rows_of (found_of matches.now))) }
+fn moving(memory: &mut Memory, matches: &ArgMatches<'_>) -> MoveJob
+    ensures { spec.IfEnough memory.old.is_short memory.new.is_short (result ≡ spec.move_of (rows_of (found_of matches.now))) }
 {
-    let (file, asking) = asked(alloc, matches)?;
-    let (bucket, dept) = two_words(alloc, matches, "BUCKET", "DEPT")?;
-    Ok(MoveJob {
-        file,
-        bucket,
-        dept,
-        asking,
-    })
+    MoveJob {
+        file: memory.word(matches, "FILE"),
+        bucket: memory.word(matches, "BUCKET"),
+        dept: memory.word(matches, "DEPT"),
+        asking: memory.asking(matches),
+    }
 }
 
 #[tactic(auto, unfolding(crate::specs::Jobs::intake_of))]
-fn intake(alloc: Global, matches: &ArgMatches<'_>) -> Result<IntakeJob, AllocError>
-    ensures { IfOk result (λ job. job ≡ spec.intake_of (rows_of (found_of matches.now))) }
+fn intake(memory: &mut Memory, matches: &ArgMatches<'_>) -> IntakeJob
+    ensures { spec.IfEnough memory.old.is_short memory.new.is_short (result ≡ spec.intake_of (rows_of (found_of matches.now))) }
 {
-    let (file, asking) = asked(alloc, matches)?;
-    let (bucket, batch) = two_words(alloc, matches, "BUCKET", "BATCH")?;
-    let (list, folder) = two_words(alloc, matches, "LIST", "FOLDER")?;
-    Ok(IntakeJob {
-        file,
-        bucket,
-        batch,
-        list,
-        folder,
-        asking,
-    })
+    IntakeJob {
+        file: memory.word(matches, "FILE"),
+        bucket: memory.word(matches, "BUCKET"),
+        batch: memory.word(matches, "BATCH"),
+        list: memory.word(matches, "LIST"),
+        folder: memory.word(matches, "FOLDER"),
+        asking: memory.asking(matches),
+    }
 }
 
 #[tactic(auto, unfolding(crate::specs::Jobs::run_of))]
-fn run(alloc: Global, matches: &ArgMatches<'_>) -> Result<RunJob, AllocError>
-    ensures { IfOk result (λ job. job ≡ spec.run_of (rows_of (found_of matches.now))) }
+fn run(memory: &mut Memory, matches: &ArgMatches<'_>) -> RunJob
+    ensures { spec.IfEnough memory.old.is_short memory.new.is_short (result ≡ spec.run_of (rows_of (found_of matches.now))) }
 {
-    let (file, asking) = asked(alloc, matches)?;
-    Ok(RunJob {
-        file,
-        bucket: word(alloc, matches, "BUCKET")?,
-        asking,
-    })
+    RunJob {
+        file: memory.word(matches, "FILE"),
+        bucket: memory.word(matches, "BUCKET"),
+        asking: memory.asking(matches),
+    }
 }
 
 #[tactic(auto, unfolding(crate::specs::Jobs::report_of))]
-fn report(alloc: Global, matches: &ArgMatches<'_>) -> Result<ReportJob, AllocError>
-    ensures { IfOk result (λ job. job ≡ spec.report_of (rows_of (found_of matches.now))) }
+fn report(memory: &mut Memory, matches: &ArgMatches<'_>) -> ReportJob
+    ensures { spec.IfEnough memory.old.is_short memory.new.is_short (result ≡ spec.report_of (rows_of (found_of matches.now))) }
 {
-    let (file, asking) = asked(alloc, matches)?;
-    Ok(ReportJob {
-        file,
-        dept: word(alloc, matches, "DEPT")?,
-        asking,
-    })
+    ReportJob {
+        file: memory.word(matches, "FILE"),
+        dept: memory.word(matches, "DEPT"),
+        asking: memory.asking(matches),
+    }
 }
 
 #[tactic(auto, unfolding(crate::specs::Jobs::certificate_of))]
-fn certificate(alloc: Global, matches: &ArgMatches<'_>) -> Result<CertificateJob, AllocError>
-    ensures { IfOk result (λ job. job ≡ spec.certificate_of (rows_of (found_of matches.now))) }
+fn certificate(memory: &mut Memory, matches: &ArgMatches<'_>) -> CertificateJob
+    ensures { spec.IfEnough memory.old.is_short memory.new.is_short (result ≡ spec.certificate_of (rows_of (found_of matches.now))) }
 {
-    let (file, asking) = asked(alloc, matches)?;
-    let (bucket, version) = two_words(alloc, matches, "BUCKET", "VERSION")?;
-    Ok(CertificateJob {
-        file,
-        bucket,
-        version,
-        asking,
-    })
-}
-
-#[tactic(auto, unfolding(crate::specs::Jobs::register_of))]
-fn register(alloc: Global, matches: &ArgMatches<'_>) -> Result<RegisterJob, AllocError>
-    ensures { IfOk result (λ job. job ≡ spec.register_of (rows_of (found_of matches.now))) }
-{
-    Ok(RegisterJob {
-        file: word(alloc, matches, "FILE")?,
-    })
-}
-
-#[tactic(auto, unfolding(crate::specs::Jobs::verify_of))]
-fn verify(alloc: Global, matches: &ArgMatches<'_>) -> Result<VerifyJob, AllocError>
-    ensures { IfOk result (λ job. job ≡ spec.verify_of (rows_of (found_of matches.now))) }
-{
-    Ok(VerifyJob {
-        file: word(alloc, matches, "FILE")?,
-    })
+    CertificateJob {
+        file: memory.word(matches, "FILE"),
+        bucket: memory.word(matches, "BUCKET"),
+        version: memory.word(matches, "VERSION"),
+        asking: memory.asking(matches),
+    }
 }
 
 #[tactic(auto, unfolding(crate::specs::Jobs::events_of))]
-fn events(alloc: Global, matches: &ArgMatches<'_>) -> Result<EventsJob, AllocError>
-    ensures { IfOk result (λ job. job ≡ spec.events_of (rows_of (found_of matches.now))) }
+fn events(memory: &mut Memory, matches: &ArgMatches<'_>) -> EventsJob
+    ensures { spec.IfEnough memory.old.is_short memory.new.is_short (result ≡ spec.events_of (rows_of (found_of matches.now))) }
 {
-    Ok(EventsJob {
-        file: word(alloc, matches, "FILE")?,
-        before: optional_word(alloc, matches, "before")?,
-    })
+    EventsJob {
+        file: memory.word(matches, "FILE"),
+        before: memory.optional_word(matches, "before"),
+    }
 }
 
 #[tactic(auto, unfolding(crate::specs::Jobs::seal_of))]
-fn seal(alloc: Global, matches: &ArgMatches<'_>) -> Result<SealJob, AllocError>
-    ensures { IfOk result (λ job. job ≡ spec.seal_of (rows_of (found_of matches.now))) }
+fn seal(memory: &mut Memory, matches: &ArgMatches<'_>) -> SealJob
+    ensures { spec.IfEnough memory.old.is_short memory.new.is_short (result ≡ spec.seal_of (rows_of (found_of matches.now))) }
 {
-    Ok(SealJob {
-        file: word(alloc, matches, "FILE")?,
-        before: optional_word(alloc, matches, "before")?,
-    })
-}
-
-#[tactic(auto, unfolding(crate::specs::Jobs::lawful_of))]
-fn lawful(alloc: Global, matches: &ArgMatches<'_>) -> Result<LawfulJob, AllocError>
-    ensures { IfOk result (λ job. job ≡ spec.lawful_of (rows_of (found_of matches.now))) }
-{
-    Ok(LawfulJob {
-        file: word(alloc, matches, "FILE")?,
-    })
-}
-
-#[tactic(auto, unfolding(crate::specs::Jobs::replay_of))]
-fn replay(alloc: Global, matches: &ArgMatches<'_>) -> Result<ReplayJob, AllocError>
-    ensures { IfOk result (λ job. job ≡ spec.replay_of (rows_of (found_of matches.now))) }
-{
-    Ok(ReplayJob {
-        file: optional_word(alloc, matches, "FILE")?,
-    })
+    SealJob {
+        file: memory.word(matches, "FILE"),
+        before: memory.optional_word(matches, "before"),
+    }
 }
 
 #[tactic(auto, unfolding(crate::specs::Jobs::serve_of))]
-fn serve(alloc: Global, matches: &ArgMatches<'_>) -> Result<ServeJob, AllocError>
-    ensures { IfOk result (λ job. job ≡ spec.serve_of (rows_of (found_of matches.now))) }
+fn serve(memory: &mut Memory, matches: &ArgMatches<'_>) -> ServeJob
+    ensures { spec.IfEnough memory.old.is_short memory.new.is_short (result ≡ spec.serve_of (rows_of (found_of matches.now))) }
 {
-    Ok(ServeJob {
-        file: word(alloc, matches, "FILE")?,
+    ServeJob {
+        file: memory.word(matches, "FILE"),
         port: port(matches),
         count: count(matches),
-        lines: optional_word(alloc, matches, "lines")?,
-        hosts: words(alloc, matches, "host")?,
+        lines: memory.optional_word(matches, "lines"),
+        hosts: memory.words(matches, "host"),
         log: is_set(matches, "log"),
-        journal: optional_word(alloc, matches, "journal")?,
-    })
+        journal: memory.optional_word(matches, "journal"),
+    }
 }
 
 #[tactic(auto, unfolding(crate::specs::Jobs::migrate_of))]
-fn migrate(alloc: Global, matches: &ArgMatches<'_>) -> Result<MigrateJob, AllocError>
-    ensures { IfOk result (λ job. job ≡ spec.migrate_of (rows_of (found_of matches.now))) }
+fn migrate(memory: &mut Memory, matches: &ArgMatches<'_>) -> MigrateJob
+    ensures { spec.IfEnough memory.old.is_short memory.new.is_short (result ≡ spec.migrate_of (rows_of (found_of matches.now))) }
 {
-    let (old, new) = two_words(alloc, matches, "OLD", "NEW")?;
-    Ok(MigrateJob { old, new })
+    MigrateJob {
+        old: memory.word(matches, "OLD"),
+        new: memory.word(matches, "NEW"),
+    }
+}
+
+#[tactic(auto, unfolding(crate::specs::Jobs::init_of, crate::specs::Jobs::register_of, crate::specs::Jobs::verify_of, crate::specs::Jobs::lawful_of, crate::specs::Jobs::replay_of))]
+fn job_read(memory: &mut Memory, name: &str, matches: &ArgMatches<'_>) -> Option<Job>
+    ensures { spec.IfEnough memory.old.is_short memory.new.is_short (result ≡ spec.job_named name.now (rows_of (found_of matches.now))) }
+{
+    match name {
+        "init" => Some(Job::Init(InitJob {
+            file: memory.word(matches, "FILE"),
+        })),
+        "dept" => Some(Job::Dept(dept(memory, matches))),
+        "caller" => Some(Job::Caller(caller(memory, matches))),
+        "bucket" => Some(Job::Bucket(bucket(memory, matches))),
+        "move" => Some(Job::Move(moving(memory, matches))),
+        "intake" => Some(Job::Intake(intake(memory, matches))),
+        "run" => Some(Job::Run(run(memory, matches))),
+        "report" => Some(Job::Report(report(memory, matches))),
+        "certificate" => Some(Job::Certificate(certificate(memory, matches))),
+        "register" => Some(Job::Register(RegisterJob {
+            file: memory.word(matches, "FILE"),
+        })),
+        "verify" => Some(Job::Verify(VerifyJob {
+            file: memory.word(matches, "FILE"),
+        })),
+        "events" => Some(Job::Events(events(memory, matches))),
+        "seal" => Some(Job::Seal(seal(memory, matches))),
+        "lawful" => Some(Job::Lawful(LawfulJob {
+            file: memory.word(matches, "FILE"),
+        })),
+        "replay" => Some(Job::Replay(ReplayJob {
+            file: memory.optional_word(matches, "FILE"),
+        })),
+        "serve" => Some(Job::Serve(serve(memory, matches))),
+        "migrate" => Some(Job::Migrate(migrate(memory, matches))),
+        _ => None,
+    }
 }
 
 /// The job of the subcommand of that name, with its words.
@@ -323,24 +306,13 @@ pub fn job_named(
 ) -> Result<Option<Job>, AllocError>
     ensures { IfOk result (λ job. job ≡ spec.job_named name.now (rows_of (found_of matches.now))) }
 {
-    match name {
-        "init" => Ok(Some(Job::Init(init(alloc, matches)?))),
-        "dept" => Ok(Some(Job::Dept(dept(alloc, matches)?))),
-        "caller" => Ok(Some(Job::Caller(caller(alloc, matches)?))),
-        "bucket" => Ok(Some(Job::Bucket(bucket(alloc, matches)?))),
-        "move" => Ok(Some(Job::Move(moving(alloc, matches)?))),
-        "intake" => Ok(Some(Job::Intake(intake(alloc, matches)?))),
-        "run" => Ok(Some(Job::Run(run(alloc, matches)?))),
-        "report" => Ok(Some(Job::Report(report(alloc, matches)?))),
-        "certificate" => Ok(Some(Job::Certificate(certificate(alloc, matches)?))),
-        "register" => Ok(Some(Job::Register(register(alloc, matches)?))),
-        "verify" => Ok(Some(Job::Verify(verify(alloc, matches)?))),
-        "events" => Ok(Some(Job::Events(events(alloc, matches)?))),
-        "seal" => Ok(Some(Job::Seal(seal(alloc, matches)?))),
-        "lawful" => Ok(Some(Job::Lawful(lawful(alloc, matches)?))),
-        "replay" => Ok(Some(Job::Replay(replay(alloc, matches)?))),
-        "serve" => Ok(Some(Job::Serve(serve(alloc, matches)?))),
-        "migrate" => Ok(Some(Job::Migrate(migrate(alloc, matches)?))),
-        _ => Ok(None),
+    let mut memory = Memory {
+        alloc,
+        is_short: false,
+    };
+    let job = job_read(&mut memory, name, matches);
+    if memory.is_short {
+        return Err(AllocError);
     }
+    Ok(job)
 }

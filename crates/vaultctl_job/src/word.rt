@@ -18,6 +18,15 @@ impl Model for Word {
 }
 
 impl Word {
+    /// No text.
+    pub fn new(alloc: Global) -> Word
+        ensures { result ≡ [] }
+    {
+        Word {
+            text: String::new(alloc),
+        }
+    }
+
     /// A copy of a text. The error is out of memory.
     pub fn of(alloc: Global, text: &str) -> Result<Word, AllocError>
         ensures { IfOk result (λ word. word ≡ text.now) }

@@ -52,7 +52,9 @@ const EVENTS: Subcommand = Subcommand {
     usage: None,
     arguments: &[
         FILE,
-        Argument::Before {
+        Argument::Option {
+            name: "before",
+            value: "MOMENT",
             help: "Leaves out what isn't before this moment, as\n2024-01-15T10:30:00Z; left out: prints all",
         },
     ],
@@ -69,7 +71,9 @@ const SEAL: Subcommand = Subcommand {
     usage: None,
     arguments: &[
         FILE,
-        Argument::Before {
+        Argument::Option {
+            name: "before",
+            value: "MOMENT",
             help: "Leaves out what isn't before this moment, as\n2024-01-15T10:30:00Z; left out: the last change's",
         },
     ],
@@ -115,10 +119,25 @@ const SERVE: Subcommand = Subcommand {
         FILE,
         Argument::Port,
         Argument::Count,
-        Argument::Lines,
-        Argument::Host,
-        Argument::Log,
-        Argument::Journal,
+        Argument::Option {
+            name: "lines",
+            value: "WHERE",
+            help: "Takes script lines too, without \"at\": at the path of a\nUnix socket, or a port of 127.0.0.1 if WHERE is digits",
+        },
+        Argument::Options {
+            name: "host",
+            value: "NAME",
+            help: "Refuses requests for other hosts than this name, those\nof further --host, localhost, 127.0.0.1 and [::1]",
+        },
+        Argument::Flag {
+            name: "log",
+            help: "Writes a line of JSON for each request and each line to\nstandard error: who asked for what, and what came of it",
+        },
+        Argument::Option {
+            name: "journal",
+            value: "FILE",
+            help: "Appends each change as the script line that makes it\nagain to this file, which may not be there yet",
+        },
     ],
 };
 

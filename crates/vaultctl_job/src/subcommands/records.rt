@@ -4,7 +4,7 @@ ghost use Rattle.vaultctl_job.specs.Forms.{shape_for};
 ghost use Rattle.vaultctl_job.specs.Words as spec;
 
 use super::Subcommand;
-use crate::arguments::{Argument, FILE};
+use crate::arguments::{ASKER, Argument, FILE, MOMENT};
 
 static ALL: [Subcommand; 5] = [INIT, DEPT, CALLER, BUCKET, MOVE];
 
@@ -45,8 +45,8 @@ const DEPT: Subcommand = Subcommand {
             name: "NAME",
             help: "Its name: 1 to 64 of a-z, 0-9, '-', '_', '.'",
         },
-        Argument::Asker,
-        Argument::Moment,
+        ASKER,
+        MOMENT,
     ],
 };
 
@@ -65,11 +65,21 @@ const CALLER: Subcommand = Subcommand {
             name: "NAME",
             help: "The caller's name: 1 to 64 of a-z, 0-9, '-', '_', '.'",
         },
-        Argument::Rights,
-        Argument::Asker,
-        Argument::Moment,
-        Argument::Home,
-        Argument::Close,
+        Argument::Places {
+            name: "RIGHT",
+            help: "Any of admin, config, put, retain, hold, get, list,\ndelete, delete-version, run, report, bypass",
+        },
+        ASKER,
+        MOMENT,
+        Argument::Option {
+            name: "dept",
+            value: "DEPT",
+            help: "The department that the caller belongs to",
+        },
+        Argument::Flag {
+            name: "close",
+            help: "Closes the caller for good; rights and --dept are\nnot looked at",
+        },
     ],
 };
 
@@ -92,8 +102,8 @@ const BUCKET: Subcommand = Subcommand {
             name: "DEPT",
             help: "The department that it belongs to",
         },
-        Argument::Asker,
-        Argument::Moment,
+        ASKER,
+        MOMENT,
     ],
 };
 
@@ -116,7 +126,7 @@ const MOVE: Subcommand = Subcommand {
             name: "DEPT",
             help: "The department that gets it",
         },
-        Argument::Asker,
-        Argument::Moment,
+        ASKER,
+        MOMENT,
     ],
 };

@@ -4,7 +4,7 @@ ghost use Rattle.vaultctl_job.specs.Forms.{shape_for};
 ghost use Rattle.vaultctl_job.specs.Words as spec;
 
 use super::Subcommand;
-use crate::arguments::{Argument, FILE};
+use crate::arguments::{ASKER, Argument, FILE, MOMENT};
 
 static ALL: [Subcommand; 4] = [INTAKE, RUN, REPORT, CERTIFICATE];
 
@@ -44,8 +44,8 @@ const INTAKE: Subcommand = Subcommand {
             name: "FOLDER",
             help: "The folder of the files that it names",
         },
-        Argument::Asker,
-        Argument::Moment,
+        ASKER,
+        MOMENT,
     ],
 };
 
@@ -64,8 +64,8 @@ const RUN: Subcommand = Subcommand {
             name: "BUCKET",
             help: "The bucket's name",
         },
-        Argument::Asker,
-        Argument::Moment,
+        ASKER,
+        MOMENT,
     ],
 };
 
@@ -84,8 +84,8 @@ const REPORT: Subcommand = Subcommand {
             name: "DEPT",
             help: "The department's name",
         },
-        Argument::Asker,
-        Argument::Moment,
+        ASKER,
+        MOMENT,
     ],
 };
 
@@ -108,7 +108,7 @@ const CERTIFICATE: Subcommand = Subcommand {
             name: "VERSION",
             help: "The version's id: a number from 1 to 1000000000",
         },
-        Argument::Asker,
-        Argument::Moment,
+        ASKER,
+        MOMENT,
     ],
 };
