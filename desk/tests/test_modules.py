@@ -17,7 +17,7 @@ LINES = DESK.parents[1] / "docs" / "formats" / "LINES.md"
 
 def commands() -> list[str]:
     """The commands in the table of the engine's page on lines."""
-    table = LINES.read_text(encoding="utf-8").partition("\n## The commands\n")[2].partition("\nWhat each does:\n")[0]
+    table = LINES.read_text(encoding="utf-8").partition("\n## The commands\n")[2].partition("\n### ")[0]
     return re.findall(r"^\| `([a-z-]+)` \|", table, re.M)
 
 
