@@ -121,13 +121,13 @@ module _ {S : Type 0} (g : store.Ghosts S) where
   given_removed old now v was same rows given =
       on_removed (state g now) v (still_kept (state g old) (state g now) v (inl same) was) same.0.is_open rows (given_begin g removed_text [] now rows given)
 
-abbrev Undone : State → State → Type 0
-Undone old new = IsUnchanged old new ⊎ IsRolledBack old new
+pub undone : (old new : State) (e : Error) → Fails old new ⊥ e ⊎ IsUnchanged old new → IsUnchanged old new ⊎ IsRolledBack old new
+undone old new e (inl fails) = inr fails.3
+undone old new e (inr same) = inl same
 
-undone : {X : Type 0} (old new : State) (r : Result X Error) → OnOk r (IsUnchanged old new) → IfErr r (λ e. Fails old new ⊥ e ⊎ IsUnchanged old new) → Undone old new
-undone old new (Ok x) same kept = inl same
-undone old new (Err e) same (inl fails) = inr fails.3
-undone old new (Err e) same (inr still) = inl still
+moved_or_undone : {X : Type 0} (old new : State) (r : Result X Error) → OnOk r (IsUnchanged old new) → IfErr r (λ e. Fails old new ⊥ e ⊎ IsUnchanged old new) → IsUnchanged old new ⊎ IsRolledBack old new
+moved_or_undone old new (Ok x) same kept = inl same
+moved_or_undone old new (Err e) same kept = undone old new e kept
 
 -- ---- a walk as far as it has come, and how it ends
 
@@ -191,7 +191,7 @@ module _ {S T : Type 0} (g : store.Ghosts S) (takes : Taking T) (old : Held S) (
 
     reads : (r : Result (Option (Bor Row)) Error) → HasMoved g rows r after → ReadsQuietly g old after.conn.now
     reads r moved = record {
-      same = λ clean v was. unchanged_keeps (state g rows.conn.now) (state g after.conn.now) v (undone _ _ r (moved.same clean) (moved.kept clean)) (still rows.conn.now to walking (before moved clean) v was);
+      same = λ clean v was. unchanged_keeps (state g rows.conn.now) (state g after.conn.now) v (moved_or_undone _ _ r (moved.same clean) (moved.kept clean)) (still rows.conn.now to walking (before moved clean) v was);
       honest = λ clean. omega (arith, walking.survives.clean, moved.survives.clean, clean);
       mode = λ alone. moved.mode (walking.mode alone);
       survives = survives_then (state g old) (state g rows.conn.now) (state g after.conn.now) _ _ _ (λ _ db q. q) (λ _ db none. absurd none) walking.survives moved.survives;
