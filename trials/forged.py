@@ -208,7 +208,7 @@ def outcome(number: int) -> tuple[str, str]:
     with tempfile.TemporaryDirectory(prefix="forged-") as folder:
         file = pathlib.Path(folder) / "vault"
         printed("init", file)
-        grow(Office(file, chance), 60)
+        grow(Office(file, chance), chance.choice([10, 60, 60]))
         kind, words = forge(chance, file)
         if answers_alike(file, f"{name}: {words}") != "sound":
             return kind.name, "damaged"
