@@ -9,23 +9,32 @@ import re
 from trials.program import EXAMPLES, TOP, Case
 
 WORDS = TOP / "crates" / "vaultctl_remedies" / "src" / "remedies.rt"
+OF_LINES = WORDS.with_name("line_remedies.rt")
 TEXT = r'=>\s+"((?:[^"\\]|\\.)*)"'
 ARM = re.compile(r"(?m)^ +\(?Refusal::(\w+)(?:\((\w+)\))?(?:, Command::(\w+)\(_\)\))? " + TEXT)
 REASON = re.compile(r"Reason::(\w+)(?:\(_\))? " + TEXT)
+STOP = re.compile(r"Stop::(\w+) " + TEXT)
+LINE = re.compile(r"(?m)^ +\(?((?:Refusal|Command)::[^\n\"]*) " + TEXT)
 
 
 def words_of(source: str) -> dict[str, str]:
     """The words of each refusal: by its name, by the command that it is of where another has other words, or by the
-    reason of a denied access."""
+    reason of a denied access; and those of each stop."""
     found: dict[str, str] = {}
     for name, value, command, words in ARM.findall(source):
         key = f"{name} of {command}" if command else name
         found[f"{key} below a marker" if value == "true" else key] = words
-    return found | {f"AccessDenied {reason}": words for reason, words in REASON.findall(source)}
+    found |= {f"AccessDenied {reason}": words for reason, words in REASON.findall(source)}
+    return found | {f"stopped by {stop}": words for stop, words in STOP.findall(source)}
+
+
+def words_of_lines(source: str) -> dict[str, str]:
+    """The words for a line of a script where it has others: by the refusal, or by the commands whose value isn't allowed."""
+    return {"line " + ", ".join(re.findall(r"::(\w+)", arm)): words for arm, words in LINE.findall(source)}
 
 
 class Refusals(Case):
     def test_words(self) -> None:
         wanted = dict(it.split(": ", 1) for it in (EXAMPLES / "refusals.txt").read_text().splitlines())
-        found = {name: words.replace('\\"', '"') for name, words in words_of(WORDS.read_text()).items()}
-        self.assertEqual(wanted, found)
+        sources = words_of(WORDS.read_text()) | words_of_lines(OF_LINES.read_text())
+        self.assertEqual(wanted, {name: words.replace('\\"', '"') for name, words in sources.items()})

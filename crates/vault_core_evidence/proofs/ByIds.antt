@@ -38,7 +38,7 @@ at_place n (suc i) (h ∷ hs) ids =
     let next : n + suc i ≡ n + 1 + i = omega arith in
     rw (other_id h.entry.id n i ids.0) (ap (λ k. find (λ (g : History). g.entry.id == k) hs) next ∙ at_place (n + 1) i hs ids.1)
 
-history_at : (v : Vault) (i id : ℕ) → Sound v → i + 1 ≡ id → history_of v id ≡ slice_get v.histories i
+pub history_at : (v : Vault) (i id : ℕ) → Sound v → i + 1 ≡ id → history_of v id ≡ slice_get v.histories i
 history_at v i id sound same =
     let k : id ≡ 1 + i = omega (arith, same) in
     ap (λ n. history_of v n) k ∙ at_place 1 i v.histories sound.ids
@@ -65,10 +65,10 @@ get-drop zero i hs = let e : i ≡ 0 + i = omega arith in ap (slice_get hs) e
 get-drop (suc a) i [] = refl
 get-drop (suc a) i (h ∷ hs) = let e : suc (a + i) ≡ suc a + i = omega arith in get-drop a i hs ∙ ap (slice_get (h ∷ hs)) e
 
-in_range : (v : Vault) (from most i : ℕ) → i < most → slice_get (range v from most) i ≡ slice_get v.histories (from + i)
+pub in_range : (v : Vault) (from most i : ℕ) → i < most → slice_get (range v from most) i ≡ slice_get v.histories (from + i)
 in_range v from most i low = get-take most i (drop from v.histories) low ∙ get-drop from i v.histories
 
-length_of : (v : Vault) (from most : ℕ) → most ≤ length v.histories - from → length (range v from most) ≡ most
+pub length_of : (v : Vault) (from most : ℕ) → most ≤ length v.histories - from → length (range v from most) ≡ most
 length_of v from most within = length-take-le most (drop from v.histories) (omega (arith, within, length-drop from v.histories))
 
 -- ---- the order of admissions
@@ -108,7 +108,7 @@ sorted_range v from most sound = Sorted-take most (drop from v.histories) (Sorte
 
 -- ---- the one at a place
 
-drop_is : (hs : List History) (i : ℕ) (h : History) → slice_get hs i ≡ Some h → drop i hs ≡ h ∷ drop (suc i) hs
+pub drop_is : (hs : List History) (i : ℕ) (h : History) → slice_get hs i ≡ Some h → drop i hs ≡ h ∷ drop (suc i) hs
 drop_is [] i h is = absurd (cc is)
 drop_is (g ∷ gs) zero h is = let same : g ≡ h = cc is in ap (λ (x : History). x ∷ gs) same
 drop_is (g ∷ gs) (suc i) h is = drop_is gs i h is
@@ -118,7 +118,7 @@ All-get P [] i h all is = absurd (cc is)
 All-get P (g ∷ gs) zero h all is = let same : g ≡ h = cc is in subst P same all.0
 All-get P (g ∷ gs) (suc i) h all is = All-get P gs i h all.1 is
 
-no_history : (hs : List History) (i : ℕ) → i < length hs → slice_get hs i ≡ None → ⊥
+pub no_history : (hs : List History) (i : ℕ) → i < length hs → slice_get hs i ≡ None → ⊥
 no_history [] i low is = absurd (omega (arith, low))
 no_history (h ∷ hs) zero low is = absurd (cc is)
 no_history (h ∷ hs) (suc i) low is = no_history hs i (omega (arith, low)) is

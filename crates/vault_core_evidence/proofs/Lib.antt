@@ -18,3 +18,5 @@ pub mod DepartmentTests
 pub mod HolderLemmas
 pub mod DepartmentRuns
 pub mod LawfulStays
+pub mod ShownByIds
+pub mod ShownLaws

@@ -5,4 +5,5 @@ pub mod Departments
 pub mod Holders
 pub mod Breaches
 pub mod Parts
+pub mod Shown
 pub mod Walk

@@ -14,6 +14,7 @@ use Rattle.vault_core_evidence.specs.declared.seen_moves.SeenMoves.{SeenMoves}
 use Rattle.vault_core_evidence.specs.Departments.{removed_at}
 use Rattle.vault_core_evidence.specs.Holders.{fits_holder, holder_of, longer}
 use Rattle.vault_core_evidence.specs.Moves.{seen_after, seen_of}
+use Rattle.vault_core_evidence.specs.Shown.{shown_by}
 use Rattle.vault_core_evidence.specs.Breaches.{Test, broken, move_tests, rule_tests, test}
 
 -- what these tenures break is found; where they break nothing they were seen
@@ -45,3 +46,11 @@ Finds v s k (Some e) settings tenures found seen holders =
 -- the same of the entry of that id, with its settings and tenures
 abbrev pub FindsAt : Vault → SeenMoves → Holders → ℕ → Option Law → SeenMoves → Holders → Type 0
 FindsAt v s k id found seen holders = Finds v s k (entry_of v id) (settings_of v id) (tenures_of v id) found seen holders
+
+-- the last moment that the entry of that id shows
+abbrev pub Shows : Option Entry → List Setting → List Tenure → ℕ → Type 0
+Shows None settings tenures shown = Unit {0}
+Shows (Some e) settings tenures shown = shown ≡ shown_by e settings tenures
+
+abbrev pub ShowsAt : Vault → ℕ → ℕ → Type 0
+ShowsAt v id shown = Shows (entry_of v id) (settings_of v id) (tenures_of v id) shown

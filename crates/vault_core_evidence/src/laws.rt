@@ -19,6 +19,7 @@ ghost use Rattle.vault_core_evidence.specs.Departments.{Agree, AllAgree, Departm
 ghost use Rattle.vault_core_evidence.specs.Lawful.{IsLawful, Lawful, has_registrar};
 ghost use Rattle.vault_core_evidence.specs.Moves.{MovesAgree, are_as_seen};
 ghost use Rattle.vault_core_evidence.specs.Parts.{LawfulAfter, next_of, part, part_breach, range};
+ghost use Rattle.vault_core_evidence.specs.Shown.{last_shown};
 
 /// Over any run from a sound vault, what happened before a moment that isn't past its last one stays what it
 /// was. So it does over each change that a vault allows, permitted or not.
@@ -57,6 +58,12 @@ pub fn the_registrar_stays()
 pub fn lawful_vaults_kept_the_rules()
     ensures removals { (v : Vault) → Lawful v → RemovalsWerePermitted v }
     ensures worm { (v : Vault) → Lawful v → Worm v }
+{}
+
+/// In a lawful vault no entry shows a moment after the vault's last one. Where none shows that one either, a command gave
+/// it that changed no entry, or another program.
+pub fn no_moment_is_after_the_last()
+    ensures { (v : Vault) → Sound v → Lawful v → last_shown v ≤ v.last }
 {}
 
 /// The tests find no breach exactly where every history is lawful, tenures of one number agree, versions of one bucket

@@ -10,4 +10,5 @@ mod locks;
 pub mod parts;
 mod rights;
 pub mod seen_moves;
+mod shown;
 pub mod walk;

@@ -1,12 +1,13 @@
 //! The first entry that breaks a law, of a vault or of a part of it: a walk over ids.
-ghost use Rattle.std.specs.Prelude.{◌≡◌, ◌≤◌, ◌-◌, IfOk, Ok, Some, length};
+ghost use Rattle.std.specs.Prelude.{◌≡◌, ◌≤◌, ◌-◌, IfOk, None, Ok, Some, length};
 ghost use Rattle.vault_core_model.specs.Leaves.{ReadsAs};
 ghost use Rattle.vault_core_model.specs.Reads.{entry_of, settings_of, tenures_of};
 ghost use Rattle.vault_core_evidence.specs.declared.breach.Law.TheVariants as law;
 ghost use Rattle.vault_core_evidence.specs.Breaches.{first_breach};
 ghost use Rattle.vault_core_evidence.specs.Departments.{removed_at};
-ghost use Rattle.vault_core_evidence.specs.Parts.{judged_part, range_breach};
-ghost use Rattle.vault_core_evidence.specs.Walk.{FindsAt, FindsDepartments, FindsMoves};
+ghost use Rattle.vault_core_evidence.specs.Parts.{judged_part, range, range_breach};
+ghost use Rattle.vault_core_evidence.specs.Shown.{last_shown, shown_in};
+ghost use Rattle.vault_core_evidence.specs.Walk.{FindsAt, FindsDepartments, FindsMoves, ShowsAt};
 
 use crate::breach::{Breach, Law};
 use crate::history::rule_breach;
@@ -14,6 +15,7 @@ use crate::holders::Holders;
 use crate::parts::{count_entries, most_of, next_of};
 use crate::rights::{is_first_caller, registrar_name};
 use crate::seen_moves::SeenMoves;
+use crate::shown::{first_moment, later, shown_by};
 use std::alloc::{AllocError, Global};
 use vault_base::moment::Moment;
 use vault_base::name::VersionId;
@@ -95,8 +97,15 @@ fn department_breach(
     }
 }
 
-/// The first law that the entry of that id breaks, after the moves and the versions that were seen. `now` is the last
-/// moment.
+/// The first law that an entry breaks, and the last moment that it shows.
+#[derive(Clone, Copy)]
+struct Found {
+    law: Option<Law>,
+    shown: Moment,
+}
+
+/// The first law that the entry of that id breaks, after the moves and the versions that were seen, and the last moment
+/// that it shows. `now` is the last moment.
 fn breach_of<K: Keeper>(
     alloc: Global,
     keeper: &mut K,
@@ -104,58 +113,83 @@ fn breach_of<K: Keeper>(
     holders: &mut Holders,
     now: Moment,
     id: VersionId,
-) -> Result<Option<Law>, Fault>
+) -> Result<Found, Fault>
     requires now { K.is_honest keeper.old → now ≡ (K.vault keeper.old).last }
-    ensures value { K.is_honest keeper.new → IfOk result (λ found. FindsAt (K.vault keeper.old) seen.old holders.old id found seen.new holders.new) }
+    ensures value { K.is_honest keeper.new → IfOk result (λ found. FindsAt (K.vault keeper.old) seen.old holders.old id found.law seen.new holders.new) }
+    ensures shown { K.is_honest keeper.new → IfOk result (λ found. ShowsAt (K.vault keeper.old) id found.shown) }
     ensures leaves { ReadsAs K.Kept keeper.old keeper.new result }
 {
     let Some(entry) = keeper.entry(id)? else {
-        return Ok(None);
+        return Ok(Found {
+            law: None,
+            shown: now,
+        });
     };
     let settings = settings_of(alloc, keeper, id, &entry)?;
     let tenures = tenures_of(alloc, keeper, id, &entry)?;
-    let found = rule_breach(keeper, now, &entry, settings.as_slice(), tenures.as_slice())?;
-    if found.is_some() {
-        return Ok(found);
+    let shown = shown_by(&entry, settings.as_slice(), tenures.as_slice());
+    let law = rule_breach(keeper, now, &entry, settings.as_slice(), tenures.as_slice())?;
+    if law.is_some() {
+        return Ok(Found { law, shown });
     }
-    let found = move_breach(seen, &entry, tenures.as_slice())?;
-    if found.is_some() {
-        return Ok(found);
+    let law = move_breach(seen, &entry, tenures.as_slice())?;
+    if law.is_some() {
+        return Ok(Found { law, shown });
     }
-    Ok(department_breach(holders, &entry, tenures)?)
+    let law = department_breach(holders, &entry, tenures)?;
+    Ok(Found { law, shown })
 }
 
-/// The breach of a vault without the caller whom a new vault has.
-fn without_registrar() -> Result<Option<Breach>, Fault>
-    ensures { result ≡ Ok (Some (record { id = 1; law = law.Registrar })) }
+/// What is said of a vault, or of a part of it.
+#[derive(Clone, Copy)]
+pub struct Judged {
+    /// The first entry that breaks a law, and which.
+    pub breach: Option<Breach>,
+    /// Where none does, the last moment at which an entry was admitted, set, moved or removed; 1970 without an entry.
+    pub shown: Moment,
+    /// The vault's last moment.
+    pub last: Moment,
+}
+
+/// What is said of a vault without the caller whom a new vault has.
+fn without_registrar(last: Moment) -> Result<Judged, Fault>
+    ensures { result ≡ Ok (record { breach = Some (record { id = 1; law = law.Registrar }); shown = last; last = last }) }
 {
     let Some(id) = VersionId::new(1) else {
         return Err(Fault::Memory);
     };
     let law = Law::Registrar;
-    Ok(Some(Breach { id, law }))
+    Ok(Judged {
+        breach: Some(Breach { id, law }),
+        shown: last,
+        last,
+    })
 }
 
-/// The first of the `most` entries after an id that breaks a law, beside what these entries show. `now` is the last moment.
+/// The first of the `most` entries after an id that breaks a law, beside what these entries show; without one the last
+/// moment that they show. `now` is the last moment.
 fn find_breach<K: Keeper>(
     alloc: Global,
     keeper: &mut K,
     now: Moment,
     after: u32,
     most: u32,
-) -> Result<Option<Breach>, Fault>
+) -> Result<Judged, Fault>
     requires now { K.is_honest keeper.old → now ≡ (K.vault keeper.old).last }
     requires range { K.is_honest keeper.old → most ≤ length (K.vault keeper.old).histories - after }
-    ensures value { K.is_honest keeper.new → IfOk result (λ found. found ≡ range_breach (K.vault keeper.old) after most) }
+    ensures value { K.is_honest keeper.new → IfOk result (λ found. found.breach ≡ range_breach (K.vault keeper.old) after most) }
+    ensures shown { K.is_honest keeper.new → IfOk result (λ found. found.breach ≡ None → found.shown ≡ shown_in (range (K.vault keeper.old) after most)) }
+    ensures last { IfOk result (λ found. found.last ≡ now) }
     ensures leaves { ReadsAs K.Kept keeper.old keeper.new result }
 {
     let registrar = registrar_name(alloc)?;
     let caller = keeper.caller(&registrar)?;
     if !is_first_caller(&caller) {
-        return without_registrar();
+        return without_registrar(now);
     }
     let mut seen = SeenMoves::new(alloc);
     let mut holders = Holders::new(alloc);
+    let mut shown = first_moment();
     for place in 0..most {
         let Some(number) = after.checked_add(place + 1) else {
             return Err(Fault::Memory);
@@ -163,21 +197,34 @@ fn find_breach<K: Keeper>(
         let Some(id) = VersionId::new(number) else {
             return Err(Fault::Memory);
         };
-        if let Some(law) = breach_of(alloc, keeper, &mut seen, &mut holders, now, id)? {
-            return Ok(Some(Breach { id, law }));
+        let found = breach_of(alloc, keeper, &mut seen, &mut holders, now, id)?;
+        if let Some(law) = found.law {
+            return Ok(Judged {
+                breach: Some(Breach { id, law }),
+                shown,
+                last: now,
+            });
         }
+        shown = later(shown, found.shown);
     }
-    Ok(None)
+    Ok(Judged {
+        breach: None,
+        shown,
+        last: now,
+    })
 }
 
 /// The first entry that breaks a law, and the first law that it breaks; none where the history is one that
 /// commands can have made, as far as its admissions, settings, removals and tenures show. Without the caller `registrar`
-/// of a new vault it is entry 1, whether it is there or not.
+/// of a new vault it is entry 1, whether it is there or not. Where no entry breaks a law, the last moment that an entry
+/// shows: the vault's own may be later, as that of a command which changed no entry.
 ///
 /// It goes over the entries by rising id and has one of them in memory, beside a record of each move of a
 /// bucket, and the tenures of one version of each bucket.
-pub fn lawful<K: Keeper>(alloc: Global, keeper: &mut K) -> Result<Option<Breach>, Fault>
-    ensures value { K.is_honest keeper.new → IfOk result (λ found. found ≡ first_breach (K.vault keeper.old)) }
+pub fn lawful<K: Keeper>(alloc: Global, keeper: &mut K) -> Result<Judged, Fault>
+    ensures value { K.is_honest keeper.new → IfOk result (λ found. found.breach ≡ first_breach (K.vault keeper.old)) }
+    ensures shown { K.is_honest keeper.new → IfOk result (λ found. found.breach ≡ None → found.shown ≡ last_shown (K.vault keeper.old)) }
+    ensures last { K.is_honest keeper.new → IfOk result (λ found. found.last ≡ (K.vault keeper.old).last) }
     ensures leaves { ReadsAs K.Kept keeper.old keeper.new result }
 {
     let now = keeper.last()?;
@@ -206,9 +253,9 @@ pub fn lawful_part<K: Keeper>(
 {
     let now = keeper.last()?;
     let entries = count_entries(keeper)?;
-    let breach = find_breach(alloc, keeper, now, after, most_of(entries, after))?;
+    let found = find_breach(alloc, keeper, now, after, most_of(entries, after))?;
     Ok(JudgedPart {
-        breach,
+        breach: found.breach,
         next: next_of(entries, after),
     })
 }

@@ -2,7 +2,7 @@
 use std::alloc::Global;
 use std::test::Fail;
 use vault_base::name::{BucketName, DeptName, VersionId};
-use vault_core_evidence::walk::lawful;
+use vault_core_evidence::walk::{Judged, lawful};
 use vault_core_model::keeper::Keeper;
 use vault_core_model::records::Tenure;
 use vault_files::register::export_register;
@@ -192,7 +192,7 @@ fn push_events<K: Keeper>(alloc: Global, keeper: &mut K, text: &mut String) -> R
 
 /// Fails unless each setting and each removal keeps the rules.
 fn push_lawful<K: Keeper>(alloc: Global, keeper: &mut K, text: &mut String) -> Result<(), Fail> {
-    if !matches!(lawful(alloc, keeper), Ok(None)) {
+    if !matches!(lawful(alloc, keeper), Ok(Judged { breach: None, .. })) {
         return Err(Fail::new("the vault isn't lawful"));
     }
     text.push_str("lawful\n")?;

@@ -21,7 +21,7 @@ use std::alloc::{AllocError, Global};
 use std::io::Write;
 use vault_base::refusal::Refusal;
 use vault_core_evidence::breach::{Breach, Law};
-use vault_core_evidence::walk::lawful;
+use vault_core_evidence::walk::{Judged, lawful};
 use vault_core_model::halt::{Fault, Halt};
 use vault_core_model::keeper::Keeper;
 use vault_files::ExportFault;
@@ -182,8 +182,57 @@ fn say_breach<E: Write>(breach: &Breach, err: &mut E) {
     );
 }
 
+/// The last moment of a vault, and the last that an entry shows, in words. The error is out of memory.
+fn last_words(alloc: Global, judged: &Judged) -> Result<String, AllocError> {
+    let last = judged.last.text(alloc)?;
+    let shown = judged.shown.text(alloc)?;
+    format!(in alloc;
+        "the vault's last change is of {last}, and the last that an entry shows of {shown}"
+    )
+}
+
+/// Says both moments where the vault's last one is after all that entries show: a last moment that another program raised
+/// passes every test. Where this can't be written, nothing is said.
+fn say_last<E: Write>(alloc: Global, judged: &Judged, err: &mut E) {
+    if judged.last <= judged.shown {
+        return;
+    }
+    let _ = match last_words(alloc, judged) {
+        Ok(words) => writeln!(err, "{words}"),
+        Err(_) => writeln!(err, "no memory for the words on the vault's last change"),
+    };
+}
+
+/// Prints `lawful`, and says on `err` where the vault's last moment isn't one that an entry shows; or `unlawful` with the
+/// first entry that breaks a rule and which, and says on `err` in words what the entry shows.
+fn print_judged<W: Write, E: Write>(
+    alloc: Global,
+    judged: &Judged,
+    out: &mut W,
+    err: &mut E,
+) -> Result<Outcome, JobFault>
+    ensures ok { IfOk result (λ stated. spec.IsJudged judged.now.breach stated (W.contents out.old) (W.contents out.new)) }
+    ensures printed { IfOk result (λ stated. spec.PrintsLawful stated (W.contents out.old) (W.contents out.new)) }
+    ensures reader { result ≢ Err JobFault.Read }
+    ensures device { result ≢ Err JobFault.Device }
+{
+    match &judged.breach {
+        None => {
+            let printed = print_lawful(out);
+            say_last(alloc, judged, err);
+            printed
+        }
+        Some(breach) => {
+            let printed = print_breach(alloc, breach, out);
+            say_breach(breach, err);
+            printed
+        }
+    }
+}
+
 /// Prints `lawful` of a vault of which each setting and each removal keeps the rules; else `unlawful` with the first entry
-/// that breaks one and which, and says on `err` in words what the entry shows.
+/// that breaks one and which. On `err` it says in words what that entry shows, or where a lawful vault's last moment isn't
+/// one that an entry shows.
 pub fn answer_lawful<K: Keeper, W: Write, E: Write>(
     alloc: Global,
     keeper: &mut K,
@@ -197,12 +246,7 @@ pub fn answer_lawful<K: Keeper, W: Write, E: Write>(
     ensures reader { result ≢ Err JobFault.Read }
 {
     match lawful(alloc, keeper) {
-        Ok(None) => print_lawful(out),
-        Ok(Some(breach)) => {
-            let printed = print_breach(alloc, &breach, out);
-            say_breach(&breach, err);
-            printed
-        }
+        Ok(judged) => print_judged(alloc, &judged, out, err),
         Err(Fault::Memory) => Err(JobFault::Memory),
         Err(Fault::Device) => Err(JobFault::Device),
     }

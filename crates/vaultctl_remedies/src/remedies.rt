@@ -22,27 +22,15 @@ fn denial(reason: Reason) -> &'static str {
     }
 }
 
-/// What a refusal means and what to do, whatever was asked.
-pub fn remedy(refusal: Refusal) -> &'static str {
+/// What of a command isn't as it has to be: its time, a value, or what it names. Of another refusal it says nothing.
+fn unfit(refusal: Refusal) -> &'static str {
     match refusal {
         Refusal::ClockBack =>
             "the time, of --at or of the machine's clock, is before the vault's last change: give a later time or an equal one, or wait for it",
         Refusal::ClockOutOfRange =>
             "the time lies outside 1970 to 9999, or the machine's clock can't be read: correct --at, or set the clock",
-        Refusal::AccessDenied(reason) => denial(reason),
-        Refusal::NoSuchBucket =>
-            "no bucket of this vault has that name: check its spelling, or add it: vaultctl bucket FILE NAME DEPT --as registrar",
-        Refusal::NoSuchKey(true) =>
-            "a delete marker is on top of that key: list-versions has the versions below it, which are read by their id",
-        Refusal::NoSuchKey(false) => "nothing is held under that key: check every letter of it",
-        Refusal::NoSuchVersion =>
-            "no version with that number was ever in that bucket: check both; the register of this vault has all that were removed: vaultctl register FILE",
         Refusal::MethodNotAllowed =>
             "that version is a delete marker, or isn't of the kind that this needs: name another version",
-        Refusal::BucketAlreadyExists =>
-            "the vault has a bucket of that name already: nothing was changed; take another name, or use that bucket",
-        Refusal::NameTaken =>
-            "that name is taken, perhaps by one that was closed: nothing was changed; take another name",
         Refusal::InvalidArgument =>
             "a value isn't allowed: vaultctl COMMAND --help says what each word may be",
         Refusal::RetentionOutOfRange =>
@@ -57,13 +45,44 @@ pub fn remedy(refusal: Refusal) -> &'static str {
         Refusal::MissingContentLength =>
             "the request doesn't say how long its body is: have the client send content-length",
         Refusal::NotImplemented => "the vault doesn't do that: leave it out",
+        Refusal::IntakeConflict =>
+            "that line of the batch was taken in before with something else in it: give it as a line of its own, at the list's end",
+        _ => "",
+    }
+}
+
+/// What a refusal means and what to do, whatever was asked.
+pub fn remedy(refusal: Refusal) -> &'static str {
+    match refusal {
+        Refusal::ClockBack
+        | Refusal::ClockOutOfRange
+        | Refusal::MethodNotAllowed
+        | Refusal::InvalidArgument
+        | Refusal::RetentionOutOfRange
+        | Refusal::MalformedBody
+        | Refusal::EntityTooLarge
+        | Refusal::KeyTooLongError
+        | Refusal::InvalidBucketName
+        | Refusal::MissingContentLength
+        | Refusal::NotImplemented
+        | Refusal::IntakeConflict => unfit(refusal),
+        Refusal::AccessDenied(reason) => denial(reason),
+        Refusal::NoSuchBucket =>
+            "no bucket of this vault has that name: check its spelling, or add it: vaultctl bucket FILE NAME DEPT --as registrar",
+        Refusal::NoSuchKey(true) =>
+            "a delete marker is on top of that key: list-versions has the versions below it, which are read by their id",
+        Refusal::NoSuchKey(false) => "nothing is held under that key: check every letter of it",
+        Refusal::NoSuchVersion =>
+            "no version with that number was ever in that bucket: check both; the register of this vault has all that were removed: vaultctl register FILE",
+        Refusal::BucketAlreadyExists =>
+            "the vault has a bucket of that name already: nothing was changed; take another name, or use that bucket",
+        Refusal::NameTaken =>
+            "that name is taken, perhaps by one that was closed: nothing was changed; take another name",
         Refusal::NoSuchLifecycleConfiguration =>
             "the bucket has no lifecycle rules: nothing is to be done, unless rules are set first, by set-rules in a script",
         Refusal::QuotaExceeded =>
             "the department would have admitted and received more than 1,000,000,000,000 bytes in all, those of removed versions included: nothing was admitted; add another department, with a bucket of its own",
         Refusal::VaultFull => "the vault has no number left to give: begin another vault",
-        Refusal::IntakeConflict =>
-            "that line of the batch was taken in before with something else in it: give it as a line of its own, at the list's end",
         Refusal::Memory =>
             "the machine refused memory: nothing was changed; stop other programs, and give the command again",
         Refusal::Device =>
