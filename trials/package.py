@@ -154,7 +154,7 @@ def try_manual(root, debian):
     # What is recommended would be fetched from a mirror.
     (root.folder / "etc/apt/apt.conf.d/99trial").write_text('APT::Install-Recommends "0";\n')
     printed_as_shown("docs/MANUAL.md", root.folder, beside)
-    root.run("dpkg -V vaultctl")
+    root.run("dpkg -V vaultctl; ls /usr/share/vaultctl/vaultdesk/__pycache__/documents.*.pyc")
     check(root.run("stat -c '%U %G %a' /var/lib/vaultctl") == "vaultctl vaultctl 750\n", "the folder isn't the user's")
     check("Usage: vaultctl" in root.run("vaultctl --help", status=2), "the program doesn't run")
 
@@ -402,7 +402,7 @@ def remove(root):
     root.run(f"mkdir -p $(dirname {link}); ln -s nothing {link}")
     root.run("dpkg -r vaultctl; dpkg -P vaultctl")
     root.run("test -f /var/lib/vaultctl/records.vault; test ! -e /usr/bin/vaultctl; test ! -e /usr/bin/vaultdesk")
-    root.run(f"test -f /etc/vaultctl/records.conf; test ! -L {link}")
+    root.run(f"test ! -e /usr/share/vaultctl; test -f /etc/vaultctl/records.conf; test ! -L {link}")
 
 
 # In their order: each goes on with what those before it left.
