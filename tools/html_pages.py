@@ -17,7 +17,7 @@ STYLE = (
     "pre{overflow-x:auto;border:1px solid #999;padding:.6em}td,th{border-bottom:1px solid #999;padding:.2em .5em;"
     "text-align:left;vertical-align:top}table{border-collapse:collapse;display:block;overflow-x:auto}img{max-width:100%}"
     "nav form,nav input{display:inline;font:inherit}#contents{columns:20em;padding-left:1em;list-style:none}"
-    ".h3{padding-left:1em}@media print{nav,#contents{display:none}pre{white-space:pre-wrap}}"
+    ".h3,#contents:has(.h1) .h2{padding-left:1em}@media print{nav,#contents{display:none}pre{white-space:pre-wrap}}"
 )
 # From how many headings on a page has contents.
 LONG = 5
