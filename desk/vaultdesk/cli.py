@@ -3,6 +3,7 @@
 from __future__ import annotations
 
 import argparse
+import contextlib
 import importlib
 import sys
 from collections.abc import Sequence
@@ -10,7 +11,7 @@ from typing import TYPE_CHECKING
 
 from vaultdesk import __version__
 from vaultdesk.commands import FAMILIES, MACHINE
-from vaultdesk.errors import DeskError, Refused, UsageError
+from vaultdesk.errors import DeskError, EngineError, Refused, UsageError
 from vaultdesk.output import say, shown
 from vaultdesk.spelling import Parser, first_word, parsed
 
@@ -81,6 +82,8 @@ def carried_out(asked: argparse.Namespace) -> int:
         except Refused as error:
             raise DeskError(f"{error}{buckets_there(engine, error)}") from error
         except KeyboardInterrupt as error:
+            with contextlib.suppress(EngineError):  # that it can't write an answer which nobody waits for any more
+                engine.close()
             raise DeskError(f"interrupted: {engine.changed}") from error
     return 0
 
