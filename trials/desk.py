@@ -78,7 +78,7 @@ class Desk(Case):
         """Fails unless the test of an edit fails."""
         edit = EDITS[name]
         for it in ("desk", "contrib"):
-            shutil.copytree(TOP / it, self.folder / it)
+            shutil.copytree(TOP / it, self.folder / it, ignore=shutil.ignore_patterns("__pycache__"))
         why = edit.unmade(self.folder)
         check(not why, why)
         edit.make(self.folder)

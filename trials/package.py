@@ -17,6 +17,7 @@ import shlex
 import shutil
 import subprocess
 
+from trials.html_docs import check_pages
 from trials.pages import printed_as_shown
 from trials.program import EXAMPLES, PROGRAM, TOP, Case, check, needs, ran_words, shared_folder
 from trials.clean_system import Root, needs_system, said
@@ -153,7 +154,7 @@ def try_manual(root, debian):
     # What is recommended would be fetched from a mirror.
     (root.folder / "etc/apt/apt.conf.d/99trial").write_text('APT::Install-Recommends "0";\n')
     printed_as_shown("docs/MANUAL.md", root.folder, beside)
-    root.run("dpkg -V vaultctl")
+    root.run("dpkg -V vaultctl; ls /usr/share/vaultctl/vaultdesk/__pycache__/documents.*.pyc")
     check(root.run("stat -c '%U %G %a' /var/lib/vaultctl") == "vaultctl vaultctl 750\n", "the folder isn't the user's")
     check("Usage: vaultctl" in root.run("vaultctl --help", status=2), "the program doesn't run")
 
@@ -401,7 +402,7 @@ def remove(root):
     root.run(f"mkdir -p $(dirname {link}); ln -s nothing {link}")
     root.run("dpkg -r vaultctl; dpkg -P vaultctl")
     root.run("test -f /var/lib/vaultctl/records.vault; test ! -e /usr/bin/vaultctl; test ! -e /usr/bin/vaultdesk")
-    root.run(f"test -f /etc/vaultctl/records.conf; test ! -L {link}")
+    root.run(f"test ! -e /usr/share/vaultctl; test -f /etc/vaultctl/records.conf; test ! -L {link}")
 
 
 # In their order: each goes on with what those before it left.
@@ -490,23 +491,7 @@ class Files(Case):
             check(found <= MOST_EXPOSED[name], f"{name} is exposed by {found}: {says}")
 
     def test_html(self):
-        """Each link of a page leads to a page of the package or into the page itself, each picture that it shows is
-        there, and each table is one."""
-        folder = self.unpacked / "usr/share/doc/vaultctl/html"
-        pages = {it.name: it.read_text() for it in folder.glob("*.html")}
-        there = {it.name for it in folder.iterdir()} - pages.keys()
-        shown = {it for text in pages.values() for it in re.findall(r'<img [^>]*src="([^"]*)"', text)}
-        check("images-vault-page.png" in shown and shown == there, f"the pages show {shown}, and there are {there}")
-        unlisted = pages.keys() - {it.partition("#")[0] for it in re.findall(r'href="([^"]*)"', pages["index.html"])}
-        check(unlisted == {"index.html"}, f"index.html has no link to {unlisted}")
-        for name, text in pages.items():
-            for target in re.findall(r'href="([^"]*)"', text):
-                file, _, place = target.partition("#")
-                check("://" in target or not file or file in pages, f"{name} has a link to {target}")
-                if place and "://" not in target:
-                    check(f'id="{place}"' in pages[file or name], f"{name} has a link to {target}, which isn't there")
-            plain = re.sub(r"<pre>.*?</pre>", "", text, flags=re.S)
-            check(not re.search(r"^\|.*\|$", plain, re.M), f"{name} has a table as text")
+        check_pages(self.unpacked / "usr/share/doc/vaultctl/html")
 
     @needs("zsh")
     def test_zsh(self):

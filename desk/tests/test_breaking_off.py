@@ -14,7 +14,7 @@ from unittest import mock
 
 from tests.office import OfficeTest
 from tests.served import ServedTest
-from vaultdesk import intake
+from vaultdesk import intake, ways
 from vaultdesk.engine import Engine
 
 TOP = Path(__file__).resolve().parents[2]
@@ -104,6 +104,16 @@ class InTheMiddle(OfficeTest):
         with mock.patch("vaultdesk.documents.read_content", side_effect=KeyboardInterrupt):
             done = self.desk("put", "docs", "e", "none")
         self.assertEqual((done.status, done.err), (1, "vaultdesk put: interrupted: nothing was changed\n"))
+
+    def test_an_answer_that_nobody_waits_for_is_no_fault(self) -> None:
+        """The engine can't write it, as the desk has ended: what is said is that the desk was interrupted."""
+        end = ways.Replay._end
+        with (
+            mock.patch("vaultdesk.ways.Replay._exchange", side_effect=KeyboardInterrupt),
+            mock.patch("vaultdesk.ways.Replay._end", autospec=True, side_effect=lambda it: end(it) or 1),
+        ):
+            done = self.desk("info", "docs", "a")
+        self.assertEqual((done.status, done.err), (1, "vaultdesk info: interrupted: nothing was changed\n"))
 
     def test_a_change_under_way_is_named(self) -> None:
         with mock.patch("vaultdesk.ways.Replay.answer", side_effect=KeyboardInterrupt):

@@ -3,31 +3,21 @@
 from __future__ import annotations
 
 import argparse
+import contextlib
+import importlib
 import sys
 from collections.abc import Sequence
+from typing import TYPE_CHECKING
 
-from vaultdesk import (
-    __version__, answer, cases, deliveries, described, disposal, documents, due, evidence, exporting, find, history,
-    locks, moments, office, people, policies, reading, schedule, trail, whereabouts, years_end,
-)
-from vaultdesk import (
-    backup, closing, copies, glue, health_port, metrics, night, offices, page, restoring, server, standby, status,
-    users,
-)
-from vaultdesk.s3 import words as s3
-from vaultdesk.web import words as web
-from vaultdesk.config import desk
-from vaultdesk.engine import Engine
-from vaultdesk.errors import DeskError, Refused, UsageError
+from vaultdesk import __version__
+from vaultdesk.commands import FAMILIES, MACHINE
+from vaultdesk.errors import DeskError, EngineError, Refused, UsageError
 from vaultdesk.output import say, shown
-from vaultdesk.spelling import Parser, parsed
+from vaultdesk.spelling import Parser, first_word, parsed
 
-# Those that ask about a vault, and those that look after files, servers and users.
-FAMILIES = (
-    documents, described, exporting, find, history, locks, cases, policies, deliveries, years_end, evidence, answer,
-    office, people, schedule, disposal, due, trail, whereabouts, status, closing,
-)  # fmt: skip
-MACHINE = (page, backup, copies, restoring, night, server, health_port, metrics, offices, users, s3, web, standby, glue)
+if TYPE_CHECKING:
+    from vaultdesk.engine import Engine
+
 SHOWN = 8  # names of buckets in one sentence
 ABOUT = """The office's desk: documents, deliveries, locks, rules, evidence, the year's end and the office itself, in
 words and without JSON. vaultdesk help COMMAND has the words of each. Status: 0 done; 1 refused or a fault; 2 the
@@ -46,18 +36,20 @@ def common_words() -> argparse.ArgumentParser:
     return it
 
 
-def words() -> Parser:
-    """All words of the desk."""
+def words(only: str | None = None) -> Parser:
+    """All words of the desk; or of one subcommand, beside the names of the others."""
     it = Parser(prog="vaultdesk", description=ABOUT)
     it.add_argument("--version", action="version", version=f"vaultdesk {__version__}")
     commands = it.add_subparsers(dest="command", required=True, metavar="COMMAND")
-    common = common_words()
-    for family in FAMILIES:
-        family.add(commands, common)
     plain = argparse.ArgumentParser(add_help=False)
     plain.add_argument("--json", action="store_true", help="print JSON")
-    for other in MACHINE:
-        other.add(commands, plain)
+    for families, common in ((FAMILIES, common_words()), (MACHINE, plain)):
+        for name, about in families.items():
+            if only is None or only in about:
+                importlib.import_module(f"vaultdesk.{name}").add(commands, common)
+                continue
+            for command, what in about.items():
+                commands.add_parser(command, help=what, add_help=False)
     return it
 
 
@@ -65,6 +57,8 @@ def buckets_there(engine: Engine, error: Refused) -> str:
     """What is said of the buckets that are there, where one isn't; empty where they can't be read at once."""
     if error.code != "NoSuchBucket" or engine.is_served:
         return ""
+    from vaultdesk import reading
+
     try:
         there = [str(it) for (it,) in reading.rows(engine.tables, "SELECT name FROM buckets ORDER BY name")]
     except DeskError:
@@ -77,6 +71,10 @@ def carried_out(asked: argparse.Namespace) -> int:
     """The status of what the words ask for: `do` needs no engine, `run` does."""
     if "do" in asked:
         return int(asked.do(asked))
+    from vaultdesk import moments  # what follows isn't imported for --help
+    from vaultdesk.config import desk
+    from vaultdesk.engine import Engine
+
     at = moments.read(asked.at) if asked.at else None
     with Engine(desk(asked.vault, asked.caller, asked.door), at) as engine:
         try:
@@ -84,13 +82,16 @@ def carried_out(asked: argparse.Namespace) -> int:
         except Refused as error:
             raise DeskError(f"{error}{buckets_there(engine, error)}") from error
         except KeyboardInterrupt as error:
+            with contextlib.suppress(EngineError):  # that it can't write an answer which nobody waits for any more
+                engine.close()
             raise DeskError(f"interrupted: {engine.changed}") from error
     return 0
 
 
 def main(given: Sequence[str] | None = None) -> int:
     """Carries out what the words ask for, and returns the exit status."""
-    asked = parsed(words(), given)
+    typed = sys.argv[1:] if given is None else given
+    asked = parsed(words(only=first_word(typed)), typed)
     try:
         return carried_out(asked)
     except DeskError as error:

@@ -92,25 +92,39 @@ def _leaf(parser: argparse.ArgumentParser, words: Sequence[str]) -> tuple[argpar
     return parser, count
 
 
-def arranged(parser: Parser, given: Sequence[str]) -> list[str]:
-    """The words as the parser takes them: options that stand before the command come after it, and `help WORD` is
-    `WORD --help`. The program ends with status 2 where another option stands there."""
+def _led(given: Sequence[str]) -> tuple[list[str], list[str]]:
+    """The options that stand before the command, and the words from the command on."""
     name, first, rest = "", list[str](), list(given)
     while rest and (name := rest[0].partition("=")[0]) in LEADING:
         is_pair = LEADING[name] and "=" not in rest[0]
         first += rest[:2] if is_pair else rest[:1]
         rest = rest[2:] if is_pair else rest[1:]
+    return first, rest
+
+
+def first_word(given: Sequence[str]) -> str:
+    """The command that is asked for, or whose help is; empty where none is."""
+    _, rest = _led(given)
+    rest = rest[1:] if rest[:1] == ["help"] else rest
+    return rest[0] if rest else ""
+
+
+def arranged(parser: Parser, given: Sequence[str]) -> list[str]:
+    """The words as the parser takes them: options that stand before the command come after it, and `help WORD` is
+    `WORD --help`. The program ends with status 2 where another option stands there."""
+    first, rest = _led(given)
     if rest[:1] == ["help"]:
         return [*rest[1:], "--help"]
-    if rest and rest[0].startswith("-") and not any(it.startswith(name) for it in parser.options()):
+    name = rest[0].partition("=")[0] if rest else ""
+    if name.startswith("-") and not any(it.startswith(name) for it in parser.options()):
         parser.refuse_words(rest[:1])
     _, count = _leaf(parser, rest)
     return [*rest[:count], *first, *rest[count:]]
 
 
-def parsed(parser: Parser, given: Sequence[str] | None) -> argparse.Namespace:
+def parsed(parser: Parser, given: Sequence[str]) -> argparse.Namespace:
     """What the words ask for. The program ends with status 2 where they aren't understood."""
-    words = arranged(parser, sys.argv[1:] if given is None else given)
+    words = arranged(parser, given)
     asked, left = parser.parse_known_args(words)
     if left:
         leaf, _ = _leaf(parser, words)
