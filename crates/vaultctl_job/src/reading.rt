@@ -312,6 +312,7 @@ pub fn job_named(
     };
     let job = job_read(&mut memory, name, matches);
     if memory.is_short {
+        drop(job);
         return Err(AllocError);
     }
     Ok(job)
