@@ -7,9 +7,8 @@ use Rattle.httparse.specs.Grammar.{RequestHead, print_request}
 use Rattle.httparse.specs.Spans.{IsRequestAt, span_bytes}
 use Rattle.httparse.specs.declared.spans.HeaderSpan.{HeaderSpan}
 use Rattle.httparse.specs.declared.spans.RequestSpans.{RequestSpans}
-use Rattle.vault_core_model.specs.Vault.{Vault}
 use Rattle.vault_http.specs.Command.{IsWithinLength}
-use Rattle.vault_http.specs.Exchange.{HeadJudged, PlanServed, Said, ServedFor, head_asked_for, is_shown, spans_asked}
+use Rattle.vault_http.specs.Exchange.{Carrying, HeadJudged, PlanServed, Said, ServedFor, head_asked_for, is_shown, spans_asked}
 use Rattle.vault_http_request.specs.Head.{IsHead}
 use Rattle.vault_http.specs.Judging.{ComesTo, Denies, IsDenial, Judges}
 use Rattle.vault_http.specs.Left.{DeniedLeft, DenyLeft, HeadLeft, IsBodyTaken, IsTakenFor, LeftFor}
@@ -48,13 +47,13 @@ some_in input rest buf p some = let whole : length input ≡ length buf + length
 
 -- ---- a refusal
 
-module _ (Failed : Type 0) (moment : Option ℕ) (shown : Bool) (rest : List ℕ) (d : Denial) (old : Vault) where
-  denied_judged : (said : Said) (out : List ℕ) → IsDenial d shown said → AnswersRefusal moment d.refusal d.allow d.shown out → HeadJudged Failed moment shown said rest old out old
+module _ {S : Type 0} (Carries : Carrying S) (moment : Option ℕ) (shown : Bool) (rest : List ℕ) (d : Denial) (old : S) where
+  denied_judged : (said : Said) (out : List ℕ) → IsDenial d shown said → AnswersRefusal moment d.refusal d.allow d.shown out → HeadJudged Carries moment shown said rest old out old
   denied_judged (Ok (asked.Plan plan)) out is s = absurd is
   denied_judged (Ok (asked.NotAllowed r)) out is s = (refl, subst (λ (x : Denial). AnswersRefusal moment x.refusal x.allow x.shown out) is s)
   denied_judged (Err r) out is s = (refl, subst (λ (x : Denial). AnswersRefusal moment x.refusal x.allow x.shown out) is s)
 
-  denied_unjudged : (said : Said) (e : ServeFault) (unread a b : Option (List ℕ)) → IsDenial d shown said → DeniedLeft e moment d.shown d.refusal d.allow old old a b → HeadLeft Failed e moment shown said rest unread old old a b
+  denied_unjudged : (said : Said) (e : ServeFault) (unread a b : Option (List ℕ)) → IsDenial d shown said → DeniedLeft e moment d.shown d.refusal d.allow old old a b → HeadLeft Carries e moment shown said rest unread old old a b
   denied_unjudged (Ok (asked.Plan plan)) e unread a b is s = absurd is
   denied_unjudged (Ok (asked.NotAllowed r)) e unread a b is s = subst (λ (x : Denial). DeniedLeft e moment x.shown x.refusal x.allow old old a b) is s
   denied_unjudged (Err r) e unread a b is s = subst (λ (x : Denial). DeniedLeft e moment x.shown x.refusal x.allow old old a b) is s
@@ -64,34 +63,34 @@ denied_body d shown (Ok (asked.Plan plan)) is = absurd is
 denied_body d shown (Ok (asked.NotAllowed r)) is = refl
 denied_body d shown (Err r) is = refl
 
-deny_denied : (e : ServeFault) (moment : Option ℕ) (d : Denial) (old : Vault) (a b : Option (List ℕ)) → DenyLeft e moment d.refusal d.allow d.shown a b → DeniedLeft e moment d.shown d.refusal d.allow old old a b
+deny_denied : {S : Type 0} (e : ServeFault) (moment : Option ℕ) (d : Denial) (old : S) (a b : Option (List ℕ)) → DenyLeft e moment d.refusal d.allow d.shown a b → DeniedLeft e moment d.shown d.refusal d.allow old old a b
 deny_denied faults.Read moment d old a b s = absurd s
 deny_denied faults.Memory moment d old a b s = (refl, s)
 deny_denied faults.Write moment d old a b s = (s.0, (refl, s.1), s.2)
 
-module _ (hosts : List (List ℕ)) (Failed : Type 0) (moment : Option ℕ) where
+module _ {S : Type 0} (hosts : List (List ℕ)) (Carries : Carrying S) (moment : Option ℕ) where
   -- a refusal was answered
-  pub denied_served : (known left a b : Option (List ℕ)) (buf : List ℕ) (d : Denial) (old : Vault) → Consumes known left buf → Denies hosts moment known buf d → ((out : List ℕ) × AnswersRefusal moment d.refusal d.allow d.shown out × Appends a b out)
-      → IfSome known (λ input. (out : List ℕ) × ServedFor hosts Failed moment input old out old × Appends a b out)
+  pub denied_served : (known left a b : Option (List ℕ)) (buf : List ℕ) (d : Denial) (old : S) → Consumes known left buf → Denies hosts moment known buf d → ((out : List ℕ) × AnswersRefusal moment d.refusal d.allow d.shown out × Appends a b out)
+      → IfSome known (λ input. (out : List ℕ) × ServedFor hosts Carries moment input old out old × Appends a b out)
   denied_served None left a b buf d old p j s = tt
   denied_served (Some input) None a b buf d old p j s = absurd p
   denied_served (Some input) (Some rest) a b buf d old p (inl (is, none, some, few)) s =
       (s.0, inr (inl (some_in input rest buf p some, none, (refl, subst (λ (x : Denial). AnswersRefusal moment x.refusal x.allow x.shown s.0) is s.1))), s.2)
   denied_served (Some input) (Some rest) a b buf d old p (inr (h, head, is)) s =
-      (s.0, inr (inr (h, rest, at_front input rest buf h p head, denied_judged Failed moment (is_shown h.method) rest d old (head_asked_for hosts moment h) s.0 is s.1)), s.2)
+      (s.0, inr (inr (h, rest, at_front input rest buf h p head, denied_judged Carries moment (is_shown h.method) rest d old (head_asked_for hosts moment h) s.0 is s.1)), s.2)
 
-  denied_left_by : (e : ServeFault) (input rest : List ℕ) (unread a b : Option (List ℕ)) (buf : List ℕ) (d : Denial) (old : Vault) → input ≡ buf ++ rest → Denies hosts moment (Some input) buf d → DeniedLeft e moment d.shown d.refusal d.allow old old a b
-      → LeftFor hosts Failed e moment input unread old old a b
+  denied_left_by : (e : ServeFault) (input rest : List ℕ) (unread a b : Option (List ℕ)) (buf : List ℕ) (d : Denial) (old : S) → input ≡ buf ++ rest → Denies hosts moment (Some input) buf d → DeniedLeft e moment d.shown d.refusal d.allow old old a b
+      → LeftFor hosts Carries e moment input unread old old a b
   denied_left_by faults.Read input rest unread a b buf d old p j s = inl s
   denied_left_by faults.Memory input rest unread a b buf d old p j s = inl s
   denied_left_by faults.Write input rest unread a b buf d old p (inl (is, none, some, few)) s =
       inl (some_in input rest buf p some, none, subst (λ (x : Denial). DeniedLeft faults.Write moment x.shown x.refusal x.allow old old a b) is s)
   denied_left_by faults.Write input rest unread a b buf d old p (inr (h, head, is)) s =
-      inr (h, rest, at_front input rest buf h p head, denied_unjudged Failed moment (is_shown h.method) rest d old (head_asked_for hosts moment h) faults.Write unread a b is s)
+      inr (h, rest, at_front input rest buf h p head, denied_unjudged Carries moment (is_shown h.method) rest d old (head_asked_for hosts moment h) faults.Write unread a b is s)
 
   -- its answer failed
-  pub denied_left : (known left unread a b : Option (List ℕ)) (buf : List ℕ) (d : Denial) (old : Vault) → Consumes known left buf → Denies hosts moment known buf d
-      → (e : ServeFault) → DenyLeft e moment d.refusal d.allow d.shown a b → IfSome known (λ input. LeftFor hosts Failed e moment input unread old old a b)
+  pub denied_left : (known left unread a b : Option (List ℕ)) (buf : List ℕ) (d : Denial) (old : S) → Consumes known left buf → Denies hosts moment known buf d
+      → (e : ServeFault) → DenyLeft e moment d.refusal d.allow d.shown a b → IfSome known (λ input. LeftFor hosts Carries e moment input unread old old a b)
   denied_left None left unread a b buf d old p j e s = tt
   denied_left (Some input) None unread a b buf d old p j e s = absurd p
   denied_left (Some input) (Some rest) unread a b buf d old p j e s = denied_left_by e input rest unread a b buf d old p j (deny_denied e moment d old a b s)
@@ -99,12 +98,12 @@ module _ (hosts : List (List ℕ)) (Failed : Type 0) (moment : Option ℕ) where
   -- ---- a plan
 
   -- a plan was served
-  pub planned_served : (known left a b : Option (List ℕ)) (buf : List ℕ) (plan : Plan) (shown : Bool) (old new : Vault) → Consumes known left buf → Judges hosts moment known buf (Planned plan shown) → IfSome left (λ rest. (out : List ℕ) × PlanServed Failed shown plan rest old out new × Appends a b out)
-      → IfSome known (λ input. (out : List ℕ) × ServedFor hosts Failed moment input old out new × Appends a b out)
+  pub planned_served : (known left a b : Option (List ℕ)) (buf : List ℕ) (plan : Plan) (shown : Bool) (old new : S) → Consumes known left buf → Judges hosts moment known buf (Planned plan shown) → IfSome left (λ rest. (out : List ℕ) × PlanServed Carries shown plan rest old out new × Appends a b out)
+      → IfSome known (λ input. (out : List ℕ) × ServedFor hosts Carries moment input old out new × Appends a b out)
   planned_served None left a b buf plan shown old new p j s = tt
   planned_served (Some input) None a b buf plan shown old new p j s = absurd p
   planned_served (Some input) (Some rest) a b buf plan shown old new p (h, head, (is, said, at)) s =
-      (s.0, inr (inr (h, rest, at_front input rest buf h p head, subst (λ (x : Said). HeadJudged Failed moment (is_shown h.method) x rest old s.0 new) (sym said) (subst (λ (t : Bool). PlanServed Failed t plan rest old s.0 new) is s.1))), s.2)
+      (s.0, inr (inr (h, rest, at_front input rest buf h p head, subst (λ (x : Said). HeadJudged Carries moment (is_shown h.method) x rest old s.0 new) (sym said) (subst (λ (t : Bool). PlanServed Carries t plan rest old s.0 new) is s.1))), s.2)
 
 -- ---- what was read
 

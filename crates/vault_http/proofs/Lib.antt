@@ -3,3 +3,4 @@ pub mod TextLemmas
 pub mod Counted
 pub mod Serves
 pub mod JudgingLemmas
+pub mod StateLemmas

@@ -1,5 +1,5 @@
 -- Which bytes are the answer to which request, and what the request does with the vault.
-use Rattle.std.specs.Prelude.{ℕ, ◌≡◌, ◌<◌, ◌⊎◌, List, [], ◌∷◌, ◌++◌, length, map, take, codes, Bool, true, false, not, IsTrue, Option, Some, None, IfSome, Result, Ok, Err, if◌then◌else◌}
+use Rattle.std.specs.Prelude.{ℕ, ◌≡◌, ◌<◌, ◌⊎◌, List, [], ◌∷◌, ◌++◌, length, map, take, codes, Bool, true, false, not, Option, Some, None, IfSome, Result, Ok, Err, if◌then◌else◌}
 use Rattle.std.specs.Io.KnownBytes.{Appends}
 use Rattle.httparse.specs.Grammar.{RequestHead}
 use Rattle.httparse.specs.Spans.{name_and_value, header_bytes}
@@ -7,11 +7,10 @@ use Rattle.httparse.specs.declared.spans.HeaderSpan.{HeaderSpan}
 use Rattle.httparse.specs.declared.spans.RequestSpans.{RequestSpans}
 use Rattle.vault_base.specs.declared.refusal.Refusal.{Refusal}
 use Rattle.vault_base.specs.declared.refusal.Refusal.TheVariants as refusal
-use Rattle.vault_core_model.specs.Halts.{is_device_reply}
-use Rattle.vault_core_model.specs.Step.{IsStep}
-use Rattle.vault_core_model.specs.Vault.{Vault}
+use Rattle.vault_core.specs.Hearing.{timed}
 use Rattle.vault_core_model.specs.declared.command.Command.{Command}
 use Rattle.vault_core_model.specs.declared.command.Command.TheVariants as command
+use Rattle.vault_core_model.specs.declared.command.Timed.{Timed}
 use Rattle.vault_core_model.specs.declared.reply.Reply.{Reply}
 use Rattle.vault_http.specs.Reply.{AnswersRefusal, AnswersReply}
 use Rattle.vault_http.specs.declared.answer.head.Allow.{Allow}
@@ -35,19 +34,22 @@ abbrev pub drops : Command → Bool
 drops (command.DropRules c) = true
 drops _ = false
 
--- A command is carried out, and its reply answered. Here and below Failed says that the device failed: a reply
--- that it did is answered only then.
-abbrev pub Done : Type 0 → ℕ → Bool → List ℕ → Command → Vault → List ℕ → Vault → Type 0
-Done Failed at shown who c old out new =
-    (reply : Reply) × IsStep old at who c reply new × AnswersReply (Some at) (drops c) reply shown out × (IsTrue (is_device_reply reply) → Failed)
+-- how commands are carried out: a state, a command with its reading and caller, its reply, the state after it
+abbrev pub Carrying : Type 0 → Type 1
+Carrying S = S → Timed → Reply → S → Type 0
+
+-- A command is carried out, and its reply answered. Here and below a state is a vault, or it and whoever hears of commands.
+abbrev pub Done : {S : Type 0} → Carrying S → ℕ → Bool → List ℕ → Command → S → List ℕ → S → Type 0
+Done Carries at shown who c old out new =
+    (reply : Reply) × Carries old (timed at who c) reply new × AnswersReply (Some at) (drops c) reply shown out
 
 -- a refusal is answered, and nothing is carried out
-abbrev pub Denied : Option ℕ → Bool → Refusal → Option Allow → Vault → List ℕ → Vault → Type 0
+abbrev pub Denied : {S : Type 0} → Option ℕ → Bool → Refusal → Option Allow → S → List ℕ → S → Type 0
 Denied moment shown r a old out new = (new ≡ old) × AnswersRefusal moment r a shown out
 
-abbrev pub Judged : Type 0 → ℕ → Bool → List ℕ → Result Command Refusal → Vault → List ℕ → Vault → Type 0
-Judged Failed at shown who (Ok c) old out new = Done Failed at shown who c old out new
-Judged Failed at shown who (Err r) old out new = Denied (Some at) shown r None old out new
+abbrev pub Judged : {S : Type 0} → Carrying S → ℕ → Bool → List ℕ → Result Command Refusal → S → List ℕ → S → Type 0
+Judged Carries at shown who (Ok c) old out new = Done Carries at shown who c old out new
+Judged Carries at shown who (Err r) old out new = Denied (Some at) shown r None old out new
 
 -- ---- a head, and what comes after it
 
@@ -64,9 +66,9 @@ abbrev pub planned_command : Plan → List ℕ → Result Command Refusal
 planned_command plan rest = command_after plan.operation plan.headers.locks plan.headers.length rest
 
 -- what is written for a plan and what comes after its head
-abbrev pub PlanServed : Type 0 → Bool → Plan → List ℕ → Vault → List ℕ → Vault → Type 0
-PlanServed Failed shown plan rest old out new =
-    (answer : List ℕ) × (out ≡ interim plan.headers.waits ++ answer) × Judged Failed plan.at shown plan.headers.caller (planned_command plan rest) old answer new
+abbrev pub PlanServed : {S : Type 0} → Carrying S → Bool → Plan → List ℕ → S → List ℕ → S → Type 0
+PlanServed Carries shown plan rest old out new =
+    (answer : List ℕ) × (out ≡ interim plan.headers.waits ++ answer) × Judged Carries plan.at shown plan.headers.caller (planned_command plan rest) old answer new
 
 -- which methods a target has
 abbrev pub allow_of : Resource → Allow
@@ -87,9 +89,9 @@ OnSaid planned denied (Ok (asked.NotAllowed r)) = denied refusal.MethodNotAllowe
 OnSaid planned denied (Err r) = denied r None
 
 -- what is written for what a head asks for
-abbrev pub HeadJudged : Type 0 → Option ℕ → Bool → Said → List ℕ → Vault → List ℕ → Vault → Type 0
-HeadJudged Failed moment shown said rest old out new =
-    OnSaid (λ plan. PlanServed Failed shown plan rest old out new) (λ r a. Denied moment shown r a old out new) said
+abbrev pub HeadJudged : {S : Type 0} → Carrying S → Option ℕ → Bool → Said → List ℕ → S → List ℕ → S → Type 0
+HeadJudged Carries moment shown said rest old out new =
+    OnSaid (λ plan. PlanServed Carries shown plan rest old out new) (λ r a. Denied moment shown r a old out new) said
 
 -- an answer to HEAD shows no body
 abbrev pub is_shown : List ℕ → Bool
@@ -108,22 +110,22 @@ abbrev pub head_asked_for : List (List ℕ) → Option ℕ → RequestHead → S
 head_asked_for hosts moment h = asked_for hosts (map name_and_value h.fields) (head_asked moment h)
 
 -- what is written for a head and what comes after it
-abbrev pub HeadServed : List (List ℕ) → Type 0 → Option ℕ → RequestHead → List ℕ → Vault → List ℕ → Vault → Type 0
-HeadServed hosts Failed moment h rest old out new = HeadJudged Failed moment (is_shown h.method) (head_asked_for hosts moment h) rest old out new
+abbrev pub HeadServed : {S : Type 0} → List (List ℕ) → Carrying S → Option ℕ → RequestHead → List ℕ → S → List ℕ → S → Type 0
+HeadServed hosts Carries moment h rest old out new = HeadJudged Carries moment (is_shown h.method) (head_asked_for hosts moment h) rest old out new
 
 -- ---- requests
 
 -- what is written for an input, where these hosts are answered for: nothing for nothing, a refusal where there is no head, else the answer of its head
-abbrev pub ServedFor : List (List ℕ) → Type 0 → Option ℕ → List ℕ → Vault → List ℕ → Vault → Type 0
-ServedFor hosts Failed moment input old out new =
+abbrev pub ServedFor : {S : Type 0} → List (List ℕ) → Carrying S → Option ℕ → List ℕ → S → List ℕ → S → Type 0
+ServedFor hosts Carries moment input old out new =
     ((input ≡ []) × (out ≡ []) × (new ≡ old))
     ⊎ (((0 < length input) × HasNoHead input × Denied moment true refusal.InvalidArgument None old out new)
-    ⊎ ((h : RequestHead) × (rest : List ℕ) × IsHead input h rest × HeadServed hosts Failed moment h rest old out new))
+    ⊎ ((h : RequestHead) × (rest : List ℕ) × IsHead input h rest × HeadServed hosts Carries moment h rest old out new))
 
 -- what is written for an input where it is known
-abbrev pub Answered : List (List ℕ) → Type 0 → Option ℕ → Option (List ℕ) → Vault → Vault → Option (List ℕ) → Option (List ℕ) → Type 0
-Answered hosts Failed moment known old new before after =
-    IfSome known (λ input. (out : List ℕ) × ServedFor hosts Failed moment input old out new × Appends before after out)
+abbrev pub Answered : {S : Type 0} → List (List ℕ) → Carrying S → Option ℕ → Option (List ℕ) → S → S → Option (List ℕ) → Option (List ℕ) → Type 0
+Answered hosts Carries moment known old new before after =
+    IfSome known (λ input. (out : List ℕ) × ServedFor hosts Carries moment input old out new × Appends before after out)
 
 -- the parts of a head where they lie in a buffer
 abbrev pub spans_asked : List (List ℕ) → Option ℕ → List ℕ → List HeaderSpan → RequestSpans → Said

@@ -1,7 +1,7 @@
 //! Commands carried out, and refusals, with their answers written.
 ghost use Rattle.std.specs.Prelude.{◌≡◌, ℕ, List, IfErr, OnOk, Ok, Err, Some};
 ghost use Rattle.std.specs.Io.KnownBytes.{Appends};
-ghost use Rattle.vault_http.specs.Calls.{DoneBy, JudgedBy, JudgedLeftBy, JudgedLeavesBy};
+ghost use Rattle.vault_http.specs.Calls.{CarriedBy, JudgedBy, JudgedLeftBy, JudgedLeavesBy};
 ghost use Rattle.vault_http.specs.Reply.{AnswersRefusal};
 ghost use Rattle.vault_http.specs.Exchange as spec;
 ghost use Rattle.vault_core.specs.Hearing.{AtMostOne, HearsOnce};
@@ -55,11 +55,8 @@ fn answer<W: Write, K: Keeper, H: Hears>(
     context: &RequestContext,
     command: &Command,
 ) -> Result<(), ServeFault>
-    ensures ok { DoneBy K.Kept keeper.old keeper.new W.Write writer.old writer.new result context.now command.now }
-    ensures err { JudgedLeftBy K.Kept keeper.old keeper.new W.Write writer.old writer.new result context.now (Ok command.now) }
+    ensures carried { CarriedBy K.Kept keeper.old keeper.new H.hears hears.old hears.new W.Write writer.old writer.new result context.now command.now }
     ensures kind { ¬ (result ≡ Err faults.Read) }
-    ensures once { K.is_honest keeper.new → AtMostOne (Some context.now.at) (K.vault keeper.old) (K.vault keeper.new) }
-    ensures heard { K.is_honest keeper.new → HearsOnce H.hears hears.old hears.new (Some context.now.at) (K.vault keeper.old) (K.vault keeper.new) }
     ensures leaves { JudgedLeavesBy K.Kept keeper.old keeper.new W.Write writer.old writer.new result context.now (Ok command.now) }
 {
     let at = context.at;
@@ -80,11 +77,8 @@ fn finish<W: Write, K: Keeper, H: Hears>(
     context: &RequestContext,
     command: Command,
 ) -> Result<(), ServeFault>
-    ensures ok { DoneBy K.Kept keeper.old keeper.new W.Write writer.old writer.new result context.now command }
-    ensures err { JudgedLeftBy K.Kept keeper.old keeper.new W.Write writer.old writer.new result context.now (Ok command) }
+    ensures carried { CarriedBy K.Kept keeper.old keeper.new H.hears hears.old hears.new W.Write writer.old writer.new result context.now command }
     ensures kind { ¬ (result ≡ Err faults.Read) }
-    ensures once { K.is_honest keeper.new → AtMostOne (Some context.now.at) (K.vault keeper.old) (K.vault keeper.new) }
-    ensures heard { K.is_honest keeper.new → HearsOnce H.hears hears.old hears.new (Some context.now.at) (K.vault keeper.old) (K.vault keeper.new) }
     ensures leaves { JudgedLeavesBy K.Kept keeper.old keeper.new W.Write writer.old writer.new result context.now (Ok command) }
 {
     let written = answer(alloc, writer, keeper, hears, context, &command);
@@ -118,8 +112,9 @@ pub fn conclude<W: Write, K: Keeper, H: Hears>(
     context: &RequestContext,
     judged: Result<Command, Refusal>,
 ) -> Result<(), ServeFault>
-    ensures ok { JudgedBy K.Kept keeper.old keeper.new W.Write writer.old writer.new result context.now judged }
-    ensures err { JudgedLeftBy K.Kept keeper.old keeper.new W.Write writer.old writer.new result context.now judged }
+    // The reply that is answered is the one that is heard of.
+    ensures ok { JudgedBy K.Kept keeper.old keeper.new H.hears hears.old hears.new W.Write writer.old writer.new result context.now judged }
+    ensures err { JudgedLeftBy K.Kept keeper.old keeper.new H.hears hears.old hears.new W.Write writer.old writer.new result context.now judged }
     ensures once { K.is_honest keeper.new → AtMostOne (Some context.now.at) (K.vault keeper.old) (K.vault keeper.new) }
     ensures heard { K.is_honest keeper.new → HearsOnce H.hears hears.old hears.new (Some context.now.at) (K.vault keeper.old) (K.vault keeper.new) }
     ensures kind { ¬ (result ≡ Err faults.Read) }

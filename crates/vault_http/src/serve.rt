@@ -1,9 +1,10 @@
 //! One request, served.
-ghost use Rattle.std.specs.Prelude.{◌≡◌, [], ℕ, List, OnOk, Err, Some};
+ghost use Rattle.std.specs.Prelude.{◌≡◌, [], ℕ, List, IfErr, OnOk, Err, Some};
 ghost use Rattle.std.specs.Io.KnownBytes.{Consumes};
 ghost use Rattle.vault_base.specs.Days.{moment_at};
-ghost use Rattle.vault_http.specs.Calls.{AnsweredBy, LeavesBy, PlanLeftBy, PlanServedBy, UnansweredBy};
+ghost use Rattle.vault_http.specs.Calls.{AnsweredBy, LeavesBy, PlanLeftBy, PlanServedBy, Steps, UnansweredBy};
 ghost use Rattle.vault_http.specs.Command.{IsWithinLength};
+ghost use Rattle.vault_http.specs.Exchange.{Answered};
 ghost use Rattle.vault_core.specs.Hearing.{AtMostOne, HearsOnce};
 ghost use Rattle.vault_http.specs.Left as left;
 ghost use Rattle.vault_http.specs.declared.fault.ServeFault.TheVariants as faults;
@@ -47,8 +48,8 @@ fn serve_plan<R: Read, W: Write, K: Keeper, H: Hears>(
     hears: &mut H,
     planned: Planned,
 ) -> Result<(), ServeFault>
-    ensures ok { PlanServedBy K.Kept keeper.old keeper.new R.Read reader.old reader.new W.Write writer.old writer.new result planned.shown planned.plan }
-    ensures err { PlanLeftBy K.Kept keeper.old keeper.new R.Read reader.old reader.new W.Write writer.old writer.new result planned.shown planned.plan }
+    ensures ok { PlanServedBy K.Kept keeper.old keeper.new H.hears hears.old hears.new R.Read reader.old reader.new W.Write writer.old writer.new result planned.shown planned.plan }
+    ensures err { PlanLeftBy K.Kept keeper.old keeper.new H.hears hears.old hears.new R.Read reader.old reader.new W.Write writer.old writer.new result planned.shown planned.plan }
     ensures once { K.is_honest keeper.new → AtMostOne (Some planned.plan.at) (K.vault keeper.old) (K.vault keeper.new) }
     ensures heard { K.is_honest keeper.new → HearsOnce H.hears hears.old hears.new (Some planned.plan.at) (K.vault keeper.old) (K.vault keeper.new) }
     ensures unread { result ≡ Err faults.Read → K.vault keeper.new ≡ K.vault keeper.old }
@@ -95,8 +96,10 @@ pub fn serve_one<R: Read, W: Write, K: Keeper>(
     keeper: &mut K,
     reading: i64,
 ) -> Result<(), ServeFault>
-    ensures ok { AnsweredBy K.Kept keeper.old keeper.new R.Read reader.old reader.new W.Write writer.old writer.new result [] (moment_at reading) }
-    ensures err { UnansweredBy K.Kept keeper.old keeper.new R.Read reader.old reader.new W.Write writer.old writer.new result [] (moment_at reading) }
+    ensures ok { K.is_honest keeper.new → OnOk result (Answered [] (Steps K.Kept keeper.old keeper.new) (moment_at reading)
+        (R.remaining reader.old) (K.vault keeper.old) (K.vault keeper.new) (W.contents writer.old) (W.contents writer.new)) }
+    ensures err { K.is_honest keeper.new → IfErr result (λ e. left.Unanswered [] (Steps K.Kept keeper.old keeper.new) e (moment_at reading)
+        (R.remaining reader.old) (R.remaining reader.new) (K.vault keeper.old) (K.vault keeper.new) (W.contents writer.old) (W.contents writer.new)) }
     ensures once { K.is_honest keeper.new → AtMostOne (moment_at reading) (K.vault keeper.old) (K.vault keeper.new) }
     ensures unread { result ≡ Err faults.Read → K.vault keeper.new ≡ K.vault keeper.old }
     ensures taken { OnOk result (left.Taken [] (moment_at reading) (R.remaining reader.old) (R.remaining reader.new)) }
@@ -126,8 +129,9 @@ pub fn serve_for<R: Read, W: Write, K: Keeper, H: Hears>(
     hears: &mut H,
     occasion: &Occasion<'_>,
 ) -> Result<(), ServeFault>
-    ensures ok { AnsweredBy K.Kept keeper.old keeper.new R.Read reader.old reader.new W.Write writer.old writer.new result occasion.now.hosts.now occasion.now.moment }
-    ensures err { UnansweredBy K.Kept keeper.old keeper.new R.Read reader.old reader.new W.Write writer.old writer.new result occasion.now.hosts.now occasion.now.moment }
+    // The command of the request was carried out, and its reply is the one that is answered and heard of.
+    ensures ok { AnsweredBy K.Kept keeper.old keeper.new H.hears hears.old hears.new R.Read reader.old reader.new W.Write writer.old writer.new result occasion.now.hosts.now occasion.now.moment }
+    ensures err { UnansweredBy K.Kept keeper.old keeper.new H.hears hears.old hears.new R.Read reader.old reader.new W.Write writer.old writer.new result occasion.now.hosts.now occasion.now.moment }
     ensures once { K.is_honest keeper.new → AtMostOne occasion.now.moment (K.vault keeper.old) (K.vault keeper.new) }
     ensures heard { K.is_honest keeper.new → HearsOnce H.hears hears.old hears.new occasion.now.moment (K.vault keeper.old) (K.vault keeper.new) }
     ensures unread { result ≡ Err faults.Read → K.vault keeper.new ≡ K.vault keeper.old }

@@ -1,19 +1,17 @@
 -- Lemmas on lines that are carried out one after another.
-use Rattle.std.proofs.Common.{◌≡◌, ℕ, List, [], ◌∷◌, ◌++◌, refl, ap, sym, ◌∙◌, append_assoc, append-nil, subst, take, Bool, true, false, Option, Some, None, Result, Ok, Err, OnOk, OnErr, inl, inr, arith}
-use Rattle.std.specs.Prelude.{◌||◌, IfOk, String, string_bytes}
+use Rattle.std.proofs.Common.{◌≡◌, ℕ, List, [], ◌∷◌, ◌++◌, refl, ap, sym, ◌∙◌, append_assoc, append-nil, subst, take, Bool, true, false, Option, Some, None, Result, Ok, Err, IfErr, OnOk, OnErr, inl, inr, arith}
+use Rattle.std.specs.Prelude.{◌||◌}
 use Rattle.std.specs.List.{list_any}
-use Rattle.std.specs.declared.alloc.AllocError.{AllocError}
-use Rattle.std.specs.declared.alloc.Global.{Global}
 use Rattle.std.specs.Io.KnownBytes.{Appends, Consumes, Keeps}
 use Rattle.std.proofs.KnownBytes.{Appends-nil, Appends-trans}
 use Rattle.std.proofs.lemmas.List.Concat.{flat_map-append}
 use Rattle.std.proofs.lemmas.List.Folds.{list_any-append}
-use Rattle.vault_base.specs.declared.refusal.Refusal.{Refusal}
 use Rattle.vault_core_model.specs.Halts.{is_device_reply}
 use Rattle.vault_core_model.specs.Leaves.{count_after}
 use Rattle.vault_core_model.specs.Step.{IsRun, Reached, IsStep}
 use Rattle.vault_core_model.specs.Vault.{Vault, opening}
 use Rattle.vault_core_model.specs.declared.command.Timed.{Timed}
+use Rattle.vault_core_model.specs.declared.kept.Kept.{Ghosts}
 use Rattle.vault_core_model.specs.declared.reply.Reply.{Reply}
 use Rattle.vault_core_model.specs.declared.reply.Reply.TheVariants as reply
 use Rattle.vault_lines_reply.specs.ReplyLine.{reply_text}
@@ -21,7 +19,9 @@ use Rattle.vault_lines_read.specs.declared.read_line.Line.TheVariants.{Command, 
 use Rattle.vault_lines_read.specs.declared.read_line.Line.{Line}
 use Rattle.vault_io.specs.Begins.{Begins}
 use Rattle.vaultctl_replay.specs.Lines.{advance, asked_in, last_of, AskSoFar}
-use Rattle.vaultctl_replay.specs.Runs.{lines_of, Answers, Replied, Runs, Finished, Began, Unwritten, AnswersAll, AnswersEnded, AnswersSome, Steady}
+use Rattle.vaultctl_replay.specs.Runs.{lines_of, Answers, Runs, Finished, Began, AnswersAll, AnswersEnded, AnswersSome, HeardBy, HearsLine, Sent, Steady}
+use Rattle.vaultctl_replay.specs.declared.fault.ReplayFault.{ReplayFault}
+use Rattle.vaultctl_replay.specs.declared.fault.ReplayFault.TheVariants as faults
 use Rattle.vaultctl_replay.proofs.LineLemmas.{advance-append, asked_all, asked_ended, asked_in-append, most_kept}
 
 -- ---- what is known where the device was honest later is known where it was honest before
@@ -55,43 +55,55 @@ kept H v v' n n' w asked same still = ([], [], asked, refl, omega arith, v, n, [
 one_run : (H : Type 0) (v v' : Vault) (n n' : ℕ) (asked : Line) (replies : List Reply) → Answers H v n asked replies v' n' → Runs H v n (asked ∷ []) replies v' n'
 one_run H v v' n n' asked replies s = (v', n', replies, [], s, (refl, refl, refl), sym (append-nil replies))
 
-pub one_finished : (H : Type 0) (v v' : Vault) (n n' : ℕ) (w w' : Option (List ℕ)) (asked : Line) (out : List ℕ) → Replied H v n asked out v' n' → Appends w w' out → Finished H v n w (asked ∷ []) v' n' w'
-one_finished H v v' n n' w w' asked out s a =
-    let P : List ℕ → Type 0 = λ o. Appends w w' o in
-    (s.0, one_run H v v' n n' asked s.0 s.1, subst P s.2 a)
-
 begun_with : (H : Type 0) (v v' : Vault) (n n' : ℕ) (w w' : Option (List ℕ)) (asked : Line) (replies : List Reply) (sent unsent : List ℕ) → Answers H v n asked replies v' n' → lines_of replies ≡ sent ++ unsent → Appends w w' sent → Began H v n w (asked ∷ []) v' n' w'
 begun_with H v v' n n' w w' asked replies sent unsent s e a =
     ([], asked ∷ [], [], refl, omega arith, v, n, [], replies, sent, unsent, (refl, refl, refl), one_run H v v' n n' asked replies s, e, a)
 
-pub one_begun : (H : Type 0) (v v' : Vault) (n n' : ℕ) (w w' : Option (List ℕ)) (asked : Line) (out sent unsent : List ℕ) → Replied H v n asked out v' n' → out ≡ sent ++ unsent → Appends w w' sent → Began H v n w (asked ∷ []) v' n' w'
-one_begun H v v' n n' w w' asked out sent unsent s e a = begun_with H v v' n n' w w' asked s.0 sent unsent s.1 (sym s.2 ∙ e) a
+-- a line that was carried out, and heard of
+module _ {K : Type 0} (g : Ghosts K) (old new : K) {J : Type 0} (hears : J → Timed → Reply → J → Type 0) (j j' : J) where
+  -- has these replies
+  pub heard_answers : (Writes : List ℕ → Type 0) (asked : Line) → HeardBy g old new hears j j' Writes asked
+      → (replies : List Reply) × Answers (g.is_honest new) (g.vault old) (g.count old) asked replies (g.vault new) (g.count new) × Writes (lines_of replies)
+  heard_answers Writes Skip d = ([], (refl, d.0, d.1), d.3)
+  heard_answers Writes (Refused r) d = (reply.Refused r ∷ [], (refl, d.0, d.1), subst Writes (lines_of-one (reply.Refused r)) d.3)
+  heard_answers Writes (Command c) d = (d.0 ∷ [], (d.0, d.1, refl, d.2), subst Writes (lines_of-one d.0) d.4)
 
-pub unwritten_begun : (H : Type 0) (v v' : Vault) (n n' : ℕ) (w : Option (List ℕ)) (asked : Line) → Unwritten H v n asked v' n' → Began H v n w (asked ∷ []) v' n' w
-unwritten_begun H v v' n n' w asked u =
-    elim u [
-      | inl same ↦ kept H v v' n n' w (asked ∷ []) same.0 same.1
-      | inr s ↦ begun_with H v v' n n' w w asked s.0 [] (lines_of s.0) s.1 refl (Appends-nil w)
-    ]
+  module _ {T : Type 0} (w w' : Option (List ℕ)) (asked : Line) where
+    pub heard_finished : (r : Result T ReplayFault) → HeardBy g old new hears j j' (Sent r w w') asked → OnOk r (Finished (g.is_honest new) (g.vault old) (g.count old) w (asked ∷ []) (g.vault new) (g.count new) w')
+    heard_finished (Ok t) d =
+        let a = heard_answers (Sent {T = T} (Ok t) w w') asked d in
+        (a.0, one_run (g.is_honest new) (g.vault old) (g.vault new) (g.count old) (g.count new) asked a.0 a.1, a.2)
+    heard_finished (Err e) d = tt
 
--- a line that is refused
-pub refusal_replied : (H : Type 0) (v : Vault) (n : ℕ) (r : Refusal) (text : Result (String Global) AllocError) → IfOk text (λ t. string_bytes t ≡ reply_text (reply.Refused r)) → IfOk text (λ t. Replied H v n (Refused r) (string_bytes t) v n)
-refusal_replied H v n r (Ok t) stated = (reply.Refused r ∷ [], (refl, refl, refl), stated ∙ lines_of-one (reply.Refused r))
-refusal_replied H v n r (Err e) stated = stated
+    pub heard_began : (r : Result T ReplayFault) → HeardBy g old new hears j j' (Sent r w w') asked → OnErr r (Began (g.is_honest new) (g.vault old) (g.count old) w (asked ∷ []) (g.vault new) (g.count new) w')
+    heard_began (Ok t) d = tt
+    heard_began (Err faults.Read) d = absurd (heard_answers (Sent {T = T} (Err faults.Read) w w') asked d).2
+    heard_began (Err faults.Write) d =
+        let a = heard_answers (Sent {T = T} (Err faults.Write) w w') asked d in
+        begun_with (g.is_honest new) (g.vault old) (g.vault new) (g.count old) (g.count new) w w' asked a.0 a.2.0 a.2.1 a.1 a.2.2 a.2.3
+    heard_began (Err faults.Memory) d =
+        let a = heard_answers (Sent {T = T} (Err faults.Memory) w w') asked d in
+        let P : Option (List ℕ) → Type 0 = λ x. Appends w x [] in
+        begun_with (g.is_honest new) (g.vault old) (g.vault new) (g.count old) (g.count new) w w' asked a.0 [] (lines_of a.0) a.1 refl (subst P (sym a.2) (Appends-nil w))
 
--- a step that was made, with what its reply says of the count of failures
-module _ (H : Type 0) (v v' : Vault) (n n' : ℕ) (c : Timed) (r : Reply) (made : H → IsStep v c.at c.who c.command r v') (counted : n' ≡ count_after n (is_device_reply r)) where
-  answered : Answers H v n (Command c) (r ∷ []) v' n'
-  answered = (r, made, refl, counted)
+  -- where it is said of what is to be written, that is said of what is equal to it
+  pub heard_weaker : (Writes Wrote : List ℕ → Type 0) → ((out : List ℕ) → Writes out → Wrote out) → (asked : Line) → HeardBy g old new hears j j' Writes asked → HeardBy g old new hears j j' Wrote asked
+  heard_weaker Writes Wrote each Skip d = (d.0, d.1, d.2, each [] d.3)
+  heard_weaker Writes Wrote each (Refused r) d = (d.0, d.1, d.2, each (reply_text (reply.Refused r)) d.3)
+  heard_weaker Writes Wrote each (Command c) d = (d.0, d.1, d.2, d.3, each (reply_text d.0) d.4)
 
-  -- its reply isn't written
-  pub command_unwritten : Unwritten H v n (Command c) v' n'
-  command_unwritten = inr (r ∷ [], answered)
+  -- its command was heard of, where the device was honest
+  pub heard_line : (Writes : List ℕ → Type 0) (asked : Line) → HeardBy g old new hears j j' Writes asked → g.is_honest new → HearsLine hears j j' asked (g.vault old) (g.vault new)
+  heard_line Writes Skip d h = (d.0, d.2)
+  heard_line Writes (Refused r) d h = (d.0, d.2)
+  heard_line Writes (Command c) d h = (d.0, d.1 h, d.3)
 
-  -- its reply was made
-  pub command_replied : (text : Result (String Global) AllocError) → IfOk text (λ t. string_bytes t ≡ reply_text r) → IfOk text (λ t. Replied H v n (Command c) (string_bytes t) v' n')
-  command_replied (Ok t) stated = (r ∷ [], answered, stated ∙ lines_of-one r)
-  command_replied (Err e) stated = stated
+-- the line of a reply was written, or a beginning of it
+pub line_sent : {T : Type 0} (r : Result T ReplayFault) (w w' : Option (List ℕ)) (line out : List ℕ) → line ≡ out → OnOk r (Appends w w' line) → OnErr r (Begins w w' line) → IfErr r (λ e. e ≡ faults.Write) → Sent r w w' out
+line_sent (Ok t) w w' line out same ok err write = subst (Appends w w') same ok
+line_sent (Err faults.Read) w w' line out same ok err write = absurd (cc write)
+line_sent (Err faults.Write) w w' line out same ok err write = subst (Begins w w') same err
+line_sent (Err faults.Memory) w w' line out same ok err write = absurd (cc write)
 
 -- a run may be joined to one that follows it
 Runs-then : (H : Type 0) (a b c : Vault) (i j k : ℕ) (ls ms : List Line) (x y : List Reply) → Runs H a i ls x b j → Runs H b j ms y c k → Runs H a i (ls ++ ms) (x ++ y) c k

@@ -1,5 +1,5 @@
 -- Lines that are carried out one after another, and what is written of their replies.
-use Rattle.std.specs.Prelude.{◌≡◌, ◌≤◌, ℕ, List, [], ◌∷◌, ◌++◌, length, Option, ◌⊎◌, false}
+use Rattle.std.specs.Prelude.{◌≡◌, ◌≤◌, ℕ, List, [], ◌∷◌, ◌++◌, length, Option, false, Result, MatchResult}
 use Rattle.std.specs.Io.KnownBytes.{Appends}
 use Rattle.std.specs.List.{flat_map, list_any}
 use Rattle.std.specs.declared.io.Write.{Ghosts as Writing}
@@ -16,6 +16,8 @@ use Rattle.vault_lines_read.specs.declared.read_line.Line.{Line}
 use Rattle.vault_lines_read.specs.declared.read_line.Line.TheVariants.{Skip, Command, Refused}
 use Rattle.vault_io.specs.Begins.{Begins}
 use Rattle.vaultctl_replay.specs.Lines.{AskFor, AskSoFar, EndedAskFor}
+use Rattle.vaultctl_replay.specs.declared.fault.ReplayFault.{ReplayFault}
+use Rattle.vaultctl_replay.specs.declared.fault.ReplayFault.TheVariants as faults
 
 -- what is to be written of the replies
 abbrev pub lines_of : List Reply → List ℕ
@@ -27,14 +29,6 @@ Answers Honest v n Skip replies v' n' = (replies ≡ []) × (v' ≡ v) × (n' �
 Answers Honest v n (Refused r) replies v' n' = (replies ≡ reply.Refused r ∷ []) × (v' ≡ v) × (n' ≡ n)
 Answers Honest v n (Command c) replies v' n' =
     (r : Reply) × (Honest → IsStep v c.at c.who c.command r v') × (replies ≡ r ∷ []) × (n' ≡ count_after n (is_device_reply r))
-
--- the line was carried out, and this is to be written of its reply
-abbrev pub Replied : Type 0 → Vault → ℕ → Line → List ℕ → Vault → ℕ → Type 0
-Replied Honest v n asked out v' n' = (replies : List Reply) × Answers Honest v n asked replies v' n' × (out ≡ lines_of replies)
-
--- the line was carried out or not, and nothing of its reply is written
-abbrev pub Unwritten : Type 0 → Vault → ℕ → Line → Vault → ℕ → Type 0
-Unwritten Honest v n asked v' n' = ((v' ≡ v) × (n' ≡ n)) ⊎ ((replies : List Reply) × Answers Honest v n asked replies v' n')
 
 -- the lines lead from v to v', one after another, and these are their replies
 abbrev pub Runs : Type 0 → Vault → ℕ → List Line → List Reply → Vault → ℕ → Type 0
@@ -73,15 +67,6 @@ Steady Honest AtEnd v n w taken v' n' w' =
 
 -- ---- the same, of the keeper and the writer of a call before it and after it
 
-module _ {K : Type 0} (g : Ghosts K) (old new : K) where
-  -- the keeper carried the line out, and this is to be written of its reply
-  abbrev pub RepliedBy : Line → List ℕ → Type 0
-  RepliedBy asked out = Replied (g.is_honest new) (g.vault old) (g.count old) asked out (g.vault new) (g.count new)
-
-  -- the keeper carried the line out or not, and nothing of its reply is written
-  abbrev pub UnwrittenBy : Line → Type 0
-  UnwrittenBy asked = Unwritten (g.is_honest new) (g.vault old) (g.count old) asked (g.vault new) (g.count new)
-
 module _ {K : Type 0} (g : Ghosts K) (old new : K) {W : Type 0} (w : Writing W) (before after : W) where
   -- the keeper carried the lines out, and their replies were written
   abbrev pub FinishedBy : List Line → Type 0
@@ -91,7 +76,25 @@ module _ {K : Type 0} (g : Ghosts K) (old new : K) {W : Type 0} (w : Writing W) 
   abbrev pub BeganBy : List Line → Type 0
   BeganBy asked = Began (g.is_honest new) (g.vault old) (g.count old) (w.contents before) asked (g.vault new) (g.count new) (w.contents after)
 
--- ---- what is heard of a line
+-- ---- one line, and what is heard of it
+
+-- what a fault leaves written of a reply: a beginning where the writer failed, nothing where there was no room
+abbrev pub SentBefore : ReplayFault → Option (List ℕ) → Option (List ℕ) → List ℕ → Type 0
+SentBefore faults.Read w w' out = ⊥
+SentBefore faults.Write w w' out = Begins w w' out
+SentBefore faults.Memory w w' out = w' ≡ w
+
+-- the reply was written, or what a fault leaves of it
+abbrev pub Sent : {T : Type 0} → Result T ReplayFault → Option (List ℕ) → Option (List ℕ) → List ℕ → Type 0
+Sent result w w' out = MatchResult result (λ _. Appends w w' out) (λ fault. SentBefore fault w w' out)
+
+module _ {K : Type 0} (g : Ghosts K) (old new : K) {J : Type 0} (hears : J → Timed → Reply → J → Type 0) (j j' : J) where
+  -- The line was carried out, and so much is said of what is to be written of its reply. Its command was heard of, with that reply; where it asks for none, nothing was.
+  abbrev pub HeardBy : (List ℕ → Type 0) → Line → Type 0
+  HeardBy Writes Skip = (g.vault new ≡ g.vault old) × (g.count new ≡ g.count old) × (j' ≡ j) × Writes []
+  HeardBy Writes (Refused r) = (g.vault new ≡ g.vault old) × (g.count new ≡ g.count old) × (j' ≡ j) × Writes (reply_text (reply.Refused r))
+  HeardBy Writes (Command c) =
+      (r : Reply) × (g.is_honest new → IsStep (g.vault old) c.at c.who c.command r (g.vault new)) × (g.count new ≡ count_after (g.count old) (is_device_reply r)) × hears j c r j' × Writes (reply_text r)
 
 -- its command was carried out, and heard of with its reply; where it asks for none, nothing was
 abbrev pub HearsLine : {J : Type 0} → (J → Timed → Reply → J → Type 0) → J → J → Line → Vault → Vault → Type 0

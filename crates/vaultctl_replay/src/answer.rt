@@ -5,7 +5,7 @@ ghost use Rattle.vault_lines_read.specs.ReadLine.{line_of};
 ghost use Rattle.vault_lines_reply.specs.ReplyLine.{reply_text};
 ghost use Rattle.vault_lines_read.specs.declared.read_line.Line.TheVariants.{Command};
 ghost use Rattle.vaultctl_replay.specs.Lines.{unended_of};
-ghost use Rattle.vaultctl_replay.specs.Runs.{BeganBy, FinishedBy, HearsLine, RepliedBy, UnwrittenBy};
+ghost use Rattle.vaultctl_replay.specs.Runs.{BeganBy, FinishedBy, HeardBy, HearsLine, Sent};
 
 use crate::fault::ReplayFault;
 use crate::observer::Observer;
@@ -38,9 +38,7 @@ fn carried_out<K: Keeper, H: Hears>(
     hears: &mut H,
     timed: Timed,
 ) -> Result<String, AllocError>
-    ensures ok { IfOk result (λ text. RepliedBy K.Kept keeper.old keeper.new (Command timed) (string_bytes text)) }
-    ensures err { OnErr result (UnwrittenBy K.Kept keeper.old keeper.new (Command timed)) }
-    ensures heard { K.is_honest keeper.new → HearsLine H.hears hears.old hears.new (Command timed) (K.vault keeper.old) (K.vault keeper.new) }
+    ensures answered { HeardBy K.Kept keeper.old keeper.new H.hears hears.old hears.new (λ out. IfOk result (λ text. string_bytes text ≡ out)) (Command timed) }
     ensures leaves { LeavesNoLess K.Kept keeper.old keeper.new }
 {
     let reply = step(alloc, keeper, timed.at, &timed.who, &timed.command);
@@ -56,9 +54,7 @@ fn reply_to<K: Keeper, H: Hears>(
     hears: &mut H,
     asked: Line,
 ) -> Result<String, AllocError>
-    ensures ok { IfOk result (λ reply. RepliedBy K.Kept keeper.old keeper.new asked (string_bytes reply)) }
-    ensures err { OnErr result (UnwrittenBy K.Kept keeper.old keeper.new asked) }
-    ensures heard { K.is_honest keeper.new → HearsLine H.hears hears.old hears.new asked (K.vault keeper.old) (K.vault keeper.new) }
+    ensures answered { HeardBy K.Kept keeper.old keeper.new H.hears hears.old hears.new (λ out. IfOk result (λ text. string_bytes text ≡ out)) asked }
     ensures leaves { LeavesNoLess K.Kept keeper.old keeper.new }
 {
     match asked {
@@ -82,6 +78,8 @@ pub fn answer<K: Keeper, W: Write, H: Hears>(
     ensures err { OnErr result (BeganBy K.Kept keeper.old keeper.new W.Write writer.old writer.new (asked ∷ [])) }
     ensures kind { ¬ (result ≡ Err ReplayFault.Read) }
     ensures heard { K.is_honest keeper.new → HearsLine H.hears hears.old hears.new asked (K.vault keeper.old) (K.vault keeper.new) }
+    // The reply that is heard of is the one that is written.
+    ensures answered { HeardBy K.Kept keeper.old keeper.new H.hears hears.old hears.new (Sent result (W.contents writer.old) (W.contents writer.new)) asked }
     ensures leaves { LeavesNoLess K.Kept keeper.old keeper.new }
 {
     let Ok(reply) = reply_to(alloc, keeper, hears, asked) else {

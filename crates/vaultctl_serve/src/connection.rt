@@ -1,8 +1,7 @@
 //! One connection, and its one request.
 ghost use Rattle.std.specs.Prelude.{ℕ, ◌≡◌, List, Option, IfErr, IfSome, OnOk, Err};
 ghost use Rattle.std.specs.Io.KnownBytes.{Appends};
-ghost use Rattle.vault_core_model.specs.Leaves.{RoseOrIsFull};
-ghost use Rattle.vault_http.specs.Calls.{LeavesBy};
+ghost use Rattle.vault_http.specs.Calls.{LeavesBy, StepsHeard};
 ghost use Rattle.vault_http.specs.Exchange.{Answered};
 ghost use Rattle.vault_core.specs.Hearing.{AtMostOne, HearsOnce};
 ghost use Rattle.vault_core_model.specs.LeavesMany.{LeavesNoLess};
@@ -38,11 +37,12 @@ pub fn serve_in_time<I: Inbound + Drop, W: Write, K: Keeper, H: Hears>(
     hears: &mut H,
     occasion: &Occasion<'_>,
 ) -> Result<(), ServeFault>
-    ensures ok { K.is_honest keeper.new → OnOk result (Answered occasion.now.hosts.now (RoseOrIsFull (K.count keeper.old) (K.count keeper.new))
-        occasion.now.moment (known_in_time Leading (I.coming inbound)) (K.vault keeper.old) (K.vault keeper.new) (W.contents writer.old) (W.contents writer.new)) }
+    // The command of the request was carried out, and its reply is the one that is answered and heard of.
+    ensures ok { K.is_honest keeper.new → OnOk result (Answered occasion.now.hosts.now (StepsHeard K.Kept keeper.old keeper.new H.hears)
+        occasion.now.moment (known_in_time Leading (I.coming inbound)) (K.vault keeper.old, hears.old) (K.vault keeper.new, hears.new) (W.contents writer.old) (W.contents writer.new)) }
     ensures err { K.is_honest keeper.new → IfErr result (λ e. (unread : Option (List ℕ))
-        × Unanswered occasion.now.hosts.now (RoseOrIsFull (K.count keeper.old) (K.count keeper.new)) e occasion.now.moment
-        (known_in_time Leading (I.coming inbound)) unread (K.vault keeper.old) (K.vault keeper.new) (W.contents writer.old) (W.contents writer.new)) }
+        × Unanswered occasion.now.hosts.now (StepsHeard K.Kept keeper.old keeper.new H.hears) e occasion.now.moment
+        (known_in_time Leading (I.coming inbound)) unread (K.vault keeper.old, hears.old) (K.vault keeper.new, hears.new) (W.contents writer.old) (W.contents writer.new)) }
     // A request that isn't whole in time changes nothing.
     ensures late { K.is_honest keeper.new → IfSome (known_in_time Leading (I.coming inbound)) (λ input. WaitsForAll occasion.now.hosts.now occasion.now.moment input
         (K.vault keeper.old) (K.vault keeper.new)) }

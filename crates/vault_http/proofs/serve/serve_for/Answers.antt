@@ -1,7 +1,7 @@
 use Rattle.std.proofs.Common.{ℕ, Option, subst, sym}
 use Rattle.std.proofs.lemmas.Result.{on_ok_weaker, IfErr-weaker}
-use Rattle.vault_core_model.specs.Leaves.{RoseOrIsFull}
 use Rattle.vault_core.specs.Hearing.{HearsOnce}
+use Rattle.vault_http.specs.Calls.{StepsHeard}
 use Rattle.vault_http.specs.Steady.{Steady}
 use Rattle.vault_http.proofs.JudgingLemmas.{denied_left, denied_served, denied_taken, nothing_taken, planned_served, planned_taken}
 use Rattle.vault_http.proofs.serve.serve_for.Goals as goal
@@ -15,14 +15,14 @@ pub returns-in-Denied-clause-ok : goal.returns-in-Denied-clause-ok
 returns-in-Denied-clause-ok g c = λ h.
     let j = c.in_ok-judge_request.ensures.judged in
     on_ok_weaker c.deny.result
-    (λ s. denied_served c.args.occasion.now.hosts.now (RoseOrIsFull (g.K.Kept.count c.args.keeper.now) (g.K.Kept.count c.args.keeper.now)) c.args.occasion.now.moment (g.R.Read.remaining c.args.reader.now) (g.R.Read.remaining c.judge_request.new.reader) (g.W.Write.contents c.args.writer.now) (g.W.Write.contents c.deny.new.writer) j.0 (record { refusal = c.in-Denied.refusal; allow = c.in-Denied.allow; shown = c.in-Denied.shown }) (g.K.Kept.vault c.args.keeper.now) j.1 (rw c.in-Denied.is at j.2) s)
+    (λ s. denied_served c.args.occasion.now.hosts.now (StepsHeard g.K.Kept c.args.keeper.now c.args.keeper.now g.H.Hears.hears) c.args.occasion.now.moment (g.R.Read.remaining c.args.reader.now) (g.R.Read.remaining c.judge_request.new.reader) (g.W.Write.contents c.args.writer.now) (g.W.Write.contents c.deny.new.writer) j.0 (record { refusal = c.in-Denied.refusal; allow = c.in-Denied.allow; shown = c.in-Denied.shown }) (g.K.Kept.vault c.args.keeper.now, c.args.hears.now) j.1 (rw c.in-Denied.is at j.2) s)
     c.deny.ensures.ok
 
 pub returns-in-Denied-clause-err : goal.returns-in-Denied-clause-err
 returns-in-Denied-clause-err g c = λ h.
     let j = c.in_ok-judge_request.ensures.judged in
     IfErr-weaker c.deny.result _ _
-    (denied_left c.args.occasion.now.hosts.now (RoseOrIsFull (g.K.Kept.count c.args.keeper.now) (g.K.Kept.count c.args.keeper.now)) c.args.occasion.now.moment (g.R.Read.remaining c.args.reader.now) (g.R.Read.remaining c.judge_request.new.reader) (g.R.Read.remaining c.judge_request.new.reader) (g.W.Write.contents c.args.writer.now) (g.W.Write.contents c.deny.new.writer) j.0 (record { refusal = c.in-Denied.refusal; allow = c.in-Denied.allow; shown = c.in-Denied.shown }) (g.K.Kept.vault c.args.keeper.now) j.1 (rw c.in-Denied.is at j.2))
+    (denied_left c.args.occasion.now.hosts.now (StepsHeard g.K.Kept c.args.keeper.now c.args.keeper.now g.H.Hears.hears) c.args.occasion.now.moment (g.R.Read.remaining c.args.reader.now) (g.R.Read.remaining c.judge_request.new.reader) (g.R.Read.remaining c.judge_request.new.reader) (g.W.Write.contents c.args.writer.now) (g.W.Write.contents c.deny.new.writer) j.0 (record { refusal = c.in-Denied.refusal; allow = c.in-Denied.allow; shown = c.in-Denied.shown }) (g.K.Kept.vault c.args.keeper.now, c.args.hears.now) j.1 (rw c.in-Denied.is at j.2))
     c.deny.ensures.err
 
 pub returns-in-Denied-clause-taken : goal.returns-in-Denied-clause-taken
@@ -36,7 +36,7 @@ pub returns-in-Planned-clause-ok : goal.returns-in-Planned-clause-ok
 returns-in-Planned-clause-ok g c = λ h.
     let j = c.in_ok-judge_request.ensures.judged in
     on_ok_weaker c.serve_plan.result
-    (planned_served c.args.occasion.now.hosts.now (RoseOrIsFull (g.K.Kept.count c.args.keeper.now) (g.K.Kept.count c.serve_plan.new.keeper)) c.args.occasion.now.moment (g.R.Read.remaining c.args.reader.now) (g.R.Read.remaining c.judge_request.new.reader) (g.W.Write.contents c.args.writer.now) (g.W.Write.contents c.serve_plan.new.writer) j.0 c.in-Planned.plan c.in-Planned.shown (g.K.Kept.vault c.args.keeper.now) (g.K.Kept.vault c.serve_plan.new.keeper) j.1 (rw c.in-Planned.is at j.2))
+    (planned_served c.args.occasion.now.hosts.now (StepsHeard g.K.Kept c.args.keeper.now c.serve_plan.new.keeper g.H.Hears.hears) c.args.occasion.now.moment (g.R.Read.remaining c.args.reader.now) (g.R.Read.remaining c.judge_request.new.reader) (g.W.Write.contents c.args.writer.now) (g.W.Write.contents c.serve_plan.new.writer) j.0 c.in-Planned.plan c.in-Planned.shown (g.K.Kept.vault c.args.keeper.now, c.args.hears.now) (g.K.Kept.vault c.serve_plan.new.keeper, c.serve_plan.new.hears) j.1 (rw c.in-Planned.is at j.2))
     (c.serve_plan.ensures.ok h)
 
 pub returns-in-Planned-clause-taken : goal.returns-in-Planned-clause-taken

@@ -1,16 +1,16 @@
 use Rattle.std.proofs.lemmas.Result.{on_ok_weaker, IfErr-weaker}
-use Rattle.vault_core_model.specs.Leaves.{RoseOrIsFull}
+use Rattle.vault_http.specs.Calls.{StepsHeard}
 use Rattle.vault_http.proofs.Counted.{plan_steady}
 use Rattle.vault_http.proofs.Serves.{plan_served, plan_left}
 use Rattle.vault_http.proofs.serve.serve_plan.Goals as goal
 
 pub returns-clause-ok : goal.returns-clause-ok
 returns-clause-ok g c = λ h.
-    on_ok_weaker c.conclude.result (λ d. plan_served (RoseOrIsFull (g.K.Kept.count c.args.keeper.now) (g.K.Kept.count c.conclude.new.keeper)) c.args.planned.shown c.args.planned.plan _ _ _ _ _ _ c.in_ok-judged.judged c.in_ok-judged.ensures.command (rw c.in_ok-judged.ensures.reported at c.send_interim-stated.ensures.ok) d) (c.conclude.ensures.ok h)
+    on_ok_weaker c.conclude.result (λ d. plan_served (StepsHeard g.K.Kept c.args.keeper.now c.conclude.new.keeper g.H.Hears.hears) c.args.planned.shown c.args.planned.plan (g.K.Kept.vault c.args.keeper.now, c.args.hears.now) (g.K.Kept.vault c.conclude.new.keeper, c.conclude.new.hears) _ _ _ _ c.in_ok-judged.judged c.in_ok-judged.ensures.command (rw c.in_ok-judged.ensures.reported at c.send_interim-stated.ensures.ok) d) (c.conclude.ensures.ok h)
 
 pub returns-clause-err : goal.returns-clause-err
 returns-clause-err g c = λ h.
-    IfErr-weaker c.conclude.result _ _ (λ e d. plan_left (RoseOrIsFull (g.K.Kept.count c.args.keeper.now) (g.K.Kept.count c.conclude.new.keeper)) c.args.planned.shown c.args.planned.plan _ _ _ _ _ _ _ e c.in_ok-judged.judged c.in_ok-judged.ensures.command (rw c.in_ok-judged.ensures.reported at c.send_interim-stated.ensures.ok) d) (c.conclude.ensures.err h)
+    IfErr-weaker c.conclude.result _ _ (λ e d. plan_left (StepsHeard g.K.Kept c.args.keeper.now c.conclude.new.keeper g.H.Hears.hears) c.args.planned.shown c.args.planned.plan (g.K.Kept.vault c.args.keeper.now, c.args.hears.now) (g.K.Kept.vault c.conclude.new.keeper, c.conclude.new.hears) _ _ _ _ _ e c.in_ok-judged.judged c.in_ok-judged.ensures.command (rw c.in_ok-judged.ensures.reported at c.send_interim-stated.ensures.ok) d) (c.conclude.ensures.err h)
 
 pub returns-clause-leaves : goal.returns-clause-leaves
 returns-clause-leaves g c = record {

@@ -1,26 +1,17 @@
-use Rattle.std.proofs.Common.{sym, subst, OnErr}
+use Rattle.std.proofs.Common.{◌≡◌, ℕ, List, refl, sym, subst}
 use Rattle.std.specs.Prelude.{IfOk, string_bytes}
 use Rattle.vault_lines_read.specs.declared.read_line.Line.{Line}
-use Rattle.vaultctl_replay.specs.Runs.{HearsLine, Replied, Unwritten}
-use Rattle.vaultctl_replay.proofs.RunLemmas.{refusal_replied}
+use Rattle.vaultctl_replay.specs.Runs.{HeardBy}
 use Rattle.vaultctl_replay.proofs.answer.reply_to.Goals as goal
 
-pub returns-in-Refused-clause-ok : goal.returns-in-Refused-clause-ok
-returns-in-Refused-clause-ok g c =
+pub returns-in-Refused-clause-answered : goal.returns-in-Refused-clause-answered
+returns-in-Refused-clause-answered g c =
     let now = c.args.keeper.now in
-    let P : Line → Type 0 = λ a. IfOk c.stated.result (λ reply. Replied (g.K.Kept.is_honest now) (g.K.Kept.vault now) (g.K.Kept.count now) a (string_bytes reply) (g.K.Kept.vault now) (g.K.Kept.count now)) in
-    subst P (sym c.in-Refused.is) (refusal_replied (g.K.Kept.is_honest now) (g.K.Kept.vault now) (g.K.Kept.count now) c.in-Refused.refusal c.stated.result c.stated.ensures)
+    let who = c.args.hears.now in
+    let P : Line → Type 0 = λ a. HeardBy g.K.Kept now now g.H.Hears.hears who who (λ out. IfOk c.stated.result (λ text. string_bytes text ≡ out)) a in
+    subst P (sym c.in-Refused.is) (refl, refl, refl, c.stated.ensures)
 
-pub returns-in-Command-clause-err : goal.returns-in-Command-clause-err
-returns-in-Command-clause-err g c =
-    let before = c.args.keeper.now in
-    let after = c.carried_out.new.keeper in
-    let P : Line → Type 0 = λ a. OnErr c.carried_out.result (Unwritten (g.K.Kept.is_honest after) (g.K.Kept.vault before) (g.K.Kept.count before) a (g.K.Kept.vault after) (g.K.Kept.count after)) in
-    subst P (sym c.in-Command.is) c.carried_out.ensures.err
-
-pub returns-in-Command-clause-heard : goal.returns-in-Command-clause-heard
-returns-in-Command-clause-heard g c =
-    let before = c.args.keeper.now in
-    let after = c.carried_out.new.keeper in
-    let P : Line → Type 0 = λ a. HearsLine g.H.Hears.hears c.args.hears.now c.carried_out.new.hears a (g.K.Kept.vault before) (g.K.Kept.vault after) in
-    λ h. subst P (sym c.in-Command.is) (c.carried_out.ensures.heard h)
+pub returns-in-Command-clause-answered : goal.returns-in-Command-clause-answered
+returns-in-Command-clause-answered g c =
+    let P : Line → Type 0 = λ a. HeardBy g.K.Kept c.args.keeper.now c.carried_out.new.keeper g.H.Hears.hears c.args.hears.now c.carried_out.new.hears (λ out. IfOk c.carried_out.result (λ text. string_bytes text ≡ out)) a in
+    subst P (sym c.in-Command.is) c.carried_out.ensures.answered
