@@ -15,8 +15,7 @@ pub returns-clause-carried : goal.returns-clause-carried
 returns-clause-carried g c = λ h.
     let step = c.step-reply in
     let a = g.W.Write.contents c.args.writer.now in
-    let b = g.W.Write.contents c.send.new.writer in
-    (
+    let b = g.W.Write.contents c.send.new.writer in (
       step.result,
       ((step.ensures.step h, rose _ _ _ step.ensures.leaves.counted), c.hear.ensures),
       reply_sent c.send.result c.args.context.now.at c.args.command.now c.args.context.now.shown step.result a b c.drops.result c.in-Ok.bytes.items c.as_slice.result.now c.drops.ensures c.in-Ok.ensures c.as_slice.ensures.value c.send.ensures.ok c.send.ensures.err,

@@ -40,7 +40,7 @@ returns-clause-late g c = λ h.
     let a = g.W.Write.contents c.args.writer.now in
     let b = g.W.Write.contents c.serve_for.new.writer in
     let alone = vaults-alone (StepsHeard g.K.Kept before after g.H.Hears.hears) (Steps g.K.Kept before after) (λ s s' t reply d. d.0) (g.K.Kept.vault before, c.args.hears.now) (g.K.Kept.vault after, c.serve_for.new.hears)
-        c.args.occasion.now.hosts.now c.args.occasion.now.moment known a b c.serve_for.result (returns-clause-ok g c h) (returns-clause-err g c h) in
+    c.args.occasion.now.hosts.now c.args.occasion.now.moment known a b c.serve_for.result (returns-clause-ok g c h) (returns-clause-err g c h) in
     waits-for-all c.args.occasion.now.hosts.now (Steps g.K.Kept before after) c.args.occasion.now.moment known (g.K.Kept.vault before) (g.K.Kept.vault after) a b c.serve_for.result alone.0 alone.1
 
 pub returns-clause-strangers : goal.returns-clause-strangers
@@ -51,5 +51,5 @@ returns-clause-strangers g c = λ h.
     let a = g.W.Write.contents c.args.writer.now in
     let b = g.W.Write.contents c.serve_for.new.writer in
     let alone = vaults-alone (StepsHeard g.K.Kept before after g.H.Hears.hears) (Steps g.K.Kept before after) (λ s s' t reply d. d.0) (g.K.Kept.vault before, c.args.hears.now) (g.K.Kept.vault after, c.serve_for.new.hears)
-        c.args.occasion.now.hosts.now c.args.occasion.now.moment known a b c.serve_for.result (returns-clause-ok g c h) (returns-clause-err g c h) in
+    c.args.occasion.now.hosts.now c.args.occasion.now.moment known a b c.serve_for.result (returns-clause-ok g c h) (returns-clause-err g c h) in
     refuses-strangers c.args.occasion.now.hosts.now (Steps g.K.Kept before after) c.args.occasion.now.moment known (g.K.Kept.vault before) (g.K.Kept.vault after) a b c.serve_for.result alone.0 alone.1
