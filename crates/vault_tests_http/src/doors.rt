@@ -71,6 +71,8 @@ impl<'a> Doors for KnownDoors<'a> {
 
     ghost shown = { λ _. None };
 
+    ghost silent = { λ _ _. Unit {0} };
+
     fn next(&mut self) -> Arrived<KnownPeer<'a>, KnownPeer<'a>> {
         let Some((first, later)) = self.turns.split_first() else {
             return Arrived::Nothing;

@@ -1,2 +1,4 @@
 pub mod HearingLemmas
+pub mod LogTurnLemmas
+pub mod UntakenLemmas
 pub mod TurnLemmas

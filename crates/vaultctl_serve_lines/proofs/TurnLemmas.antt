@@ -11,7 +11,7 @@ use Rattle.vaultctl_serve_lines_answers.specs.declared.line.Next.{Next as AnyNex
 use Rattle.vaultctl_serve_lines_answers.specs.declared.line.Next.TheVariants as next
 use Rattle.vaultctl_serve_lines.specs.declared.turns.Turn.{Turn}
 
-taken-append : (tries more : List Try) → taken_in (tries ++ more) ≡ taken_in tries + taken_in more
+pub taken-append : (tries more : List Try) → taken_in (tries ++ more) ≡ taken_in tries + taken_in more
 taken-append [] more = omega arith
 taken-append (Taken moment ∷ tries) more = omega (arith, taken-append tries more)
 taken-append (Missed ∷ tries) more = taken-append tries more
@@ -28,7 +28,7 @@ next-append all mid later [] more x y = let P : List Try → Type 0 = λ known. 
 next-append [] mid later (try ∷ tries) more x y = (x.0, next-append [] mid later tries more x.1 y)
 next-append (known ∷ all) mid later (try ∷ tries) more x y = (x.0, next-append all mid later tries more x.1 y)
 
-known-append : (u v w : Option (List Try)) (tries more : List Try) → Tries u v tries → Tries v w more → Tries u w (tries ++ more)
+pub known-append : (u v w : Option (List Try)) (tries more : List Try) → Tries u v tries → Tries v w more → Tries u w (tries ++ more)
 known-append None v w tries more x y = tt
 known-append (Some all) None w tries more x y = absurd x
 known-append (Some all) (Some mid) None tries more x y = absurd y

@@ -1,5 +1,5 @@
 -- What is logged of connections of lines, and of connections that couldn't be taken.
-use Rattle.std.specs.Prelude.{ℕ, ◌≡◌, nat_eq, Bool, false, not, List, [], length, Option, Some, None}
+use Rattle.std.specs.Prelude.{ℕ, ◌≡◌, nat_eq, Bool, false, not, List, [], ◌∷◌, length, Option, Some, None}
 use Rattle.vaultctl_log.specs.Logging.{IsLogged}
 use Rattle.vaultctl_log.specs.declared.entry.Door.{Door}
 use Rattle.vaultctl_log.specs.declared.entry.Door.TheVariants as door
@@ -22,6 +22,15 @@ module _ {W : Type 0} (contents : W → Option (List ℕ)) where
   abbrev pub LogsIf : Option W → Option W → Door → Option Trouble → Type 0
   LogsIf before after at None = after ≡ before
   LogsIf before after at (Some t) = LogsTrouble before after at t
+
+  -- an entry of each of these troubles was logged, one after another, and no other
+  abbrev pub LogsTroubles : List (Door × Trouble) → Option W → Option W → Type 0
+  LogsTroubles [] before after = after ≡ before
+  LogsTroubles (t ∷ later) before after = (mid : Option W) × LogsTrouble before mid t.0 t.1 × LogsTroubles later mid after
+
+  -- nothing was logged but of what couldn't be taken
+  abbrev pub LogsUntaken : Option W → Option W → Type 0
+  LogsUntaken before after = (ts : List (Door × Trouble)) × LogsTroubles ts before after
 
   -- one entry was logged, of a trouble at the door of lines, or nothing was
   abbrev pub LogsAtMostOne : Option W → Option W → Type 0

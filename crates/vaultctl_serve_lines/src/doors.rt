@@ -37,9 +37,13 @@ pub trait Doors {
     /// What the clock shows now: a moment, or none.
     ghost shown: { Self → Option ℕ };
 
+    /// That no entry was heard of but of what couldn't be taken: who hears before and after.
+    ghost silent: { Self → Self → Type 0 };
+
     /// Waits for what comes next, and takes it.
     fn next(&mut self) -> Arrived<Self::Request, Self::Talker>
-        ensures { HasArrived (tries self.old) (tries self.new) (shown self.new) result };
+        ensures arrived { HasArrived (tries self.old) (tries self.new) (shown self.new) result }
+        ensures silent { silent self.old self.new };
 
     /// The clock's reading now.
     fn reading(&self) -> i64
@@ -60,5 +64,7 @@ pub trait Doors {
 
     /// Keeps the connection of a line that was answered: more lines may come on it.
     fn keep(&mut self, talker: Self::Talker)
-        ensures { tries self.new ≡ tries self.old };
+        ensures tries { tries self.new ≡ tries self.old }
+        // What was heard stays so.
+        ensures logs { (before : Self) (f : Facts) (asked answered : List ℕ) (whole : Bool) → logs before f asked answered whole self.old → logs before f asked answered whole self.new };
 }

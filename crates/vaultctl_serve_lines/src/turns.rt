@@ -1,14 +1,15 @@
 //! Turns at two doors: one request or one line after another.
-ghost use Rattle.std.specs.Prelude.{◌≡◌, ◌≢◌, ℕ, Ok, Option};
+ghost use Rattle.std.specs.Prelude.{◌≡◌, ◌≢◌, ℕ, Bool, List, Ok, Option};
 ghost use Rattle.vault_base.specs.Days.{moment_at};
 ghost use Rattle.vault_core_model.specs.Step.{Reached};
 ghost use Rattle.vault_core.specs.Hearing.{HearsAll, HearsOnce, HearsSome};
 ghost use Rattle.vault_core_model.specs.LeavesMany.{LeavesNoLess};
 ghost use Rattle.vault_core.specs.Hearing.{AtMostOne};
+ghost use Rattle.vaultctl_log.specs.declared.entry.Facts.{Facts};
 ghost use Rattle.vaultctl_serve.specs.Account.{IsAccounted, IsLineAccounted};
 ghost use Rattle.vaultctl_serve.specs.Serving.{ReadsAs, ReportsOnce, Stepped};
 ghost use Rattle.vaultctl_serve_lines_answers.specs.Closing.{IsEnded, MayEnd};
-ghost use Rattle.vaultctl_serve_lines.specs.Doors.{line_trouble, ServedInTurns, SteppedInTurns, StepsAt, taken_by, turn_after};
+ghost use Rattle.vaultctl_serve_lines.specs.Doors.{line_trouble, LogsInTurns, ServedInTurns, SteppedInTurns, StepsAt, taken_by, turn_after};
 
 use crate::doors::{Arrived, Doors};
 use std::time::{Clock, Duration, Instant};
@@ -99,7 +100,8 @@ fn part<C: Clock, D: Doors>(
     is_ended: bool,
     answered: Result<Next, ReplayFault>,
 )
-    ensures { D.tries doors.new ≡ D.tries doors.old }
+    ensures tries { D.tries doors.new ≡ D.tries doors.old }
+    ensures logs { (before : D) (f : Facts) (asked said : List ℕ) (whole : Bool) → D.logs before f asked said whole doors.old → D.logs before f asked said whole doors.new }
 {
     match answered {
         Ok(Next::On) if is_ended => doors.keep(talker),
@@ -146,6 +148,8 @@ fn serve_request<C: Clock, D: Doors, K: Keeper, H: Hears>(
     // What is logged is what happened: the moment, and that nothing was carried out of what came late.
     ensures logged { K.is_honest keeper.new → (moment : Option ℕ) × ReadsAs (D.tries doors.old) (D.shown doors.old) moment
         × IsAccounted D.logs doors.old doors.new moment (K.vault keeper.old) (K.vault keeper.new) }
+    // It is logged whatever the device does, and once.
+    ensures log { (f : Facts) × (asked answered : List ℕ) × (whole : Bool) × D.logs doors.old f asked answered whole doors.new }
     ensures leaves { LeavesNoLess K.Kept keeper.old keeper.new }
 {
     let reading = doors.reading();
@@ -177,6 +181,7 @@ fn answer_heard<C: Clock, D: Doors, K: Keeper, H: Hears>(
     // What is logged is what happened: the line, the moment, and what kept the line from its end.
     ensures logged { K.is_honest keeper.new → (moment : Option ℕ) × ReadsAs (D.tries doors.old) (D.shown doors.old) moment
         × IsLineAccounted D.logs doors.old doors.new moment heard.now.bytes.items (line_trouble result) (K.vault keeper.old) (K.vault keeper.new) }
+    ensures log { (f : Facts) × (asked answered : List ℕ) × (whole : Bool) × D.logs doors.old f asked answered whole doors.new }
     ensures leaves { LeavesNoLess K.Kept keeper.old keeper.new }
 {
     let reading = doors.reading();
@@ -200,6 +205,8 @@ fn serve_turn<C: Clock, D: Doors, K: Keeper, H: Hears>(
     ensures timely { K.is_honest keeper.new → SteppedInTurns 1 (taken_by result) (D.tries doors.old) (D.tries doors.new) (K.vault keeper.old) (K.vault keeper.new) }
     ensures heard { K.is_honest keeper.new → HearsSome H.hears hears.old hears.new (K.vault keeper.old) (K.vault keeper.new) }
     ensures end { result ≡ Turn.End → K.is_honest keeper.new → IsEnded (K.vault keeper.new) }
+    // What was taken is logged once, and else nothing is.
+    ensures logged { LogsInTurns D.tries D.silent D.logs 1 (taken_by result) doors.old doors.new }
     ensures leaves { LeavesNoLess K.Kept keeper.old keeper.new }
 {
     match doors.next() {
@@ -229,6 +236,8 @@ fn watch_turn<C: Clock, D: Doors, K: Keeper, H: Hears, T: Reporter>(
     ensures timely { K.is_honest keeper.new → SteppedInTurns 1 (taken_by result) (D.tries doors.old) (D.tries doors.new) (K.vault keeper.old) (K.vault keeper.new) }
     ensures heard { K.is_honest keeper.new → HearsSome H.hears hears.old hears.new (K.vault keeper.old) (K.vault keeper.new) }
     ensures end { result ≡ Turn.End → K.is_honest keeper.new → IsEnded (K.vault keeper.new) }
+    // What was taken is logged once, and else nothing is.
+    ensures logged { LogsInTurns D.tries D.silent D.logs 1 (taken_by result) doors.old doors.new }
     ensures reported { K.count keeper.old ≡ since → ReportsOnce T.fails since (K.count keeper.new) reporter.old reporter.new }
     // It isn't reported a second time.
     ensures once { K.count keeper.old ≢ since → reporter.new ≡ reporter.old }
@@ -259,7 +268,8 @@ pub fn serve_doors<C: Clock, D: Doors, K: Keeper, H: Hears, T: Reporter>(
 ) -> Next
     // For each request and each line that was taken at most one command was carried out, at the clock's reading then;
     // `count` were taken, or fewer where a line ended it or who hears lets no more be carried out.
-    ensures timely { K.is_honest keeper.new → ServedInTurns result (H.going hears.new) count (D.tries doors.old) (D.tries doors.new) (K.vault keeper.old) (K.vault keeper.new) }
+    ensures timely { K.is_honest keeper.new → ServedInTurns result (H.going hears.new) count (λ turns n.
+        SteppedInTurns turns n (D.tries doors.old) (D.tries doors.new) (K.vault keeper.old) (K.vault keeper.new)) }
     ensures stepped { K.is_honest keeper.new → Stepped count (K.vault keeper.old) (K.vault keeper.new) }
     // Commands led to the vault, and each was heard of with its reply, while who hears let it be carried out.
     ensures heard { K.is_honest keeper.new → HearsAll H.going H.hears hears.old hears.new (K.vault keeper.old) (K.vault keeper.new) }
@@ -269,6 +279,8 @@ pub fn serve_doors<C: Clock, D: Doors, K: Keeper, H: Hears, T: Reporter>(
     ensures end { result ≡ Next.End → K.is_honest keeper.new → IsEnded (K.vault keeper.new) }
     // A device that failed is reported, once; where none failed nothing is.
     ensures reported { ReportsOnce T.fails (K.count keeper.old) (K.count keeper.new) reporter.old reporter.new }
+    // Each request and each line that was taken is logged once, and else nothing is but what couldn't be taken.
+    ensures logged { ServedInTurns result (H.going hears.new) count (λ turns n. LogsInTurns D.tries D.silent D.logs turns n doors.old doors.new) }
     ensures leaves { LeavesNoLess K.Kept keeper.old keeper.new }
 {
     let since = keeper.faults();

@@ -1,7 +1,7 @@
 //! Two doors of one server, for which one thread waits: requests at a port, lines at another or at a path.
 ghost use Rattle.std.specs.Prelude.{◌≡◌, ◌≢◌, IfSome, IsTrue, None, Some, false};
 ghost use Rattle.vaultctl_log.specs.Logging.{IsLogged};
-ghost use Rattle.vaultctl_serve_lines.specs.Troubles.{LogsAtMostOne, LogsIf, LogsTrouble, has_begun as line_begun};
+ghost use Rattle.vaultctl_serve_lines.specs.Troubles.{LogsAtMostOne, LogsIf, LogsTrouble, LogsUntaken, has_begun as line_begun};
 
 use crate::doors::{Arrived, Doors};
 use crate::line_door::LineListener;
@@ -141,7 +141,9 @@ impl<C: Clock, W: Write + Drop> TwoDoors<'_, C, W> {
     }
 
     /// The same, and counts how long one has waited.
-    fn wait_counting(&mut self) -> io::Result<Ready> {
+    fn wait_counting(&mut self) -> io::Result<Ready>
+        ensures { self.new.log ≡ self.old.log }
+    {
         let since = Instant::now(self.clock)?;
         let ready = self.wait();
         let time = since.elapsed(self.clock)?;
@@ -201,6 +203,7 @@ impl<C: Clock, W: Write + Drop> TwoDoors<'_, C, W> {
         ensures late { self.new.talk ≡ None → IsTrue (line_begun self.old.talk) → LogsTrouble W.contents self.old.log self.new.log Door.Lines Trouble.Late }
         ensures silent { line_begun self.old.talk ≡ false → self.new.log ≡ self.old.log }
         ensures open { self.new.talk ≢ None → self.new.log ≡ self.old.log }
+        ensures logged { LogsAtMostOne W.contents self.old.log self.new.log }
     {
         let is_late = match &self.talk {
             Some(open) => millis(open.patience(silence(another))) == 0,
@@ -216,6 +219,7 @@ impl<C: Clock, W: Write + Drop> TwoDoors<'_, C, W> {
     fn log_late(&mut self)
         ensures late { IsTrue (line_begun self.old.talk) → LogsTrouble W.contents self.old.log self.new.log Door.Lines Trouble.Late }
         ensures silent { line_begun self.old.talk ≡ false → self.new.log ≡ self.old.log }
+        ensures logged { LogsAtMostOne W.contents self.old.log self.new.log }
         ensures talk { self.new.talk ≡ self.old.talk }
     {
         if has_begun(&self.talk) {
@@ -223,12 +227,24 @@ impl<C: Clock, W: Write + Drop> TwoDoors<'_, C, W> {
         }
     }
 
-    /// Sees to the connections of lines where none of them has something to say.
-    fn look_after(&mut self, ready: Ready) {
-        self.close_late(ready.another);
-        if ready.another && self.talk.is_none() {
+    /// Opens the connection of lines that waits, if one does, and none is open.
+    fn open_waiting(&mut self, another: bool)
+        ensures logged { LogsAtMostOne W.contents self.old.log self.new.log }
+    {
+        if another && self.talk.is_none() {
             self.open();
         }
+    }
+
+    /// Sees to the connections of lines where none of them has something to say.
+    fn look_after(&mut self, ready: Ready)
+        ensures logged { LogsUntaken W.contents self.old.log self.new.log }
+    {
+        if ready.talk {
+            return;
+        }
+        self.close_late(ready.another);
+        self.open_waiting(ready.another);
     }
 
     /// Takes a request. After one that can't be taken it waits a little, as `open` does.
@@ -269,6 +285,39 @@ impl<C: Clock, W: Write + Drop> TwoDoors<'_, C, W> {
             }
         }
     }
+
+    /// Takes a request, if one can be taken.
+    fn next_request(&mut self) -> Arrived<TcpStream, Talk>
+        ensures logged { LogsUntaken W.contents self.old.log self.new.log }
+    {
+        match self.take_request() {
+            Some(peer) => Arrived::Request(peer),
+            None => Arrived::Nothing,
+        }
+    }
+
+    /// Takes a line, if one is whole.
+    fn next_line(&mut self) -> Arrived<TcpStream, Talk>
+        ensures logged { LogsUntaken W.contents self.old.log self.new.log }
+    {
+        match self.take_line() {
+            Some((heard, talk)) => Arrived::Line(heard, talk),
+            None => Arrived::Nothing,
+        }
+    }
+
+    /// Takes a request or a line of who has something to say.
+    fn take_ready(&mut self, ready: Ready) -> Arrived<TcpStream, Talk>
+        ensures logged { LogsUntaken W.contents self.old.log self.new.log }
+    {
+        if ready.request && (self.line_was_last || !ready.talk) {
+            return self.next_request();
+        }
+        if !ready.talk {
+            return Arrived::Nothing;
+        }
+        self.next_line()
+    }
 }
 
 impl<C: Clock, W: Write + Drop> Doors for TwoDoors<'_, C, W> {
@@ -280,6 +329,8 @@ impl<C: Clock, W: Write + Drop> Doors for TwoDoors<'_, C, W> {
 
     ghost shown = { λ _. None };
 
+    ghost silent = { λ before after. LogsUntaken W.contents before.log after.log };
+
     ghost logs = { λ before facts asked answered whole after. IsLogged W.contents before.log facts asked answered whole after.log };
 
     fn next(&mut self) -> Arrived<TcpStream, Talk> {
@@ -289,22 +340,8 @@ impl<C: Clock, W: Write + Drop> Doors for TwoDoors<'_, C, W> {
             thread::sleep(self.clock, Duration::from_millis(BETWEEN_TRIES));
             return Arrived::Nothing;
         };
-        if !ready.talk {
-            self.look_after(ready);
-        }
-        if ready.request && (self.line_was_last || !ready.talk) {
-            return match self.take_request() {
-                Some(peer) => Arrived::Request(peer),
-                None => Arrived::Nothing,
-            };
-        }
-        if !ready.talk {
-            return Arrived::Nothing;
-        }
-        match self.take_line() {
-            Some((heard, talk)) => Arrived::Line(heard, talk),
-            None => Arrived::Nothing,
-        }
+        self.look_after(ready);
+        self.take_ready(ready)
     }
 
     fn reading(&self) -> i64 {

@@ -42,3 +42,7 @@ returns-clause-logged g c =
 
 pub returns-clause-heard : goal.returns-clause-heard
 returns-clause-heard g c = λ h. (_, c.answer_talker-answering.ensures.heard h)
+
+-- and whatever the device does, it is the one entry that is heard of
+pub returns-clause-log : goal.returns-clause-log
+returns-clause-log g c = (c.line.result.facts, c.line.result.asked.now, c.line.result.answered.now, is_ok c.log.result, c.log.ensures.logs)

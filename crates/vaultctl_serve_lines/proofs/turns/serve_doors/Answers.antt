@@ -1,8 +1,9 @@
 use Rattle.std.proofs.Common.{◌≡◌, ◌∙◌, ◌+◌, ◌≤◌, ℕ, arith, inl, inr, refl, subst, sym}
 use Rattle.vaultctl_serve.proofs.ReportLemmas.{reports-then}
 use Rattle.vaultctl_serve.proofs.ServingLemmas.{HearsAll-more, HearsAll-none, Stepped-reached}
-use Rattle.vaultctl_serve_lines.specs.Doors.{ServedInTurns, SteppedInTurns, taken_by}
+use Rattle.vaultctl_serve_lines.specs.Doors.{LogsInTurns, SteppedInTurns, taken_by}
 use Rattle.vaultctl_serve_lines.specs.declared.turns.Turn.{Turn}
+use Rattle.vaultctl_serve_lines.proofs.LogTurnLemmas.{LogsInTurns-append, LogsInTurns-none}
 use Rattle.vaultctl_serve_lines.proofs.TurnLemmas.{Turns-append, Turns-none, Turns-stepped}
 use Rattle.vaultctl_serve_lines.proofs.turns.serve_doors.Goals as goal
 use Rattle.vaultctl_serve_lines.proofs.turns.serve_doors.Goals.{in-Idle, in-Taken}
@@ -13,6 +14,7 @@ loop-turn-init g c = record {
   honest = λ h. h;
   counted = omega arith;
   reported = inl (refl, refl);
+  logged = LogsInTurns-none g.D.Doors.tries g.D.Doors.silent g.D.Doors.logs c.args.doors.now;
   timely = λ h. Turns-none (g.D.Doors.tries c.args.doors.now) (g.K.Kept.vault c.args.keeper.now);
   heard = λ h. HearsAll-none g.H.Hears.going g.H.Hears.hears c.args.hears.now (g.K.Kept.vault c.args.keeper.now);
 }
@@ -91,11 +93,13 @@ loop-turn-preserved g c =
       | in-Taken w ↦ omega (arith, w.taken-is, c.loop-turn.invariant.within, c.if-taken-count.false)
     ] in
     let P : ℕ → Type 0 = λ n. SteppedInTurns (c.loop-turn._turn + 1) n before after old new in
+    let Q : ℕ → Type 0 = λ n. LogsInTurns g.D.Doors.tries g.D.Doors.silent g.D.Doors.logs (c.loop-turn._turn + 1) n c.args.doors.now c.watch_turn.new.doors in
     record {
       within = room;
       honest = λ h. c.loop-turn.invariant.honest (c.watch_turn.ensures.leaves.honest h);
       counted = omega (arith, c.loop-turn.invariant.counted, c.watch_turn.ensures.leaves.counted);
       reported = reports-then g.T.Reporter.fails _ _ _ _ _ _ _ c.faults-since.ensures c.loop-turn.invariant.counted c.watch_turn.ensures.leaves.counted c.loop-turn.invariant.reported c.watch_turn.ensures.reported c.watch_turn.ensures.once;
+      logged = subst Q (sym summed) (LogsInTurns-append g.D.Doors.tries g.D.Doors.silent g.D.Doors.logs c.loop-turn._turn 1 taken (taken_by c.watch_turn.result) c.args.doors.now c.loop-turn.doors c.watch_turn.new.doors c.loop-turn.invariant.logged c.watch_turn.ensures.logged);
       timely = λ h. subst P (sym summed) (Turns-append c.loop-turn._turn 1 taken (taken_by c.watch_turn.result) before mid after old between new (c.loop-turn.invariant.timely (c.watch_turn.ensures.leaves.honest h)) (c.watch_turn.ensures.timely h));
       heard = λ h. HearsAll-more g.H.Hears.going g.H.Hears.hears _ _ _ _ _ _ (c.loop-turn.invariant.heard (c.watch_turn.ensures.leaves.honest h)) (sym c.goes_on.ensures ∙ c.if-not-goes_on.false) (c.watch_turn.ensures.heard h);
     }
@@ -109,3 +113,32 @@ returns-clause-stepped g c = λ h. Turns-stepped _ c.loop-turn.taken c.args.coun
 
 pub returns-clause-reached : goal.returns-clause-reached
 returns-clause-reached g c = λ h before. Stepped-reached c.args.count _ _ (returns-clause-stepped g c h) before
+
+-- ---- what is logged
+
+pub returns-then-taken-count-clause-logged : goal.returns-then-taken-count-clause-logged
+returns-then-taken-count-clause-logged g c = (c.loop-turn._turn, c.loop-turn.taken, c.loop-turn.invariant.within, λ ended going. inl c.if-taken-count.true, c.loop-turn.invariant.logged)
+
+pub returns-then-not-goes_on-clause-logged : goal.returns-then-not-goes_on-clause-logged
+returns-then-not-goes_on-clause-logged g c = (
+  c.loop-turn._turn,
+  c.loop-turn.taken,
+  c.loop-turn.invariant.within,
+  λ ended going. absurd (cc (going, c.goes_on.ensures, c.if-not-goes_on.true)),
+  c.loop-turn.invariant.logged,
+)
+
+pub returns-in-End-clause-logged : goal.returns-in-End-clause-logged
+returns-in-End-clause-logged g c =
+    let taken = c.loop-turn.taken in
+    let room : taken + 1 ≤ c.args.count = omega (arith, c.loop-turn.invariant.within, c.if-taken-count.false) in
+    let P : Turn → Type 0 = λ turn. LogsInTurns g.D.Doors.tries g.D.Doors.silent g.D.Doors.logs 1 (taken_by turn) c.loop-turn.doors c.watch_turn.new.doors in (
+      c.loop-turn._turn + 1,
+      taken + 1,
+      room,
+      λ ended going. absurd (cc ended),
+      LogsInTurns-append g.D.Doors.tries g.D.Doors.silent g.D.Doors.logs c.loop-turn._turn 1 taken 1 c.args.doors.now c.loop-turn.doors c.watch_turn.new.doors c.loop-turn.invariant.logged (subst P c.in-End.is c.watch_turn.ensures.logged),
+    )
+
+pub returns-clause-logged : goal.returns-clause-logged
+returns-clause-logged g c = (c.loop-turn._turn, c.loop-turn.taken, c.loop-turn.invariant.within, λ ended going. inr (omega arith), c.loop-turn.invariant.logged)

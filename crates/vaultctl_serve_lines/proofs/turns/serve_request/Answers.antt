@@ -43,3 +43,7 @@ returns-clause-logged g c =
 
 pub returns-clause-heard : goal.returns-clause-heard
 returns-clause-heard g c = λ h. (_, c.serve_connection-served.ensures.heard h)
+
+-- and whatever the device does, it is the one entry that is heard of
+pub returns-clause-log : goal.returns-clause-log
+returns-clause-log g c = (c.request.result.facts, c.request.result.asked.now, c.request.result.answered.now, _, c.log.ensures.logs)
