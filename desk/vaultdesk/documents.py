@@ -8,7 +8,7 @@ import hashlib
 import json
 import os
 import sys
-from collections.abc import Callable, Mapping
+from collections.abc import Callable, Iterable, Mapping
 from pathlib import Path
 from typing import Any
 
@@ -35,6 +35,13 @@ def read_content(path: str) -> bytes:
     if len(content) > MOST:
         raise DeskError(f"{path}: more than {MOST:,} bytes, which a version may have: cut it into parts")
     return content
+
+
+def look_free(paths: Iterable[Path], force: bool) -> None:
+    """`DeskError` where one of these files is there, if only as a link, and may not be written over."""
+    there = next((it for it in paths if os.path.lexists(it)), None)
+    if there is not None and not force:
+        raise DeskError(f"{there} is there already: give --force to write over it")
 
 
 def write_content(path: Path, content: bytes, force: bool) -> None:
