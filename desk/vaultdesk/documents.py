@@ -12,7 +12,7 @@ from collections.abc import Callable, Iterable, Mapping
 from pathlib import Path
 from typing import Any
 
-from vaultdesk import cards, defaults, keys, limits, moments, receipts, schedule
+from vaultdesk import beside, cards, defaults, keys, limits, moments, receipts, schedule
 from vaultdesk.asking import confirm
 from vaultdesk.engine import Engine
 from vaultdesk.errors import DeskError, Refused, UsageError, of_file
@@ -20,6 +20,7 @@ from vaultdesk.history import number
 from vaultdesk.output import print_json, print_table, say
 
 MOST = 1_048_576  # bytes that a version may have
+TOO_LARGE = f"cut it into parts, as {beside.page('MANUAL')} shows (Larger scans)"
 
 
 def read_content(path: str) -> bytes:
@@ -33,7 +34,7 @@ def read_content(path: str) -> bytes:
     except OSError as error:
         raise of_file(path, error) from error
     if len(content) > MOST:
-        raise DeskError(f"{path}: more than {MOST:,} bytes, which a version may have: cut it into parts")
+        raise DeskError(f"{path}: more than {MOST:,} bytes, which a version may have: {TOO_LARGE}")
     return content
 
 
