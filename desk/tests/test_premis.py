@@ -19,7 +19,7 @@ LATER = "2024-02-20T10:00:00Z"
 TYPE = f"{{{premis.INSTANCE}}}type"
 HREF = f"{{{mets.LINK}}}href"
 # What may stand in an element, in which order and how often; in one that isn't named here, a text alone. These rules
-# were written here, after the standards: no package of Debian has their official schemas.
+# were written here, after the standards: Debian 12 has no package of their official schemas.
 #
 # PREMIS Data Dictionary 3.0: its numbers of semantic units are in the comments. Those that are mandatory are named
 # plainly or with `+`.
