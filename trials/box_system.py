@@ -218,6 +218,7 @@ mv away.vault records.vault
 is "$(pid)" "$served" "the server, which nobody started anew"
 log_of vault-check@records | grep -q "systemctl restart $server" || fail "what to do isn't said: $(log_of vault-check@records)"
 systemctl restart "$server"
+systemctl reset-failed vault-check@records.service # which counts starts by hand, too
 systemctl start vault-check@records.service || fail "the check: $(log_of vault-check@records)"
 is "$(status -X PUT --data x $url/drafts/x)" 200 "a put after the restart"
 tell "alarms, and a file that was away"
