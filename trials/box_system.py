@@ -241,10 +241,10 @@ until_gateway() {
     fail "no gateway at $1"
 }
 until_gateway http://127.0.0.1:9000/drafts/d
-""" + "printf 'server {\\n    listen 8090;\\n' > /etc/nginx/conf.d/s3.conf\n" + given("cat >> /etc/nginx/conf.d/s3.conf", "S3", "location / {") + """\
+""" + "printf 'server {\\n    listen 8091;\\n' > /etc/nginx/conf.d/s3.conf\n" + given("cat >> /etc/nginx/conf.d/s3.conf", "S3", "location / {") + """\
 echo '}' >> /etc/nginx/conf.d/s3.conf
 nginx -t && systemctl reload nginx
-until_gateway http://127.0.0.1:8090/drafts/d
+until_gateway http://127.0.0.1:8091/drafts/d
 grep -q '<Code>AccessDenied' /trial/body || fail "through nginx the gateway says $(cat /trial/body)"
 systemctl disable --now vault-s3@records.service
 
