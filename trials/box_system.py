@@ -135,6 +135,24 @@ desk get trails "nginx/$(date -u -d yesterday +%F)/0001" --as ann | grep -q 'GET
 tell "logs as documents"
 """
 
+DUE = """\
+install -d -o vaultctl /trial/due
+printf '#!/bin/sh\\nid -un > /trial/due/by\\necho "$*" > /trial/due/words\\ncat > /trial/due/mail\\n' > /usr/sbin/sendmail
+chmod 755 /usr/sbin/sendmail
+! systemctl start vault-due@records.service || fail "a mail to nobody"
+desk callers --add keeper --department records --as registrar --rights put retain
+desk put drafts ends /trial/hello --until "$(date -u -d '+10 days' +%F)" --as keeper
+""" + given("carry_out", "ENGINEER", "# echo DUE_MAIL=registrar@example.org >> /etc/vaultctl/records.conf") + """\
+is "$(systemctl is-active vault-due@records.timer)" active "the timer of what is due"
+systemctl show -P TimersCalendar vault-due@records.timer | grep -q ' 07:00:00 ' || fail "when the mail is sent"
+systemctl start vault-due@records.service || fail "the mail: $(log_of vault-due@records)"
+is "$(cat /trial/due/by)" vaultctl "who sends the mail"
+is "$(cat /trial/due/words)" "-t -oi" "the words of sendmail"
+grep -qx 'To: registrar@example.org' /trial/due/mail || fail "the mail: $(cat /trial/due/mail)"
+grep -q '^- 1 retention' /trial/due/mail || fail "the mail: $(cat /trial/due/mail)"
+tell "what is due, by mail"
+"""
+
 NIGHT = given("edited", "ENGINEER", "# systemctl edit vault-run@records.service") + """\
 echo TRUST_CLOCK=yes >> /etc/vaultctl/records.conf
 systemctl start vault-run@records.service || fail "the night: $(log_of vault-run@records)"
@@ -200,6 +218,7 @@ mv away.vault records.vault
 is "$(pid)" "$served" "the server, which nobody started anew"
 log_of vault-check@records | grep -q "systemctl restart $server" || fail "what to do isn't said: $(log_of vault-check@records)"
 systemctl restart "$server"
+systemctl reset-failed vault-check@records.service # which counts starts by hand, too
 systemctl start vault-check@records.service || fail "the check: $(log_of vault-check@records)"
 is "$(status -X PUT --data x $url/drafts/x)" 200 "a put after the restart"
 tell "alarms, and a file that was away"
@@ -222,10 +241,10 @@ until_gateway() {
     fail "no gateway at $1"
 }
 until_gateway http://127.0.0.1:9000/drafts/d
-""" + "printf 'server {\\n    listen 8090;\\n' > /etc/nginx/conf.d/s3.conf\n" + given("cat >> /etc/nginx/conf.d/s3.conf", "S3", "location / {") + """\
+""" + "printf 'server {\\n    listen 8091;\\n' > /etc/nginx/conf.d/s3.conf\n" + given("cat >> /etc/nginx/conf.d/s3.conf", "S3", "location / {") + """\
 echo '}' >> /etc/nginx/conf.d/s3.conf
 nginx -t && systemctl reload nginx
-until_gateway http://127.0.0.1:8090/drafts/d
+until_gateway http://127.0.0.1:8091/drafts/d
 grep -q '<Code>AccessDenied' /trial/body || fail "through nginx the gateway says $(cat /trial/body)"
 systemctl disable --now vault-s3@records.service
 
@@ -293,7 +312,7 @@ vaultdesk find followed --vault $there | grep -q ' drafts ' || fail "the other m
 tell "a second machine follows"
 """
 
-SCRIPT = HEAD + SERVED + WHO + MAP + NGINX + WEB + LOG + NIGHT + ALARM + GATEWAY + OTHER
+SCRIPT = HEAD + SERVED + WHO + MAP + NGINX + WEB + LOG + DUE + NIGHT + ALARM + GATEWAY + OTHER
 
 
 class Boxes(Case):

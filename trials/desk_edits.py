@@ -193,7 +193,7 @@ EDITS = [
     ("sheets", "> MOST_UNPACKED:", "> 2**40:", SHEETS + "test_a_bomb_of_one_cell"),
     ("sheets", "        if row.count(None) == len(row):", "        if False:", SHEETS + "test_a_sheet_that_says_it_has_a_million_columns_is_read"),
     # the year's end
-    ("years_end", "    _free([*paths, page], words.force)\n", "",
+    ("years_end", "    look_free(paths, words.force)\n", "",
      YEARS_END + "test_each_removed_document_has_its_certificate"),
     ("years_end", "if error.code != \"ClockBack\" or engine.at is None:", "if engine.at is None:",
      YEARS_END + "test_a_refused_report_isnt_swallowed"),

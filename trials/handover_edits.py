@@ -7,6 +7,8 @@ MADE, CAME, RECEIPTS = "test_bags.Exported.", "test_bags.Delivered.", "test_bags
 WHERE, KEYS = "test_whereabouts.Where.", "test_whereabouts.Keys."
 SIGNED, PRINTED = "test_paper.Signed.", "test_paper.Printed."
 PAPER_ASKED = "test_paper.Asked.test_the_files_that_are_named_are_written"
+PREMIS, OVER = "test_premis.Rules.", "test_years_end.YearsEnd.test_certificates_write_over_no_file"
+MANY = CAME + "test_names_of_all_scripts_empty_files_and_many_come_in_again"
 WHOLE = CAME + "test_what_isnt_whole_is_named_and_nothing_comes_in"
 EDITS = [
     # bags that are made
@@ -24,8 +26,8 @@ EDITS = [
     ("exporting", "    if not entries:\n", "    if False:\n", MADE + "test_a_bag_is_a_new_folder_with_a_document"),
     ("exporting", "if words.bagit and (words.force or words.into_existing):", "if False:",
      MADE + "test_a_bag_is_a_new_folder_with_a_document"),
-    ("exporting", "    info, rows = _info(engine, words), []\n",
-     "    info, rows = _info(engine, words), []\n    bags.Writer(Target(Path(words.folder), words.force).open).end(info)\n",
+    ("exporting", "    info, rows = _info(engine, words, now), []\n",
+     "    info, rows = _info(engine, words, now), []\n    bags.Writer(Target(Path(words.folder), words.force).open).end(info)\n",
      MADE + "test_it_is_no_bag_before_its_end"),
     ("exporting", "\"Source-Organization\": office", "\"Source-Organization\": words.bucket",
      MADE + "test_the_office_names_itself"),
@@ -110,7 +112,7 @@ EDITS = [
      SIGNED + "test_a_certificate_is_the_engines_with_what_goes_with_it"),
     ("certificate_page", "\"as {} asked, who bypassed a retention in GOVERNANCE\"", "\"as {} asked\"",
      SIGNED + "test_a_certificate_is_the_engines_with_what_goes_with_it"),
-    ("paper", "input=_sized(given, paper).encode()", "input=given.encode()",
+    ("paper", "content = _sized(given, paper).encode()", "content = given.encode()",
      PRINTED + "test_the_maker_gets_the_page_for_the_paper"),
     ("paper", "if done.returncode or not done.stdout.startswith(b\"%PDF\"):", "if done.returncode:",
      PRINTED + "test_what_is_no_pdf_is_a_failure"),
@@ -119,6 +121,34 @@ EDITS = [
     ("paper", "words.paper or PAPERS[0]", "PAPERS[0]", PAPER_ASKED),
     ("answer", "is_written = paper.write(words, as_html(page))", "is_written = bool(words.html or words.pdf)", PAPER_ASKED),
     ("years_end", "paper.pdf(made, words.paper or paper.PAPERS[0])", "b\"\"", PAPER_ASKED),
+    ("years_end", "    look_free(paths, words.force)\n", "    look_free(paths[:-1], words.force)\n", OVER),
+    ("documents", "os.path.lexists(it)", "it.exists()", OVER),
+    ("paper", "    look_free([Path(it) for it in (words.html, words.pdf) if it], words.force)\n", "", PAPER_ASKED),
+    ("paper", "*named, ", "", PRINTED + "test_qpdf_finds_no_fault_and_what_pdf_a_wants_is_there"),
+    # bags with names of several scripts
+    ("exporting", "unicodedata.normalize(\"NFC\", name).casefold()", "name.casefold()", MANY),
+    ("bags", "        with self._opened(name) as file:\n            file.write(content)\n        manifest[name]",
+     "        if not content:\n            return\n        with self._opened(name) as file:\n            file.write(content)\n"
+     "        manifest[name]", MANY),
+    ("bags", "it isn't in the manifest of", "it is new in", CAME + "test_faults_of_names_of_all_scripts_are_named"),
+    # PREMIS and METS
+    ("premis", "\"moved\": \"transfer\"", "\"moved\": \"ingestion\"", PREMIS + "test_the_events_are_those_of_the_vault"),
+    ("premis", "            _add(it, \"eventType\", TYPES[event.event])\n", "",
+     PREMIS + "test_premis_is_as_the_data_dictionary_says"),
+    ("premis", "locks += it.event == \"locked\"", "locks += 0", PREMIS + "test_links_lead_somewhere_and_ids_stay"),
+    ("premis", "return \"rule\", f\"{it.bucket}/{it.by}\"", "return \"caller\", it.by",
+     PREMIS + "test_what_a_rule_removed_names_the_rule"),
+    ("premis", "with_name(self.people, event.by, event.moment)", "with_name(self.people, event.by, \"2024-01-15T10:00:00Z\")",
+     PREMIS + "test_persons_are_those_of_the_moment"),
+    ("premis", "it[0].bucket == bucket and ", "", PREMIS + "test_the_events_are_those_of_the_vault"),
+    ("mets", "urllib.parse.quote(path)", "path", PREMIS + "test_mets_is_as_its_schema_says"),
+    ("mets", "FILEID=f\"file-{it['version']}\"", "FILEID=f\"file-{it['size']}\"", PREMIS + "test_mets_is_as_its_schema_says"),
+    ("mets", "    _files(root, vault, rows)\n    _structure(root, bucket, rows)\n",
+     "    _structure(root, bucket, rows)\n    _files(root, vault, rows)\n", PREMIS + "test_mets_is_as_its_schema_says"),
+    ("exporting", "    if words.all_versions:\n        documents", "    if False:\n        documents",
+     PREMIS + "test_the_events_are_those_of_the_vault"),
+    ("exporting", "f\"{bags.PAYLOAD}/{it['file']}\"", "f\"{it['file']}\"", PREMIS + "test_what_is_exported_alone_is_there"),
+    ("page", "words.file.endswith(ENDING)", "False", "test_page.Page.test_one_word_that_ends_as_a_page_is_the_pages_file"),
     # receipts
     ("receipts", "if digest not in there]", "if not there]", RECEIPTS + "test_a_receipt_without_a_document_isnt_put"),
     ("receipts", "it.decode().lower()", "it.decode()", RECEIPTS + "test_a_receipt_without_a_document_isnt_put"),

@@ -419,6 +419,11 @@ class Files(Case):
         super().setUp()
         self.debian, self.archive, self.unpacked = packages()
 
+    def unpacked_program(self, found):
+        """The line of a unit that names a program, where it is unpacked; one of the system stays where it is."""
+        ours = self.unpacked / found[2].lstrip("/")
+        return f"{found[1]}{ours}" if ours.exists() else found[0]
+
     def test_recommended(self):
         recommended = said("dpkg-deb", "-f", self.debian, "Recommends")
         self.assertIn("python3-openpyxl", recommended, "nothing brings what xlsx needs")
@@ -473,7 +478,7 @@ class Files(Case):
         units = self.folder / "units"
         units.mkdir()
         for unit in sorted((self.unpacked / "usr/lib/systemd/system").iterdir()):
-            text = re.sub(r"^(Exec\w+=\+?)(?=/usr)", rf"\1{self.unpacked}", unit.read_text(), flags=re.M)
+            text = re.sub(r"^(Exec\w+=\+?)(/usr/\S+)", self.unpacked_program, unit.read_text(), flags=re.M)
             (units / unit.name).write_text(text)
         for unit in sorted(units.iterdir()):
             ran = subprocess.run(["systemd-analyze", "verify", unit], capture_output=True, text=True)

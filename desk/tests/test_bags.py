@@ -18,6 +18,12 @@ from unittest import mock
 from tests.office import Done, OfficeTest
 
 KEYS = {"2024/1.pdf": b"one", "100%25 due": b"\x00two", "Deed.txt": b"three", "deed.TXT": b"four", "2024": b"five"}
+# Names of several scripts, two of them the same to some systems, with what shells obey; empty files; many of them.
+NAMES = (
+    "\u00e4/\u00f6 \u00fc.txt", "\u00e4.txt", "a\u0308.txt", "\u65e5\u672c/\u8a9e", "\U0001f600.pdf", " first", "-n",
+    "a\\b", "'\"$(x)*",
+)  # fmt: skip
+MANY = {it: "" if it in NAMES[::2] else it for it in NAMES} | {f"many/{it:03}.txt": str(it) for it in range(300)}
 SETTINGS = b'[office]\nname = "County Archive"\n'
 
 
@@ -170,9 +176,10 @@ class Exported(BagTest):
             done = subprocess.run(words, cwd=self.bag, capture_output=True, text=True, check=False)
             self.assertEqual((done.returncode, done.stdout.count(": OK")), (0, 6 if name[0] == "m" else 4))
 
-    @unittest.skipUnless(importlib.util.find_spec("bagit"), "there is no bagit")
+    @unittest.skipUnless(importlib.util.find_spec("bagit"), "there is no bagit, which Debian 12 has no package of")
     def test_bagit_finds_it_valid(self) -> None:
-        self.exported("--names", "--all-versions")
+        self.lines(*({"do": "put", "bucket": "docs", "key": key, "text": it} for key, it in MANY.items()))
+        self.exported("--names", "--all-versions", "--premis")
         importlib.import_module("bagit").Bag(str(self.bag)).validate()
 
     def test_the_office_names_itself(self) -> None:
@@ -250,6 +257,44 @@ class Delivered(BagTest):
         done = self.deliver()
         self.assertEqual(done.status, 0)
         self.assertIn("it has digests by md5 alone, which somebody can make fit", done.err)
+
+    def test_names_of_all_scripts_empty_files_and_many_come_in_again(self) -> None:
+        self.lines(*({"do": "put", "bucket": "docs", "key": key, "text": it} for key, it in MANY.items()))
+        self.done("export", "docs", str(self.bag), "--bagit", "--names")
+        rows = self.listed()
+        self.assertEqual({key: (self.bag / "data" / it["file"]).read_text() for key, it in rows.items()}, MANY)
+        # Those that every system tells apart are named by their keys.
+        self.assertEqual(sorted(key for key, it in rows.items() if it["file"] != key), ["\u00e4.txt"])
+        if shutil.which("sha256sum"):
+            words = ["sha256sum", "--check", "--strict", "--quiet", "manifest-sha256.txt", "tagmanifest-sha256.txt"]
+            done = subprocess.run(words, cwd=self.bag, capture_output=True, text=True, check=False)
+            self.assertEqual((done.returncode, done.stdout), (0, ""))
+        self.assertEqual(self.deliver().status, 0)
+        self.bag = self.folder / "again"
+        self.done("export", "again", str(self.bag), "--bagit")
+        digests = {key: it["sha256"] for key, it in self.listed().items()}
+        self.assertEqual(digests, {key: digest(it.encode()) for key, it in MANY.items()})
+
+    def test_faults_of_names_of_all_scripts_are_named(self) -> None:
+        self.lines(*({"do": "put", "bucket": "docs", "key": key, "text": MANY[key]} for key in NAMES))
+        self.done("export", "docs", str(self.bag), "--bagit", "--names")
+        empty, full = NAMES[0], NAMES[3]
+        damages = {
+            f"data/{empty}: its content has another digest": replaced(f"data/{empty}", "x"),
+            f"data/{full}: its content has another digest": replaced(f"data/{full}", ""),
+            f"data/{full}: it is missing": removed(f"data/{full}"),
+            "data/\u00e9: it isn't in the manifest": replaced("data/\u00e9", ""),
+        }
+        whole = self.folder / "whole"
+        self.bag.rename(whole)
+        for wanted, damage in damages.items():
+            with self.subTest(wanted):
+                shutil.copytree(whole, self.bag)
+                damage(self.bag)
+                done = self.deliver()
+                self.assertEqual((done.status, self.there("again")), (1, {}), done.err)
+                self.assertIn(wanted, done.err)
+                shutil.rmtree(self.bag)
 
     def test_a_look_changes_nothing(self) -> None:
         self.exported()

@@ -14,3 +14,11 @@ class Page(OfficeTest):
         page = self.done("page", str(self.file), at=None)
         self.assertIn("&lt;b&gt;&amp;amp;&lt;/b&gt;", page)
         self.assertNotIn(KEY, page)
+
+    def test_one_word_that_ends_as_a_page_is_the_pages_file(self) -> None:
+        out = self.folder / "page.html"
+        self.assertEqual(self.done("page", str(out)), "")
+        self.assertEqual(out.read_text(), self.done("page"))
+        self.assertEqual(self.done("page", str(self.file)), self.done("page"))
+        self.assertEqual(self.desk("page", str(out)).status, 1)
+        self.assertEqual(self.done("page", str(self.file), str(out), "--force"), "")

@@ -4,13 +4,16 @@ from __future__ import annotations
 
 import contextlib
 import html
+import json
 import os
 import re
 import shutil
+import subprocess
 import tempfile
 import unittest
-from collections.abc import Iterator
+from collections.abc import Iterator, Mapping
 from pathlib import Path
+from typing import Any
 from unittest import mock
 
 from tests.office import OfficeTest
@@ -53,6 +56,33 @@ def page(*found: events.Event, is_good: bool = True) -> str:
     life = [{"moment": NOW, "who": "ann", "what": "29 bytes"}, {"moment": NOW, "who": "x" * 40, "what": "all of it"}]
     parts = [document, Part("life", f"At {NOW}", (), ("moment", "who", "what"), life)]
     return court_page.as_html(Page(parts, found, "records.vault", NOW, is_good, "gov"))
+
+
+def objects_of(file: Path) -> dict[str, Any]:
+    """The objects of a file of PDF by their names, as qpdf has them."""
+    words = ["qpdf", "--json=2", "--json-key=qpdf", str(file)]
+    done = subprocess.run(words, capture_output=True, check=True)
+    return dict(json.loads(done.stdout)["qpdf"][1])
+
+
+def not_pdf_a(objects: Mapping[str, Any]) -> Iterator[str]:
+    """What of PDF/A-3b these objects lack. It is a look at some rules of ISO 19005-3, and no validator of it."""
+    values = [it.get("value") or it["stream"]["dict"] for it in objects.values()]
+    kinds = {it["/Type"]: it for it in values if isinstance(it, dict) and "/Type" in it}
+    trailer, catalog = objects["trailer"]["value"], kinds.get("/Catalog", {})
+    if len(trailer.get("/ID", ())) != 2 or "/Encrypt" in trailer:  # 6.1.3
+        yield "the trailer has no /ID, or an encryption"
+    if "/GTS_PDFA1" not in json.dumps(catalog.get("/OutputIntents")) or not any("/N" in it for it in values):  # 6.2.3
+        yield "there is no output intent"
+    fonts = [it for it in values if isinstance(it, dict) and "/FontName" in it]
+    if not fonts or not all({"/FontFile", "/FontFile2", "/FontFile3"} & it.keys() for it in fonts):  # 6.2.11.4
+        yield "a font isn't embedded"
+    if any("/CIDFontType2" == it.get("/Subtype") and "/CIDToGIDMap" not in it for it in values if isinstance(it, dict)):
+        yield "a font has no map of its glyphs"  # 6.2.11.3.2
+    if not {"/Metadata"} <= catalog.keys() or {"/AA", "/OpenAction"} & catalog.keys():  # 6.6.2.1, 6.5
+        yield "there are no metadata, or there is an action"
+    if kinds.get("/Catalog", {}).get("/Lang") != "u:en":
+        yield "the language isn't said"
 
 
 class PaperTest(unittest.TestCase):
@@ -146,11 +176,23 @@ class Printed(PaperTest):
             paper.pdf("x", "A4")
 
     @unittest.skipUnless(shutil.which(paper.MAKER), "there is no weasyprint")
-    def test_it_is_pdf_a(self) -> None:
+    def test_it_is_marked_as_pdf_a(self) -> None:
         made = paper.pdf(page(event("admitted", NOW)), "A4")
         self.assertRegex(made, rb'pdfaid:part="3" pdfaid:conformance="B"|<pdfaid:part>3</pdfaid:part>')
         self.assertIn(b"/GTS_PDFA1", made)
         self.assertNotIn(b"/JavaScript", made)
+        self.assertRegex(made, rb"/ID \[")
+
+    @unittest.skipUnless(shutil.which(paper.MAKER) and shutil.which("qpdf"), "there is no weasyprint, or no qpdf")
+    def test_qpdf_finds_no_fault_and_what_pdf_a_wants_is_there(self) -> None:
+        file = self.folder / "a.pdf"
+        keyed = CERTIFICATE.replace("2025/a", "2025/\u00e4 \u0416")
+        file.write_bytes(paper.pdf(certificate_page.page([(CERTIFICATE, ""), (keyed, "")], "ann"), "A4"))
+        words = ["qpdf", "--check", str(file)]
+        done = subprocess.run(words, capture_output=True, text=True, check=False)
+        self.assertEqual(done.returncode, 0, done.stdout + done.stderr)
+        self.assertEqual(list(not_pdf_a(objects_of(file))), [])
+        self.assertEqual(len(list(not_pdf_a({"trailer": {"value": {"/Encrypt": {}}}}))), 5)
 
 
 class Asked(OfficeTest):
@@ -174,3 +216,6 @@ class Asked(OfficeTest):
         with mock.patch.dict(os.environ, {"PATH": ""}):
             done = self.desk("certificate", "1", "--html", str(out), "--pdf", str(pdf), "--force")
         self.assertEqual((done.status, out.exists()), (1, False))
+        done = self.desk("certificate", "1", "--html", str(out), "--pdf", str(pdf))
+        self.assertEqual((done.status, out.exists()), (1, False))
+        self.assertIn("a.pdf is there already: give --force", done.err)

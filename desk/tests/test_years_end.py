@@ -10,10 +10,12 @@ import re
 import unittest
 import zipfile
 from pathlib import Path
+from unittest import mock
 from xml.etree import ElementTree
 
 from tests.office import OfficeTest
 from vaultdesk import spreadsheet
+from vaultdesk.errors import DeskError
 
 CELL = "{http://schemas.openxmlformats.org/spreadsheetml/2006/main}c"
 KEY = '=1+1 "quoted"\u2028Müller'
@@ -70,6 +72,29 @@ class YearsEnd(OfficeTest):
             self.assertTrue(all(path.read_bytes() == b"mine" for path in there if path.exists()), it)
         self.done("certificates", str(out), at=LATER)
         self.assertEqual(len(list(out.iterdir())), 3)
+
+    def test_certificates_write_over_no_file(self) -> None:
+        names = ("certificate-0000000002.txt", "certificates.html", "certificates.pdf")
+        away = self.folder / "away"
+        with mock.patch("vaultdesk.paper.pdf", return_value=b"%PDF new"):
+            for number, name in enumerate(names):
+                out = self.folder / f"out{number}"
+                out.mkdir()
+                (out / name).write_bytes(b"mine")
+                done = self.desk("certificates", str(out), "--pdf", at=LATER)
+                self.assertEqual((done.status, (out / name).read_bytes()), (1, b"mine"))
+                self.assertIn(f"{name} is there already: give --force", done.err)
+                (out / name).unlink()
+                (out / name).symlink_to(away)  # which isn't there
+                done = self.desk("certificates", str(out), "--pdf", at=LATER)
+                self.assertEqual((done.status, away.exists(), len(list(out.iterdir()))), (1, False, 1))
+            self.done("certificates", str(out), at=LATER)
+            self.assertFalse(away.exists())
+            self.done("certificates", str(self.folder / "new"), "--pdf", at=LATER)
+            self.assertEqual((self.folder / "new" / names[2]).read_bytes(), b"%PDF new")
+        with mock.patch("vaultdesk.paper.pdf", side_effect=DeskError("no PDF")):
+            self.assertEqual(self.desk("certificates", str(self.folder / "none"), "--pdf", at=LATER).status, 1)
+        self.assertFalse((self.folder / "none").exists())
 
     def test_certificates_since_a_day(self) -> None:
         out = self.folder / "out"

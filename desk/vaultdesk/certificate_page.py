@@ -7,7 +7,7 @@ from collections.abc import Iterable, Mapping
 
 from vaultdesk import paper
 
-TITLE = "Certificate of destruction"
+TITLE, ALL = "Certificate of destruction", "Certificates of destruction"
 CAUSES = {
     "request": "as {} asked",
     "bypass": "as {} asked, who bypassed a retention in GOVERNANCE",
@@ -49,4 +49,4 @@ def _sheet(text: str, noted: str, asker: str | None) -> str:
 def page(certificates: Iterable[tuple[str, str]], asker: str | None) -> str:
     """The page of these certificates, as the engine has them, each with what the office noted of it as HTML, issued by
     that caller."""
-    return paper.page(f"{TITLE}s", "".join(_sheet(text, noted, asker) for text, noted in certificates))
+    return paper.page(ALL, "".join(_sheet(text, noted, asker) for text, noted in certificates))

@@ -8,11 +8,11 @@ import hashlib
 import json
 import os
 import sys
-from collections.abc import Callable, Mapping
+from collections.abc import Callable, Iterable, Mapping
 from pathlib import Path
 from typing import Any
 
-from vaultdesk import cards, defaults, keys, limits, moments, receipts, schedule
+from vaultdesk import beside, cards, defaults, keys, limits, moments, receipts, schedule
 from vaultdesk.asking import confirm
 from vaultdesk.engine import Engine
 from vaultdesk.errors import DeskError, Refused, UsageError, of_file
@@ -20,6 +20,7 @@ from vaultdesk.history import number
 from vaultdesk.output import print_json, print_table, say
 
 MOST = 1_048_576  # bytes that a version may have
+TOO_LARGE = f"cut it into parts, as {beside.page('MANUAL')} shows (Larger scans)"
 
 
 def read_content(path: str) -> bytes:
@@ -33,8 +34,15 @@ def read_content(path: str) -> bytes:
     except OSError as error:
         raise of_file(path, error) from error
     if len(content) > MOST:
-        raise DeskError(f"{path}: more than {MOST:,} bytes, which a version may have: cut it into parts")
+        raise DeskError(f"{path}: more than {MOST:,} bytes, which a version may have: {TOO_LARGE}")
     return content
+
+
+def look_free(paths: Iterable[Path], force: bool) -> None:
+    """`DeskError` where one of these files is there, if only as a link, and may not be written over."""
+    there = next((it for it in paths if os.path.lexists(it)), None)
+    if there is not None and not force:
+        raise DeskError(f"{there} is there already: give --force to write over it")
 
 
 def write_content(path: Path, content: bytes, force: bool) -> None:

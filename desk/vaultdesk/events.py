@@ -6,6 +6,7 @@ import csv
 import io
 from collections.abc import Callable, Iterable, Mapping, Sequence
 from dataclasses import dataclass
+from itertools import groupby
 from pathlib import Path
 from typing import Any
 
@@ -62,13 +63,25 @@ def _in_time(rows: Iterable[Mapping[str, Any]]) -> list[Event]:
     return sorted(map(_event, rows), key=lambda it: it.moment)
 
 
+def _printed(engine: Engine) -> Iterable[Mapping[str, str]]:
+    """The events of all versions, as the engine prints them after an audit of the file."""
+    # Split at LF alone: keys may have other characters that end a line elsewhere.
+    return csv.DictReader(io.StringIO(engine.printed("events"), newline=""))
+
+
+def of_all(engine: Engine) -> dict[int, list[Event]]:
+    """All that happened to each version, in the order of time, as the engine prints it after an audit of the file.
+
+    `EngineError` where the file isn't sound or can't be opened."""
+    grouped = groupby(_printed(engine), lambda it: int(it["version"]))
+    return {version: _in_time(rows) for version, rows in grouped}
+
+
 def of_version(engine: Engine, version: int) -> list[Event]:
     """All that happened to a version, in the order of time, as the engine prints it after an audit of the file.
 
     `DeskError` where the vault has none of that number, `EngineError` where the file isn't sound or can't be opened."""
-    # Split at LF alone: keys may have other characters that end a line elsewhere.
-    rows = csv.DictReader(io.StringIO(engine.printed("events"), newline=""))
-    found = _in_time(it for it in rows if it["version"] == str(version))
+    found = _in_time(it for it in _printed(engine) if it["version"] == str(version))
     if not found:
         raise DeskError(f"no version of this vault has the number {version}: vaultdesk find lists those there are")
     return found

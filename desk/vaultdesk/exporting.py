@@ -14,11 +14,12 @@ from collections.abc import Iterator, Mapping, Sequence
 from pathlib import Path
 from typing import Any, BinaryIO
 
-from vaultdesk import __version__, bags, cards, config, moments, spreadsheet
+from vaultdesk import __version__, bags, cards, config, events, mets, moments, premis, spreadsheet
 from vaultdesk.documents import checked_content
 from vaultdesk.engine import Engine
 from vaultdesk.errors import DeskError, UsageError, of_file
 from vaultdesk.output import counted_off, print_json, say, shown
+from vaultdesk.people import all_of
 
 LISTED = (
     "file", "key", "version", "size", "sha256", "admitted", "retention_mode", "retention_until", "legal_hold",
@@ -158,15 +159,19 @@ def _list(target: Target, rows: Sequence[Mapping[str, Any]]) -> None:
         spreadsheet.write_to(file, "documents", [{it: str(row.get(it, "")) for it in listed} for row in rows], listed)
 
 
-def _info(engine: Engine, words: argparse.Namespace) -> dict[str, str]:
+def _vault(engine: Engine) -> str:
+    """How a bag names the vault."""
+    return engine.desk.file.name.removesuffix(".vault")
+
+
+def _info(engine: Engine, words: argparse.Namespace, now: str) -> dict[str, str]:
     """What a bag says of itself."""
-    now = engine.at or moments.now()
     prefix = f" whose keys begin with {shown(words.prefix)}" if words.prefix else ""
     versions = ", older versions too" if words.all_versions else ""
     office = config.office_name()
     return {
         **({"Source-Organization": office} if office else {}),
-        "External-Identifier": f"{engine.desk.file.name.removesuffix('.vault')}/{words.bucket}/{now}",
+        "External-Identifier": f"{_vault(engine)}/{words.bucket}/{now}",
         "External-Description": f"documents of the bucket {words.bucket}{prefix}{versions}; {bags.LIST} has their keys",
         "Internal-Sender-Identifier": engine.desk.caller,
         "Bagging-Date": now[:10],
@@ -174,18 +179,32 @@ def _info(engine: Engine, words: argparse.Namespace) -> dict[str, str]:
     }
 
 
+def _life(engine: Engine, words: argparse.Namespace, rows: Sequence[Mapping[str, Any]]) -> bytes:
+    """What happened to the documents of these rows, and where older versions are asked for, to removed ones of their
+    keys, in PREMIS."""
+    lives, people = events.of_all(engine), all_of(engine.tables)
+    documents = [premis.Document(lives[it["version"]], f"{bags.PAYLOAD}/{it['file']}") for it in rows]
+    if words.all_versions:
+        documents += premis.removed(lives.values(), words.bucket, {it["key"] for it in rows})
+    return premis.content(_vault(engine), documents, people)
+
+
 def _bag(engine: Engine, words: argparse.Namespace, entries: Sequence[Entry]) -> None:
     """Writes a bag of these documents, and says its digest."""
     if not entries:
         raise DeskError(f"{words.bucket} holds no such document: a bag has at least one; vaultdesk ls lists them")
-    info, rows = _info(engine, words), []
+    now = engine.at or moments.now()
+    info, rows = _info(engine, words, now), []
     made = bags.Writer(Target(Path(words.folder), words.force).open)
     named = list(_named(entries, words.names, for_all=True))
     for it, name in counted_off(named, "documents are written"):
         content, row = _got(engine, words, it, name)
         made.payload(name, content)
         rows.append(row)
-    made.tag(bags.LIST, _csv(rows))
+    made.tag(bags.LIST, listed := _csv(rows))
+    if words.premis:
+        made.tag(premis.FILE, life := _life(engine, words, rows))
+        made.tag(mets.FILE, mets.content(info, now, (_vault(engine), words.bucket), rows, (listed, life)))
     digest = made.end(info)
     if words.json:
         print_json({**info, "manifest": digest, "documents": rows})
@@ -213,6 +232,8 @@ def export(engine: Engine, words: argparse.Namespace) -> None:
     """Writes the documents of a bucket to a folder, with a list that says which is which; or to a bag."""
     if words.bagit and (words.force or words.into_existing):
         raise UsageError("a bag is a new folder: leave --force and --into-existing out, or --bagit")
+    if words.premis and not words.bagit:
+        raise UsageError("--premis goes with --bagit")
     if not words.force and not words.into_existing:
         _look_empty(Path(words.folder))
     held = [it for it in engine.entries(words.bucket, words.prefix) if not it["delete_marker"]]
@@ -236,6 +257,8 @@ def add(commands: argparse._SubParsersAction[argparse.ArgumentParser], common: a
     it.add_argument("--all-versions", action="store_true", help="older versions too")
     text = "as a bag of BagIt 1.0 (RFC 8493), for an archive: the documents below data/, with the digests of all files"
     it.add_argument("--bagit", action="store_true", help=text)
+    text = f"with --bagit: {premis.FILE}, what happened to each document, in PREMIS 3.0, and {mets.FILE}, in METS 1.12"
+    it.add_argument("--premis", action="store_true", help=text)
     it.add_argument("--into-existing", action="store_true", help="into a folder that has other files")
     it.add_argument("--force", action="store_true", help="the same, and write over files that are there")
     it.set_defaults(run=export)

@@ -9,7 +9,7 @@ from collections import Counter
 from collections.abc import Sequence
 
 from vaultdesk import keys, moments
-from vaultdesk.documents import MOST
+from vaultdesk.documents import MOST, TOO_LARGE
 from vaultdesk.folder import Folder, is_of_system
 from vaultdesk.items import MODES, Item
 from vaultdesk.limits import LONGEST_KEY, Limits, why_outside
@@ -87,7 +87,7 @@ def look_at_file(it: Item, folder: Folder) -> None:
         it.wrong.append(f"it can't be read: {error.strerror}")
         return
     if len(content) > MOST:
-        it.wrong.append(f"it has more than {MOST:,} bytes: cut it into parts")
+        it.wrong.append(f"it has more than {MOST:,} bytes: {TOO_LARGE}")
         return
     it.size, it.digest = len(content), hashlib.sha256(content).hexdigest()
     if it.wanted not in ("", it.digest):

@@ -18,6 +18,7 @@ from vaultdesk.noted import Noted
 from vaultdesk.output import print_json
 from vaultdesk.page_style import HATCH, SCRIPT, STYLE
 
+ENDING = ".html"  # of a file for the page, which no vault's has
 FILLS = ("solid", "open", "hatched")  # of the causes in their order; they differ without colour
 POLICY = "default-src 'none'; style-src 'unsafe-inline'; script-src 'unsafe-inline'; img-src data:"
 
@@ -170,6 +171,8 @@ def page_of(facts: Facts, notes: Noted) -> str:
 
 def page(words: argparse.Namespace) -> int:
     """Prints the page of a vault, or writes it to a file."""
+    if words.file and not words.out and words.file.endswith(ENDING):
+        words.file, words.out = None, words.file
     vault = words.file or config.named_vault()
     if not vault:
         raise UsageError("no vault is named: give FILE, or set $VAULT")
@@ -194,7 +197,8 @@ def add(commands: argparse._SubParsersAction[argparse.ArgumentParser], common: a
     example = "Example: vaultdesk page records.vault page.html"
     it = commands.add_parser("page", parents=[common], help=what, epilog=example)
     it.add_argument("file", nargs="?", metavar="FILE", help="the vault's file, or its name in the settings (or $VAULT)")
-    it.add_argument("out", nargs="?", metavar="PAGE", help="the file to write (default: standard output)")
+    text = f"the file to write (default: standard output); one word that ends with {ENDING} is PAGE"
+    it.add_argument("out", nargs="?", metavar="PAGE", help=text)
     it.add_argument("--at", metavar="DATE", help="the moment of the page (default: this machine's clock)")
     it.add_argument("--force", action="store_true", help="write over a file that is there")
     it.set_defaults(do=page)

@@ -4,6 +4,7 @@ from __future__ import annotations
 
 import argparse
 import datetime as dt
+import hashlib
 import html
 import re
 import shutil
@@ -12,7 +13,7 @@ from collections.abc import Sequence
 from pathlib import Path
 
 from vaultdesk import config, moments
-from vaultdesk.documents import write_content
+from vaultdesk.documents import look_free, write_content
 from vaultdesk.errors import DeskError, UsageError
 from vaultdesk.output import shown
 
@@ -113,8 +114,11 @@ def pdf(given: str, paper: str) -> bytes:
     """A page as PDF/A-3b. `DeskError` where the program that makes it isn't there, or fails."""
     if not shutil.which(MAKER):
         raise DeskError(f"{MAKER} isn't there, which makes PDF/A: apt install {MAKER}, or print the HTML by a browser")
-    words = [MAKER, "--quiet", "--encoding", "utf-8", "--pdf-variant", VARIANT, "-", "-"]
-    done = subprocess.run(words, input=_sized(given, paper).encode(), capture_output=True, check=False)
+    content = _sized(given, paper).encode()
+    # A file of PDF/A has an identifier in its trailer; some versions of the program write none by themselves.
+    named = ["--pdf-identifier", hashlib.sha256(content).hexdigest()[:32]]
+    words = [MAKER, "--quiet", "--encoding", "utf-8", "--pdf-variant", VARIANT, *named, "-", "-"]
+    done = subprocess.run(words, input=content, capture_output=True, check=False)
     if done.returncode or not done.stdout.startswith(b"%PDF"):
         said = done.stderr.decode(errors="replace").strip()[-300:]
         raise DeskError(f"{MAKER} made no PDF: {said or 'it says nothing'}: print the HTML by a browser")
@@ -127,6 +131,7 @@ def write(words: argparse.Namespace, given: str) -> bool:
     `DeskError` where a file is there and may not be written over, or no PDF can be made; then nothing is written."""
     if words.paper and not words.pdf:
         raise UsageError("--paper goes with --pdf FILE")
+    look_free([Path(it) for it in (words.html, words.pdf) if it], words.force)
     made = pdf(given, words.paper or PAPERS[0]) if words.pdf else b""
     if words.html:
         write_content(Path(words.html), given.encode(), words.force)

@@ -11,6 +11,7 @@ from pathlib import Path
 from typing import Any
 
 from vaultdesk import certificate_page, evidence, moments, noted, paper, parts, reading, spreadsheet
+from vaultdesk.documents import look_free, write_content
 from vaultdesk.engine import Engine
 from vaultdesk.errors import DeskError, Refused, UsageError, of_file
 from vaultdesk.history import number
@@ -61,13 +62,6 @@ def _certified(engine: Engine, rows: Sequence[reading.Row], callers: Mapping[str
             raise DeskError(f"version {row['version']}: {error}") from error
 
 
-def _free(paths: Iterable[Path], force: bool) -> None:
-    """Says before anything is written that a file would be written over."""
-    there = next((it for it in paths if it.exists()), None)
-    if there is not None and not force:
-        raise DeskError(f"{there} is there already: give --force to write over it")
-
-
 def certificates(engine: Engine, words: argparse.Namespace) -> None:
     """Writes the certificate of each removed document to a file of its own, and all of them to one page."""
     since, before = _span(words)
@@ -75,23 +69,22 @@ def certificates(engine: Engine, words: argparse.Namespace) -> None:
     callers = _callers(engine) if words.any_caller else {}
     notes = noted.of(engine.tables)
     folder = Path(words.folder)
-    page, pdf = folder / "certificates.html", folder / "certificates.pdf"
-    paths = [folder / f"certificate-{it['version']:010}.txt" for it in rows]
-    _free([*paths, page], words.force)
-    _free([pdf] if words.pdf else [], words.force)
-    texts = []
+    names = [f"certificate-{it['version']:010}.txt" for it in rows]
+    names += ["certificates.html", *(["certificates.pdf"] if words.pdf else [])]
+    paths = [folder / it for it in names]
+    look_free(paths, words.force)
+    texts = list(counted_off(_certified(engine, rows, callers), "certificates", len(rows)))
+    described = zip(texts, (noted.as_html(notes.of_removed(it)) for it in rows), strict=True)
+    made = certificate_page.page(described, engine.desk.asker)
+    contents = [it.encode() for it in (*texts, made)]
+    if words.pdf:
+        contents.append(paper.pdf(made, words.paper or paper.PAPERS[0]))
     try:
         folder.mkdir(parents=True, exist_ok=True)
-        certified = counted_off(_certified(engine, rows, callers), "certificates", len(rows))
-        for path, row, text in zip(paths, rows, certified, strict=True):
-            path.write_bytes(text.encode())
-            texts.append((text, noted.as_html(notes.of_removed(row))))
-        made = certificate_page.page(texts, engine.desk.asker)
-        page.write_text(made, encoding="utf-8")
-        if words.pdf:
-            pdf.write_bytes(paper.pdf(made, words.paper or paper.PAPERS[0]))
     except OSError as error:
         raise of_file(error.filename, error) from error
+    for path, content in zip(paths, contents, strict=True):
+        write_content(path, content, words.force)
     if words.json:
         print_json([it["version"] for it in rows])
     else:
