@@ -9,20 +9,24 @@ off in the middle, and a hundred users ask for pages at once. WEB_SHOTS names a 
 It runs where the interpreter has selenium and what the pages need, as Debian's /usr/bin/python3.
 """
 
+import base64
+import contextlib
 import functools
 import http.client
+import http.server
 import os
 import pathlib
 import re
 import socket
+import ssl
 import statistics
 import threading
 import time
 import unittest
 import urllib.parse
 
-from trials.program import Case, check, needs
-from trials.web_pages import LACKING, PASSWORD, Browser, Office, together
+from trials.program import LIMIT, Case, check, needs, ran_words
+from trials.web_pages import HOST, LACKING, PASSWORD, Browser, Office, StandIn, together
 
 TAKES_LONG = True
 SHOTS = os.environ.get("WEB_SHOTS")
@@ -38,11 +42,13 @@ WITHIN = float(os.environ.get("WEB_WITHIN", "1"))
 class Pages(Case):
     """An office, and browsers in which users are logged in."""
 
+    KNOWN = ""
+
     def setUp(self) -> None:
         super().setUp()
         if LACKING:
             self.skipTest(f"this interpreter has no {LACKING[0]}: /usr/bin/python3 has, after tools/setup-trials")
-        self.office = Office(self.folder)
+        self.office = Office(self.folder, self.KNOWN)
         self.addCleanup(self.office.close)
 
     def browser(self, name: str, width: int = 1280) -> Browser:
@@ -318,6 +324,64 @@ class Client:
         head = f"POST {path} HTTP/1.1\r\nHost: pages\r\nCookie: {self.cookie}\r\nContent-Type: {form[0]}\r\n"
         with socket.create_connection(("127.0.0.1", self.office.pages)) as peer:
             peer.sendall(f"{head}Content-Length: {len(form[1])}\r\n\r\n".encode() + form[1][:count])
+
+
+class Known(Pages):
+    """Users whom another service knows: nginx asks it by the lines of the package's file. What stands in for it here is
+    ours: oauth2-proxy, OIDC and PAM themselves aren't tried."""
+
+    KNOWN = r"(oauth2|who)"
+
+    def ask(self, method: str, path: str, body: str = "", **headers: str) -> tuple[int, str, str]:
+        """The status, the page, and where the answer leads."""
+        trusts = ssl.create_default_context(cafile=str(self.folder / "vault.pem"))
+        trusts.check_hostname = False
+        peer = http.client.HTTPSConnection("127.0.0.1", self.office.tls, timeout=LIMIT, context=trusts)
+        kind = {"Content-Type": "application/x-www-form-urlencoded"} if body else {}
+        named = {it.replace("_", "-"): value for it, value in headers.items()}
+        with contextlib.closing(peer):
+            peer.request(method, path, body or None, {"Host": HOST, **kind, **named})
+            reply = peer.getresponse()
+            cookies = [it.split(";")[0] for it in reply.headers.get_all("Set-Cookie") or []]
+            self.cookie = next((it for it in cookies if it.startswith("__Host-vault=")), "")
+            return reply.status, reply.read().decode(), reply.headers.get("Location", "")
+
+    @needs("nginx", "openssl")
+    def test_a_service_that_nginx_asks(self) -> None:
+        service = http.server.ThreadingHTTPServer(("127.0.0.1", self.office.who), StandIn)
+        threading.Thread(target=service.serve_forever, daemon=True).start()
+        self.addCleanup(service.server_close)
+        self.addCleanup(service.shutdown)
+        for headers in ({}, {"X_Vault_User": "ann"}):
+            status, _, way = self.ask("GET", "/", **headers)
+            check((status, way) == (302, "https://login.example.org/"), f"who isn't known is answered {status} {way}")
+        self.works(Cookie="_oauth2_proxy=ann")
+        check(self.ask("GET", "/", Cookie="_oauth2_proxy=Ann+B")[0] == 401, "a name that is no caller's is let in")
+
+    def works(self, **headers: str) -> None:
+        """Fails where `ann`, who is known by these headers, can't put a document on hold, or is taken for another one."""
+        status, page, _ = self.ask("GET", "/version/1", X_Vault_User="bea", **headers)
+        check(status == 200 and "You are ann" in page, f"{status} {page}")
+        token = re.findall(r'name="token" value="([^"]+)"', page)[-1]
+        cookies = "; ".join(it for it in (headers.pop("Cookie", ""), self.cookie) if it)
+        form = urllib.parse.urlencode({"token": token, "case": "Miller 1"})
+        status, page, way = self.ask("POST", "/version/1/hold", form, Cookie=cookies, **headers)
+        check((status, way) == (303, "/version/1"), f"a hold is answered {status} {page}")
+
+
+class Asked(Known):
+    """The same where nginx asks for the password: `auth_basic` stands in for `auth_pam`, which sets the same variable."""
+
+    KNOWN = "auth_pam"
+
+    @needs("nginx", "openssl")
+    def test_a_service_that_nginx_asks(self) -> None:
+        digest = ran_words("openssl", "passwd", "-6", PASSWORD).out
+        (self.folder / "passwords").write_text(f"ann:{digest}")
+        name = {it: "Basic " + base64.b64encode(f"ann:{it}".encode()).decode() for it in (PASSWORD, "wrong")}
+        for headers in ({}, {"X_Vault_User": "ann"}, {"Authorization": name["wrong"]}):
+            check(self.ask("GET", "/", **headers)[0] == 401, f"with {list(headers)} alone somebody is let in")
+        self.works(Authorization=name[PASSWORD])
 
 
 class Crowd(Pages):

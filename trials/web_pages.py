@@ -1,6 +1,7 @@
 """Pages in a browser: what is started for them, a browser that a driver works, and checks of what it shows."""
 
 import contextlib
+import http.server
 import importlib
 import importlib.util
 import json
@@ -63,12 +64,32 @@ def selenium(name: str) -> Any:
     return importlib.import_module(f"selenium.{name}")
 
 
-class Office:
-    """A vault of the department `records` that is served, its pages, and nginx before them."""
+class StandIn(http.server.BaseHTTPRequestHandler):
+    """Answers nginx as oauth2-proxy does: who it is by a cookie of that name, else where one logs in."""
 
-    def __init__(self, folder: pathlib.Path) -> None:
-        self.folder, self.file, self.door = folder, folder / "records.vault", folder / "lines"
-        self.port, self.pages, self.tls = free_ports(3)
+    def do_GET(self) -> None:
+        self.rfile.read(int(self.headers.get("Content-Length") or 0))  # which nginx has to leave out
+        name = re.search(r"_oauth2_proxy=([^;]*)", self.headers.get("Cookie") or "")
+        if self.path != "/oauth2/auth":
+            self.send_response(302)
+            self.send_header("Location", "https://login.example.org/")
+        else:
+            self.send_response(202 if name else 401)
+            self.send_header("X-Auth-Request-Preferred-Username", name[1] if name else "")
+        self.send_header("Content-Length", "0")
+        self.end_headers()
+
+    def log_message(self, *_: object) -> None:
+        """Nothing is said."""
+
+
+class Office:
+    """A vault of the department `records` that is served, its pages, and nginx before them. `known` is how nginx knows
+    its users where the pages don't: a word of those lines of its file that are for that."""
+
+    def __init__(self, folder: pathlib.Path, known: str = "") -> None:
+        self.folder, self.file, self.door, self.known = folder, folder / "records.vault", folder / "lines", known
+        self.port, self.pages, self.tls, self.who = free_ports(4)
         self.servers: dict[str, subprocess.Popen[bytes]] = {}
         self.make()
         self.start_vault()
@@ -110,8 +131,8 @@ class Office:
 
     def start_pages(self) -> None:
         """Serves the pages, by the interpreter that has what they need."""
-        users = self.folder / "users"
-        self.begin("pages", sys.executable, DESK, "web", self.file, "--port", self.pages, "--users", users, "--door", self.door)
+        who = ("--header", "X-Vault-User") if self.known else ("--users", self.folder / "users")
+        self.begin("pages", sys.executable, DESK, "web", self.file, "--port", self.pages, *who, "--door", self.door)
         wait_for(self.pages)
 
     def start_nginx(self) -> None:
@@ -121,20 +142,27 @@ class Office:
             "openssl", "req", "-x509", "-newkey", "rsa:2048", "-nodes", "-days", "2", "-subj", f"/CN={HOST}",
             "-keyout", folder / "vault.key", "-out", folder / "vault.pem",
         )  # fmt: skip
-        text = (TOP / "packaging" / "nginx-web.conf").read_text()
-        for old, new in {
-            "listen 443 ssl": f"listen 127.0.0.1:{self.tls} ssl", "127.0.0.1:8090": f"127.0.0.1:{self.pages}",
-            "/etc/ssl/": f"{folder}/",
-        }.items():  # fmt: skip
-            check(old in text, f"nginx-web.conf has no {old}")
-            text = text.replace(old, new)
-        text = text.partition("server {\n    listen 80;")[0]
+        text = self.nginx_text()
         where = "".join(f"{it}_temp_path {folder}/{it};" for it in ("client_body", "proxy", "fastcgi", "uwsgi", "scgi"))
         log = f"pid {folder}/nginx.pid; daemon off; error_log {folder}/error.log;"
         user = "user root;" if os.geteuid() == 0 else ""
         (folder / "nginx.conf").write_text(f"{user} {log} events {{}} http {{ access_log off; {where}\n{text}\n}}\n")
         self.begin("nginx", "nginx", "-p", folder, "-e", folder / "error.log", "-c", folder / "nginx.conf")
         wait_for(self.tls)
+
+    def nginx_text(self) -> str:
+        """The file of the package, for this trial."""
+        text = (TOP / "packaging" / "nginx-web.conf").read_text()
+        if self.known:
+            text = re.sub(rf"^( *)#(?=\S.*{self.known})", r"\1", text, flags=re.MULTILINE)
+        for old, new in {
+            "listen 443 ssl": f"listen 127.0.0.1:{self.tls} ssl", "127.0.0.1:8090": f"127.0.0.1:{self.pages}",
+            "/etc/ssl/": f"{self.folder}/", "127.0.0.1:4180": f"127.0.0.1:{self.who}",
+            'auth_pam "Vault"; auth_pam_service_name "vault"': f'auth_basic "Vault"; auth_basic_user_file {self.folder}/passwords',
+        }.items():  # fmt: skip
+            check(old in text, f"nginx-web.conf has no {old}")
+            text = text.replace(old, new)
+        return text.partition("server {\n    listen 80;")[0]
 
     def stop(self, name: str) -> None:
         """Kills a server."""
