@@ -267,6 +267,32 @@ class Others(Pages):
         it.go("/version/1")
         check("/login" in it.driver.current_url, "a session outlives the pages' server")
 
+    @needs("chromium", "nginx", "openssl")
+    def test_an_upload_says_how_far_it_is(self) -> None:
+        it = self.browser("ann", 320)
+        it.go("/put?bucket=letters&key=large")
+        it.fill(file=self.file("large", bytes(1_048_577)))
+        check("More than 1,048,576 bytes" in it.script("document.querySelector('[name=file]').validationMessage"), "no word of it")
+        it.go("/deliver")
+        it.fill(batch="slow", files=self.file("slow.bin", bytes(1_000_000)))
+        it.slow(250_000)
+        old = it.find("html")
+        it.find("main form[enctype] button").click()
+        shares = set[float]()
+        while (share := it.script("document.querySelector('.sent:not([hidden]) progress')?.value")) is not None:
+            shares.add(share)
+            shot(it, "sending", 320)
+        it.slow(-1)
+        it.await_next(old)
+        check(len([it for it in shares if 0 < it < 1]) > 1, f"the bar shows {sorted(shares)}")
+        check("Plan of delivery slow" in it.words(), it.words())
+        it.go("/deliver")
+        it.fill(batch="slow", files=self.file("slow.bin", b"x"))
+        self.office.stop("pages")
+        it.find("main form[enctype] button").click()
+        it.until("!document.querySelector('.broken').hidden")
+        check("The connection broke off" in it.words(), it.words())
+
     @needs("nginx", "openssl")
     def test_uploads_that_are_cut_off(self) -> None:
         client = Client(self.office, "ann")

@@ -14,7 +14,7 @@ import threading
 import time
 from typing import Any
 
-from trials.program import DESK, PROGRAM, TOP, check, ran_words
+from trials.program import DESK, LIMIT, PROGRAM, TOP, check, ran_words
 from trials.servers import free_ports, wait_for
 
 PASSWORD = "correct horse battery"
@@ -244,7 +244,7 @@ class Browser:
     def await_next(self, old: Any) -> None:
         """Waits until another page has come in the place of one."""
         stale = selenium("common.exceptions").WebDriverException  # of a page that is going, which has several names
-        end = time.monotonic() + 60
+        end = time.monotonic() + LIMIT
         with contextlib.suppress(stale):
             while time.monotonic() < end:
                 old.is_enabled()
@@ -253,6 +253,22 @@ class Browser:
         while self.driver.execute_script("return document.readyState") != "complete":
             time.sleep(0.02)
         self.look()
+
+    def script(self, text: str) -> Any:
+        """The value of an expression on the page."""
+        return self.driver.execute_script(f"return {text}")
+
+    def until(self, text: str) -> None:
+        """Waits until an expression on the page is true."""
+        end = time.monotonic() + LIMIT
+        while not self.script(text):
+            check(time.monotonic() < end, f"{self.driver.current_url}: {text} doesn't become true: {self.words()}")
+            time.sleep(0.05)
+
+    def slow(self, each: int) -> None:
+        """Has the browser send so many bytes in a second; -1 is as many as it can."""
+        how = {"offline": False, "latency": 0, "downloadThroughput": -1, "uploadThroughput": each}
+        self.driver.execute_cdp_cmd("Network.emulateNetworkConditions", how)
 
     def press(self, css: str, text: str) -> None:
         """Clicks what has these words among what that selects."""

@@ -11,13 +11,12 @@ from vaultdesk.output import say
 from vaultdesk.web import delivering, document, finding, guard, holding, login, putting, reporting, state
 from vaultdesk.web.libraries import library
 from vaultdesk.web.texts import NAMES
-from vaultdesk.web.visit import Site, page, visit
+from vaultdesk.web.visit import MOST, Site, page, visit
 
 flask, jinja = library("flask"), library("jinja2")
 exceptions = library("werkzeug.exceptions")
 
 FAMILIES = (login, finding, document, putting, holding, delivering, reporting, state)
-MOST = 1_073_741_824  # bytes of a request
 PARTS = 20_000  # files and fields of a form
 STATUS = {
     "AccessDenied": 403, "NoSuchBucket": 404, "NoSuchKey": 404, "NoSuchVersion": 404, "Device": 503, "Memory": 503,

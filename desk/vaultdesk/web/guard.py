@@ -20,10 +20,11 @@ flask = library("flask")
 COOKIE = "__Host-vault"
 BEFORE = "__Host-vault-login"  # of who isn't logged in yet
 LANGUAGE = "__Host-vault-language"
+BY_SCRIPT, NEXT = "Vault-Sent-By", "Vault-Next"  # of a form that `upload.js` sent, and where its answer leads
 OPEN = ("static", "login", "language")  # what needs no session
 POLICY = (
-    "default-src 'none'; style-src 'self'; img-src 'self'; script-src 'self'; form-action 'self'; base-uri 'none'; "
-    "frame-ancestors 'none'"
+    "default-src 'none'; style-src 'self'; img-src 'self'; script-src 'self'; connect-src 'self'; form-action 'self'; "
+    "base-uri 'none'; frame-ancestors 'none'"
 )
 HEADERS = {
     "Content-Security-Policy": POLICY,
@@ -144,6 +145,8 @@ def go(answer: Any) -> Any:
         set_cookie(answer, COOKIE, it.cookie)
     if flask.request.endpoint != "static":
         _log(it, answer.status_code)
+    if BY_SCRIPT in flask.request.headers and answer.status_code == 303:  # which a script can't see
+        answer.status_code, answer.headers[NEXT] = 200, answer.headers.pop("Location")
     return answer
 
 

@@ -54,8 +54,9 @@ def _site(words: argparse.Namespace) -> Any:
 
 def _server(words: argparse.Namespace, site: Any) -> Any:
     """The server, which listens by now. `DeskError` where it can't."""
-    from vaultdesk.web.app import MOST, made
+    from vaultdesk.web.app import made
     from vaultdesk.web.libraries import library
+    from vaultdesk.web.visit import MOST
 
     logging.getLogger("waitress").setLevel(logging.ERROR)  # each request has a line of its own
     how = {"threads": THREADS, "connection_limit": CONNECTIONS, "max_request_body_size": MOST, "ident": None}
