@@ -15,7 +15,7 @@ import time
 from typing import Any
 
 from trials.program import DESK, LIMIT, PROGRAM, TOP, check, ran_words
-from trials.servers import free_ports, wait_for
+from trials.servers import free_port, free_ports, wait_for
 
 PASSWORD = "correct horse battery"
 HOST = "pages.example.org"
@@ -62,6 +62,31 @@ return faults;
 def selenium(name: str) -> Any:
     """A module of selenium."""
     return importlib.import_module(f"selenium.{name}")
+
+
+# A client of the gateway that does nothing else: it puts, reads and lists until it is ended, and then says how often.
+LOAD = """\
+import signal, sys, threading, boto3, botocore.config
+where, access, secret = sys.argv[1:]
+is_over, counts = threading.Event(), []
+signal.signal(signal.SIGTERM, lambda *_: is_over.set())
+def work(number):
+    config = botocore.config.Config(signature_version="s3v4", s3={"addressing_style": "path"}, retries={"max_attempts": 1})
+    client = boto3.session.Session(access, secret, region_name="us-east-1").client("s3", endpoint_url=where, config=config)
+    done = 0
+    while not is_over.is_set():
+        key = f"load/{number}/{done}"
+        client.put_object(Bucket="letters", Key=key, Body=bytes(20_000))
+        client.get_object(Bucket="letters", Key=key)["Body"].read()
+        client.list_objects_v2(Bucket="letters", Prefix=f"load/{number}/")
+        done += 1
+    counts.append(3 * done)
+threads = [threading.Thread(target=work, args=(it,)) for it in range(4)]
+for it in threads: it.start()
+is_over.wait()
+for it in threads: it.join()
+print(len(counts), sum(counts))
+"""
 
 
 class StandIn(http.server.BaseHTTPRequestHandler):
@@ -150,6 +175,26 @@ class Office:
         self.begin("nginx", "nginx", "-p", folder, "-e", folder / "error.log", "-c", folder / "nginx.conf")
         wait_for(self.tls)
 
+    def start_gateway(self) -> None:
+        """Starts the gateway for clients of S3 over the vault's server, and four clients that keep it busy."""
+        port, settings = free_port(), self.folder / "s3.toml"
+        given = {"vault": str(self.file), "keys": str(self.folder / "keys.toml"), "door": str(self.door), "port": port}
+        settings.write_text("".join(f"{it} = {json.dumps(value)}\n" for it, value in given.items()))
+        ran = ran_words(DESK, "s3", "key", "add", "ann", "--settings", settings, "--json")
+        key = json.loads(ran.out)
+        self.begin("gateway", DESK, "s3", "serve", "--settings", settings)
+        wait_for(port)
+        words = (f"http://127.0.0.1:{port}", key["access_key"], key["secret"])
+        self.begin("load", sys.executable, "-c", LOAD, *words)
+
+    def end_load(self) -> int:
+        """Ends the gateway's clients, and returns how many requests they had answered; none of them failed."""
+        self.servers["load"].terminate()
+        self.servers.pop("load").wait()
+        ended, count = self.log("load").split()[-2:]
+        check(ended == "4", f"a client of the gateway failed: {self.log('load')}")
+        return int(count)
+
     def nginx_text(self) -> str:
         """The file of the package, for this trial."""
         text = (TOP / "packaging" / "nginx-web.conf").read_text()
@@ -177,6 +222,11 @@ class Office:
                 self.servers[it].wait()
             else:
                 self.stop(it)
+
+    def used(self, name: str) -> float:
+        """The seconds of the processor that a server has taken."""
+        found = pathlib.Path(f"/proc/{self.servers[name].pid}/stat").read_text().rpartition(")")[2].split()
+        return (int(found[11]) + int(found[12])) / os.sysconf("SC_CLK_TCK")
 
     def log(self, name: str) -> str:
         """What a server said."""

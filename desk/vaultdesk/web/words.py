@@ -20,7 +20,7 @@ ABOUT = """Serves the desk as pages for a browser, until it is stopped by SIGTER
 takes lines. It decides nothing: each answer is the desk's, each refusal the engine's. Users log in by name and password
 (--users), or a proxy says who it is (--header). It speaks HTTP: a proxy in front of it speaks TLS, without which
 browsers send no cookie back, but to this machine itself. docs/WEB.md has the set-up."""
-THREADS = 16  # requests at once
+THREADS = 48  # requests at once, of which logins take COMING at most
 CONNECTIONS = 1_000
 
 
@@ -54,15 +54,19 @@ def _site(words: argparse.Namespace) -> Any:
 
 def _server(words: argparse.Namespace, site: Any) -> Any:
     """The server, which listens by now. `DeskError` where it can't."""
-    from vaultdesk.web.app import made
+    from vaultdesk.web.app import made, prepare
     from vaultdesk.web.libraries import library
     from vaultdesk.web.visit import MOST
 
     logging.getLogger("waitress").setLevel(logging.ERROR)  # each request has a line of its own
     how = {"threads": THREADS, "connection_limit": CONNECTIONS, "max_request_body_size": MOST, "ident": None}
     how |= {"clear_untrusted_proxy_headers": False, "channel_timeout": 60, "expose_tracebacks": False}
+    # `select`, which it has else, takes no descriptor above 1,023.
+    how |= {"asyncore_use_poll": True, "host": words.address, "port": words.port}
+    app = made(site)
+    prepare(app, site)
     try:
-        return library("waitress.server").create_server(made(site), host=words.address, port=words.port, **how)
+        return library("waitress.server").create_server(app, **how)
     except OSError as error:
         raise DeskError(f"{words.address}:{words.port}: {error.strerror or error}") from error
 
