@@ -136,6 +136,8 @@ def go(answer: Any) -> Any:
     """The answer with the headers that each has, and a line in the log."""
     for name, value in HEADERS.items():
         answer.headers.setdefault(name, value)
+    if flask.request.is_secure:  # not so behind a proxy, which says it by itself
+        answer.headers["Strict-Transport-Security"] = "max-age=31536000"
     if flask.request.endpoint == "static":
         answer.headers["Cache-Control"] = "max-age=3600"
     it: Visit | None = flask.g.get("visit")
