@@ -21,7 +21,8 @@ PASSWORD = "correct horse battery"
 HOST = "pages.example.org"
 LACKING = [it for it in ("selenium", "flask", "waitress", "argon2", "babel") if importlib.util.find_spec(it) is None]
 RIGHTS = ("config", "put", "retain", "hold", "get", "list", "delete", "delete-version", "run", "report", "bypass")
-# What no page may do: reach beyond the window, show text that is hard to read, or have a field or a button without a name.
+# What no page may do: reach beyond the window, show text or a field's edge that is hard to see, or have a field or a button
+# without a name, a label or a description of nothing, cells of a head without what they are for, or no outline.
 CHECKS = """
 const faults = [];
 const wide = document.documentElement.scrollWidth - document.documentElement.clientWidth;
@@ -55,6 +56,27 @@ for (const it of document.querySelectorAll("a, button, input:not([type=hidden]),
 }
 const ranks = [...document.querySelectorAll("h1, h2, h3")].map((it) => +it.tagName[1]);
 ranks.forEach((rank, at) => { if (rank > (ranks[at - 1] || 0) + 1) faults.push(`a heading of rank ${rank} comes too early`); });
+if (document.querySelector("body > header")) {  // not so where a content is shown
+    for (const css of ["html[lang]", "title", "header", "main", "h1", "footer"]) {
+        const count = document.querySelectorAll(css).length;
+        if (count !== 1) faults.push(`${css} is there ${count} times`);
+    }
+    const ids = [...document.querySelectorAll("[id]")].map((it) => it.id);
+    ids.filter((it, at) => ids.indexOf(it) !== at).forEach((it) => faults.push(`several elements have the id ${it}`));
+    for (const name of ["for", "aria-describedby"]) {
+        for (const it of document.querySelectorAll(`[${name}]`)) {
+            const id = it.getAttribute(name);
+            if (!document.getElementById(id)) faults.push(`${name} leads to no ${id}`);
+        }
+    }
+    const unfit = "th:not([scope]), img:not([alt]), [tabindex]:not([tabindex='0']):not([tabindex='-1'])";
+    document.querySelectorAll(unfit).forEach((it) => faults.push(`${it.outerHTML.slice(0, 80)} lacks something`));
+    for (const it of document.querySelectorAll("input:not([type=hidden], [type=checkbox], [type=radio]), select, textarea")) {
+        const both = [light(getComputedStyle(it).borderTopColor), light(below(it.parentElement))].sort((a, b) => b - a);
+        const contrast = (both[0] + 0.05) / (both[1] + 0.05);
+        if (contrast < 3) faults.push(`the edge of ${it.name} has the contrast ${contrast.toFixed(1)}`);
+    }
+}
 return faults;
 """
 
@@ -312,12 +334,14 @@ class Browser:
         """Waits until an expression on the page is true."""
         end = time.monotonic() + LIMIT
         while not self.script(text):
-            check(time.monotonic() < end, f"{self.driver.current_url}: {text} doesn't become true: {self.words()}")
+            if time.monotonic() > end:
+                check(False, f"{self.driver.current_url}: {text} doesn't become true: {self.words()}")
             time.sleep(0.05)
 
     def slow(self, each: int) -> None:
         """Has the browser send so many bytes in a second; -1 is as many as it can."""
         how = {"offline": False, "latency": 0, "downloadThroughput": -1, "uploadThroughput": each}
+        self.driver.execute_cdp_cmd("Network.enable", {})
         self.driver.execute_cdp_cmd("Network.emulateNetworkConditions", how)
 
     def press(self, css: str, text: str) -> None:
