@@ -248,13 +248,14 @@ class Putting(Documents):
 
     def test_a_form_that_the_script_sends_is_answered_the_way_on_or_a_page(self) -> None:
         browser, sent = self.ann(), {"Vault-Sent-By": "script"}
-        for until, status, way in (("2050-01-01", 200, r"/version/\d+"), ("soon", 400, "")):
+        rows = (("soon", 400, "", "'soon' is no date"), ("2050-01-01", 200, r"/version/\d+", ""))
+        for until, status, way, said in rows:
             browser.get("/put?bucket=docs&key=a")
             form = {"bucket": "docs", "key": "a", "until": until, "file": (io.BytesIO(b"x"), "a.txt")}
             done = browser.send("/put/file", form, headers=sent)
             self.assertEqual((done.status_code, done.location), (status, None), browser.words())
             self.assertRegex(done.headers.get("Vault-Next", ""), f"^{way}$")
-        self.assertIn("'soon' is no date", browser.words())
+            self.assertIn(said, browser.words())
         browser.get("/")
         self.assertIn("is in the vault, as it was sent", browser.words())
 
