@@ -416,17 +416,22 @@ class Crowd(Pages):
     is_alone = True
 
     def test_a_hundred_users_at_once(self) -> None:
-        self.crowd()
+        self.look_at(self.slowest())
 
     def test_a_hundred_users_beside_a_busy_gateway(self) -> None:
         if importlib.util.find_spec("boto3") is None:
             self.skipTest("this interpreter has no boto3: /usr/bin/python3 has, after tools/setup-trials")
         self.office.start_gateway()
-        self.crowd()
+        slowest = self.slowest()
         print(f"requests that the gateway answered meanwhile: {self.office.end_load()}")
+        self.look_at(slowest)
 
-    def crowd(self) -> None:
-        """Has a hundred users ask for each page once."""
+    @staticmethod
+    def look_at(seconds: float) -> None:
+        check(seconds < WITHIN, f"a page takes {seconds:.2f} seconds")
+
+    def slowest(self) -> float:
+        """The seconds of the slowest page, where a hundred users ask for each page once."""
         took: dict[str, list[float]] = {it: [] for it in ASKED}
         before = self.office.used("pages")
         together(100, functools.partial(self.asks, took))
@@ -434,8 +439,7 @@ class Crowd(Pages):
             print(f"{path}: {len(seconds)} times, median {statistics.median(seconds):.2f} s, at most {max(seconds):.2f} s")
         each = (self.office.used("pages") - before) / 100 / (len(ASKED) + 2)  # with the two of a login
         print(f"a page takes {each:.4f} seconds of a processor; the machine's load is {os.getloadavg()[0]:.1f}")
-        slowest = max(max(it) for it in took.values())
-        check(slowest < WITHIN, f"a page takes {slowest:.2f} seconds")
+        return max(max(it) for it in took.values())
 
     def asks(self, took: dict[str, list[float]], number: int, start: "threading.Barrier") -> None:
         """One user, who looks at a page, reads it for some seconds, and asks for the next one."""

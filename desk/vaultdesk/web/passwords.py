@@ -14,7 +14,7 @@ argon2 = library("argon2")
 # RFC 9106's second choice: 64 MiB for each password that is looked at.
 HASHER = argon2.PasswordHasher(time_cost=3, memory_cost=65_536, parallelism=4)
 AT_ONCE = threading.BoundedSemaphore(2)  # passwords that are looked at
-COMING = threading.BoundedSemaphore(32)  # and those that wait for it besides: the other threads are for pages
+COMING = threading.BoundedSemaphore(128)  # and those that wait for it besides: the other threads are for pages
 
 
 class Crowded(DeskError):

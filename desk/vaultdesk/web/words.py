@@ -25,7 +25,7 @@ takes lines. It decides nothing: each answer is the desk's, each refusal the eng
 (--users), or a proxy says who it is (--header). It speaks TLS with --tls-cert and --tls-key, and HTTP without: a proxy
 in front of it speaks TLS then, without which browsers send no cookie back, but to this machine itself. docs/WEB.md has
 the set-up."""
-THREADS = 48  # requests at once, of which logins take COMING at most
+THREADS = 144  # requests at once, of which logins take COMING at most
 CONNECTIONS = 1_000
 DESCRIPTORS = 4_096  # which so many connections take, where each is handed on
 
