@@ -1,6 +1,7 @@
 """Pages in a browser: what is started for them, a browser that a driver works, and checks of what it shows."""
 
 import contextlib
+import http.server
 import importlib
 import importlib.util
 import json
@@ -13,14 +14,15 @@ import threading
 import time
 from typing import Any
 
-from trials.program import DESK, PROGRAM, TOP, check, ran_words
-from trials.servers import free_ports, wait_for
+from trials.program import DESK, LIMIT, PROGRAM, TOP, check, ran_words
+from trials.servers import free_port, free_ports, wait_for
 
 PASSWORD = "correct horse battery"
 HOST = "pages.example.org"
 LACKING = [it for it in ("selenium", "flask", "waitress", "argon2", "babel") if importlib.util.find_spec(it) is None]
 RIGHTS = ("config", "put", "retain", "hold", "get", "list", "delete", "delete-version", "run", "report", "bypass")
-# What no page may do: reach beyond the window, show text that is hard to read, or have a field or a button without a name.
+# What no page may do: reach beyond the window, show text or a field's edge that is hard to see, or have a field or a button
+# without a name, a label or a description of nothing, cells of a head without what they are for, or no outline.
 CHECKS = """
 const faults = [];
 const wide = document.documentElement.scrollWidth - document.documentElement.clientWidth;
@@ -54,6 +56,27 @@ for (const it of document.querySelectorAll("a, button, input:not([type=hidden]),
 }
 const ranks = [...document.querySelectorAll("h1, h2, h3")].map((it) => +it.tagName[1]);
 ranks.forEach((rank, at) => { if (rank > (ranks[at - 1] || 0) + 1) faults.push(`a heading of rank ${rank} comes too early`); });
+if (document.querySelector("body > header")) {  // not so where a content is shown
+    for (const css of ["html[lang]", "title", "header", "main", "h1", "footer"]) {
+        const count = document.querySelectorAll(css).length;
+        if (count !== 1) faults.push(`${css} is there ${count} times`);
+    }
+    const ids = [...document.querySelectorAll("[id]")].map((it) => it.id);
+    ids.filter((it, at) => ids.indexOf(it) !== at).forEach((it) => faults.push(`several elements have the id ${it}`));
+    for (const name of ["for", "aria-describedby"]) {
+        for (const it of document.querySelectorAll(`[${name}]`)) {
+            const id = it.getAttribute(name);
+            if (!document.getElementById(id)) faults.push(`${name} leads to no ${id}`);
+        }
+    }
+    const unfit = "th:not([scope]), img:not([alt]), [tabindex]:not([tabindex='0']):not([tabindex='-1'])";
+    document.querySelectorAll(unfit).forEach((it) => faults.push(`${it.outerHTML.slice(0, 80)} lacks something`));
+    for (const it of document.querySelectorAll("input:not([type=hidden], [type=checkbox], [type=radio]), select, textarea")) {
+        const both = [light(getComputedStyle(it).borderTopColor), light(below(it.parentElement))].sort((a, b) => b - a);
+        const contrast = (both[0] + 0.05) / (both[1] + 0.05);
+        if (contrast < 3) faults.push(`the edge of ${it.name} has the contrast ${contrast.toFixed(1)}`);
+    }
+}
 return faults;
 """
 
@@ -63,12 +86,57 @@ def selenium(name: str) -> Any:
     return importlib.import_module(f"selenium.{name}")
 
 
-class Office:
-    """A vault of the department `records` that is served, its pages, and nginx before them."""
+# A client of the gateway that does nothing else: it puts, reads and lists until it is ended, and then says how often.
+LOAD = """\
+import signal, sys, threading, boto3, botocore.config
+where, access, secret = sys.argv[1:]
+is_over, counts = threading.Event(), []
+signal.signal(signal.SIGTERM, lambda *_: is_over.set())
+def work(number):
+    config = botocore.config.Config(signature_version="s3v4", s3={"addressing_style": "path"}, retries={"max_attempts": 1})
+    client = boto3.session.Session(access, secret, region_name="us-east-1").client("s3", endpoint_url=where, config=config)
+    done = 0
+    while not is_over.is_set():
+        key = f"load/{number}/{done}"
+        client.put_object(Bucket="letters", Key=key, Body=bytes(20_000))
+        client.get_object(Bucket="letters", Key=key)["Body"].read()
+        client.list_objects_v2(Bucket="letters", Prefix=f"load/{number}/")
+        done += 1
+    counts.append(3 * done)
+threads = [threading.Thread(target=work, args=(it,)) for it in range(4)]
+for it in threads: it.start()
+is_over.wait()
+for it in threads: it.join()
+print(len(counts), sum(counts))
+"""
 
-    def __init__(self, folder: pathlib.Path) -> None:
-        self.folder, self.file, self.door = folder, folder / "records.vault", folder / "lines"
-        self.port, self.pages, self.tls = free_ports(3)
+
+class StandIn(http.server.BaseHTTPRequestHandler):
+    """Answers nginx as oauth2-proxy does: who it is by a cookie of that name, else where one logs in."""
+
+    def do_GET(self) -> None:
+        self.rfile.read(int(self.headers.get("Content-Length") or 0))  # which nginx has to leave out
+        name = re.search(r"_oauth2_proxy=([^;]*)", self.headers.get("Cookie") or "")
+        if self.path != "/oauth2/auth":
+            self.send_response(302)
+            self.send_header("Location", "https://login.example.org/")
+        else:
+            self.send_response(202 if name else 401)
+            self.send_header("X-Auth-Request-Preferred-Username", name[1] if name else "")
+        self.send_header("Content-Length", "0")
+        self.end_headers()
+
+    def log_message(self, *_: object) -> None:
+        """Nothing is said."""
+
+
+class Office:
+    """A vault of the department `records` that is served, its pages, and nginx before them. `known` is how nginx knows
+    its users where the pages don't: a word of those lines of its file that are for that."""
+
+    def __init__(self, folder: pathlib.Path, known: str = "") -> None:
+        self.folder, self.file, self.door, self.known = folder, folder / "records.vault", folder / "lines", known
+        self.port, self.pages, self.tls, self.who = free_ports(4)
         self.servers: dict[str, subprocess.Popen[bytes]] = {}
         self.make()
         self.start_vault()
@@ -110,8 +178,8 @@ class Office:
 
     def start_pages(self) -> None:
         """Serves the pages, by the interpreter that has what they need."""
-        users = self.folder / "users"
-        self.begin("pages", sys.executable, DESK, "web", self.file, "--port", self.pages, "--users", users, "--door", self.door)
+        who = ("--header", "X-Vault-User") if self.known else ("--users", self.folder / "users")
+        self.begin("pages", sys.executable, DESK, "web", self.file, "--port", self.pages, *who, "--door", self.door)
         wait_for(self.pages)
 
     def start_nginx(self) -> None:
@@ -121,20 +189,47 @@ class Office:
             "openssl", "req", "-x509", "-newkey", "rsa:2048", "-nodes", "-days", "2", "-subj", f"/CN={HOST}",
             "-keyout", folder / "vault.key", "-out", folder / "vault.pem",
         )  # fmt: skip
-        text = (TOP / "packaging" / "nginx-web.conf").read_text()
-        for old, new in {
-            "listen 443 ssl": f"listen 127.0.0.1:{self.tls} ssl", "127.0.0.1:8090": f"127.0.0.1:{self.pages}",
-            "/etc/ssl/": f"{folder}/",
-        }.items():  # fmt: skip
-            check(old in text, f"nginx-web.conf has no {old}")
-            text = text.replace(old, new)
-        text = text.partition("server {\n    listen 80;")[0]
+        text = self.nginx_text()
         where = "".join(f"{it}_temp_path {folder}/{it};" for it in ("client_body", "proxy", "fastcgi", "uwsgi", "scgi"))
         log = f"pid {folder}/nginx.pid; daemon off; error_log {folder}/error.log;"
         user = "user root;" if os.geteuid() == 0 else ""
         (folder / "nginx.conf").write_text(f"{user} {log} events {{}} http {{ access_log off; {where}\n{text}\n}}\n")
         self.begin("nginx", "nginx", "-p", folder, "-e", folder / "error.log", "-c", folder / "nginx.conf")
         wait_for(self.tls)
+
+    def start_gateway(self) -> None:
+        """Starts the gateway for clients of S3 over the vault's server, and four clients that keep it busy."""
+        port, settings = free_port(), self.folder / "s3.toml"
+        given = {"vault": str(self.file), "keys": str(self.folder / "keys.toml"), "door": str(self.door), "port": port}
+        settings.write_text("".join(f"{it} = {json.dumps(value)}\n" for it, value in given.items()))
+        ran = ran_words(DESK, "s3", "key", "add", "ann", "--settings", settings, "--json")
+        key = json.loads(ran.out)
+        self.begin("gateway", DESK, "s3", "serve", "--settings", settings)
+        wait_for(port)
+        words = (f"http://127.0.0.1:{port}", key["access_key"], key["secret"])
+        self.begin("load", sys.executable, "-c", LOAD, *words)
+
+    def end_load(self) -> int:
+        """Ends the gateway's clients, and returns how many requests they had answered; none of them failed."""
+        self.servers["load"].terminate()
+        self.servers.pop("load").wait()
+        ended, count = self.log("load").split()[-2:]
+        check(ended == "4", f"a client of the gateway failed: {self.log('load')}")
+        return int(count)
+
+    def nginx_text(self) -> str:
+        """The file of the package, for this trial."""
+        text = (TOP / "packaging" / "nginx-web.conf").read_text()
+        if self.known:
+            text = re.sub(rf"^( *)#(?=\S.*{self.known})", r"\1", text, flags=re.MULTILINE)
+        for old, new in {
+            "listen 443 ssl": f"listen 127.0.0.1:{self.tls} ssl", "127.0.0.1:8090": f"127.0.0.1:{self.pages}",
+            "/etc/ssl/": f"{self.folder}/", "127.0.0.1:4180": f"127.0.0.1:{self.who}",
+            'auth_pam "Vault"; auth_pam_service_name "vault"': f'auth_basic "Vault"; auth_basic_user_file {self.folder}/passwords',
+        }.items():  # fmt: skip
+            check(old in text, f"nginx-web.conf has no {old}")
+            text = text.replace(old, new)
+        return text.partition("server {\n    listen 80;")[0]
 
     def stop(self, name: str) -> None:
         """Kills a server."""
@@ -149,6 +244,11 @@ class Office:
                 self.servers[it].wait()
             else:
                 self.stop(it)
+
+    def used(self, name: str) -> float:
+        """The seconds of the processor that a server has taken."""
+        found = pathlib.Path(f"/proc/{self.servers[name].pid}/stat").read_text().rpartition(")")[2].split()
+        return (int(found[11]) + int(found[12])) / os.sysconf("SC_CLK_TCK")
 
     def log(self, name: str) -> str:
         """What a server said."""
@@ -216,7 +316,7 @@ class Browser:
     def await_next(self, old: Any) -> None:
         """Waits until another page has come in the place of one."""
         stale = selenium("common.exceptions").WebDriverException  # of a page that is going, which has several names
-        end = time.monotonic() + 60
+        end = time.monotonic() + LIMIT
         with contextlib.suppress(stale):
             while time.monotonic() < end:
                 old.is_enabled()
@@ -225,6 +325,24 @@ class Browser:
         while self.driver.execute_script("return document.readyState") != "complete":
             time.sleep(0.02)
         self.look()
+
+    def script(self, text: str) -> Any:
+        """The value of an expression on the page."""
+        return self.driver.execute_script(f"return {text}")
+
+    def until(self, text: str) -> None:
+        """Waits until an expression on the page is true."""
+        end = time.monotonic() + LIMIT
+        while not self.script(text):
+            if time.monotonic() > end:
+                check(False, f"{self.driver.current_url}: {text} doesn't become true: {self.words()}")
+            time.sleep(0.05)
+
+    def slow(self, each: int) -> None:
+        """Has the browser send so many bytes in a second; -1 is as many as it can."""
+        how = {"offline": False, "latency": 0, "downloadThroughput": -1, "uploadThroughput": each}
+        self.driver.execute_cdp_cmd("Network.enable", {})
+        self.driver.execute_cdp_cmd("Network.emulateNetworkConditions", how)
 
     def press(self, css: str, text: str) -> None:
         """Clicks what has these words among what that selects."""

@@ -237,6 +237,28 @@ class Putting(Documents):
             self.assertEqual(done.status_code, 400)
             self.assertIn(said, browser.words())
 
+    def test_how_much_may_be_sent_is_said_before(self) -> None:
+        browser = self.ann()
+        browser.get("/put?bucket=docs&key=a")
+        self.assertIn("at most 1,048,576 bytes", browser.words())
+        more = "More than 1,048,576 bytes: nothing was sent."
+        self.assertIn(f'data-most="1048576" data-too-large="{more}"', browser.text())
+        browser.get("/deliver")
+        self.assertIn('data-most="1072741824"', browser.text())
+
+    def test_a_form_that_the_script_sends_is_answered_the_way_on_or_a_page(self) -> None:
+        browser, sent = self.ann(), {"Vault-Sent-By": "script"}
+        rows = (("soon", 400, "", "'soon' is no date"), ("2050-01-01", 200, r"/version/\d+", ""))
+        for until, status, way, said in rows:
+            browser.get("/put?bucket=docs&key=a")
+            form = {"bucket": "docs", "key": "a", "until": until, "file": (io.BytesIO(b"x"), "a.txt")}
+            done = browser.send("/put/file", form, headers=sent)
+            self.assertEqual((done.status_code, done.location), (status, None), browser.words())
+            self.assertRegex(done.headers.get("Vault-Next", ""), f"^{way}$")
+            self.assertIn(said, browser.words())
+        browser.get("/")
+        self.assertIn("is in the vault, as it was sent", browser.words())
+
     def test_who_may_not_put_is_refused_by_the_engine(self) -> None:
         browser = self.of("cid")
         browser.get("/put")

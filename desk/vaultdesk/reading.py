@@ -166,14 +166,17 @@ def back_up(file: Path, target: Path) -> None:
             opened.backup(made)
 
 
-def take_in_log(copy: Path) -> None:
-    """Copies the log of a copy that nobody else has open into its file, so that it is one file.
+def take_in_log(copy: Path, is_kept: bool = True) -> None:
+    """Copies the log of a copy that nobody else has open into its file, so that it is one file; on the disk, where it
+    `is_kept`.
 
     `NoDatabase` where it is no file that SQLite can read, `EngineError` where that can't be done."""
     log = snapshot.log_of(copy)
     if log.exists():
         try:
             with closing(sqlite3.connect(copy, isolation_level=None)) as opened:
+                if not is_kept:
+                    opened.execute("PRAGMA synchronous = OFF")
                 is_busy, pages, copied = opened.execute("PRAGMA wal_checkpoint(TRUNCATE)").fetchone()
         except sqlite3.Error as error:
             kind = NoDatabase if type(error) is sqlite3.DatabaseError else EngineError

@@ -5,19 +5,18 @@ from __future__ import annotations
 import traceback
 from typing import Any
 
-from vaultdesk import __version__
+from vaultdesk import __version__, moments
 from vaultdesk.errors import DeskError, EngineError, Refused
 from vaultdesk.output import say
-from vaultdesk.web import delivering, document, finding, guard, holding, login, putting, reporting, state
+from vaultdesk.web import asked, delivering, document, finding, guard, holding, login, putting, reporting, state
 from vaultdesk.web.libraries import library
 from vaultdesk.web.texts import NAMES
-from vaultdesk.web.visit import Site, page, visit
+from vaultdesk.web.visit import MOST, Site, page, visit
 
 flask, jinja = library("flask"), library("jinja2")
 exceptions = library("werkzeug.exceptions")
 
 FAMILIES = (login, finding, document, putting, holding, delivering, reporting, state)
-MOST = 1_073_741_824  # bytes of a request
 PARTS = 20_000  # files and fields of a form
 STATUS = {
     "AccessDenied": 403, "NoSuchBucket": 404, "NoSuchKey": 404, "NoSuchVersion": 404, "Device": 503, "Memory": 503,
@@ -69,6 +68,17 @@ def _templates(app: Any) -> None:
     environment.filters["zip_same"] = lambda names: [(it, it) for it in names]
     environment.globals |= {"visit": visit, "_token": guard.token, "names_of_languages": NAMES, "version": __version__}
     environment.globals["there"] = app.view_functions
+
+
+def prepare(app: Any, site: Site) -> None:
+    """Does before anybody comes what the first ones would wait for, each of them once: the desk's words, the templates,
+    and how each language writes moments and numbers."""
+    asked.prepare()
+    for name in app.jinja_env.list_templates():
+        app.jinja_env.get_template(name)
+    for it in site.languages.values():
+        it.moment(moments.now())
+        it.size(MOST)
 
 
 def made(site: Site) -> Any:

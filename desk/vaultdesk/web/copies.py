@@ -1,7 +1,8 @@
 """Copies of the vault for what is read from its tables: one for all who ask until the vault is changed.
 
 A server has the vault's files open, so lists and pasts are read from a copy, as the desk reads them. Here many ask at
-once: they read the same copy, which goes with the last of them once there is a newer one.
+once: they read the same copy, which goes with the last of them once there is a newer one. Where the vault is changed
+all the time, those who wait for a copy share the next one: it was begun after each of them had asked.
 """
 
 from __future__ import annotations
@@ -20,9 +21,13 @@ TICK = 50_000_000  # nanoseconds within which two changes of a file may have one
 
 
 class Copy:
-    """A copy, and how many read it. `known` has what was read of it once, by names."""
+    """A copy, and how many read it. `begun` is when it was, in seconds of the machine; `known` has what was read of it
+    once, by names."""
 
-    def __init__(self, stamp: Stamp, is_settled: bool, folder: tempfile.TemporaryDirectory[str], file: Path) -> None:
+    def __init__(
+        self, begun: float, stamp: Stamp, is_settled: bool, folder: tempfile.TemporaryDirectory[str], file: Path
+    ) -> None:
+        self.begun = begun
         self.stamp = stamp
         self.is_settled = is_settled
         self.folder = folder
@@ -54,10 +59,12 @@ class Copies:
         self._newest: Copy | None = None
 
     def take(self) -> Copy:
-        """A copy of the vault as it is now, which stays until it is given back. `EngineError` as of `snapshot.copy`."""
+        """A copy of the vault as it is now, or was after this was asked for; it stays until it is given back.
+        `EngineError` as of `snapshot.copy`."""
+        asked = time.monotonic()
         with self._turn:
-            if self._newest is None or not self._is_fresh(self._newest):
-                made = self._made()
+            if self._newest is None or not (self._newest.begun >= asked or self._is_fresh(self._newest)):
+                made = self._made(time.monotonic())
                 old, self._newest = self._newest, made
                 if old is not None and not old.readers:
                     old.folder.cleanup()
@@ -81,7 +88,7 @@ class Copies:
     def _is_fresh(self, copy: Copy) -> bool:
         return copy.is_settled and copy.stamp == stamp_of(self.file)
 
-    def _made(self) -> Copy:
+    def _made(self, begun: float) -> Copy:
         reading.look_for(self.file)
         before, now = stamp_of(self.file), time.time_ns()
         snapshot.look_for_room(Path(tempfile.gettempdir()), snapshot.size_of(self.file))
@@ -89,9 +96,9 @@ class Copies:
         target = Path(folder.name) / self.file.name
         try:
             snapshot.copy(self.file, target)
-            reading.take_in_log(target)
+            reading.take_in_log(target, is_kept=False)
         except BaseException:
             folder.cleanup()
             raise
         is_settled = all(now - moment > TICK for _, _, moment in before)
-        return Copy(before, is_settled, folder, target)
+        return Copy(begun, before, is_settled, folder, target)

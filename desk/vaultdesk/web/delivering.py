@@ -18,10 +18,12 @@ from vaultdesk.web.asked import Done
 from vaultdesk.web.changing import asks_back, given_yes
 from vaultdesk.web.finding import as_csv
 from vaultdesk.web.libraries import library
+from vaultdesk.web.visit import MOST as REQUEST
 from vaultdesk.web.visit import form, goes_to, page, visit
 
 flask = library("flask")
 
+FILES = REQUEST - 1_000_000  # bytes of a delivery's files: a request has less than the rest besides
 MOST = 2  # deliveries that a session has before they are taken in
 ROWS = 300  # of the plan on a page; the others are in its CSV
 TEXTS = ("bucket", "batch", "until", "mode", "dates", "sheet", "keep_inventory")
@@ -136,7 +138,7 @@ def _sent(name: str) -> Sent:
 def deliver() -> Any:
     """Asks for the files of a delivery."""
     waiting = [(name, it.words) for name, it in _kept().items()]
-    return page("deliver.html", buckets=own_buckets(), waiting=waiting, orders=dates.ORDERS)
+    return page("deliver.html", buckets=own_buckets(), waiting=waiting, orders=dates.ORDERS, most=FILES)
 
 
 def send() -> Any:

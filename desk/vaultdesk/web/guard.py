@@ -20,10 +20,11 @@ flask = library("flask")
 COOKIE = "__Host-vault"
 BEFORE = "__Host-vault-login"  # of who isn't logged in yet
 LANGUAGE = "__Host-vault-language"
+BY_SCRIPT, NEXT = "Vault-Sent-By", "Vault-Next"  # of a form that `upload.js` sent, and where its answer leads
 OPEN = ("static", "login", "language")  # what needs no session
 POLICY = (
-    "default-src 'none'; style-src 'self'; img-src 'self'; script-src 'self'; form-action 'self'; base-uri 'none'; "
-    "frame-ancestors 'none'"
+    "default-src 'none'; style-src 'self'; img-src 'self'; script-src 'self'; connect-src 'self'; form-action 'self'; "
+    "base-uri 'none'; frame-ancestors 'none'"
 )
 HEADERS = {
     "Content-Security-Policy": POLICY,
@@ -135,6 +136,8 @@ def go(answer: Any) -> Any:
     """The answer with the headers that each has, and a line in the log."""
     for name, value in HEADERS.items():
         answer.headers.setdefault(name, value)
+    if flask.request.is_secure:  # not so behind a proxy, which says it by itself
+        answer.headers["Strict-Transport-Security"] = "max-age=31536000"
     if flask.request.endpoint == "static":
         answer.headers["Cache-Control"] = "max-age=3600"
     it: Visit | None = flask.g.get("visit")
@@ -144,6 +147,8 @@ def go(answer: Any) -> Any:
         set_cookie(answer, COOKIE, it.cookie)
     if flask.request.endpoint != "static":
         _log(it, answer.status_code)
+    if BY_SCRIPT in flask.request.headers and answer.status_code == 303:  # which a script can't see
+        answer.status_code, answer.headers[NEXT] = 200, answer.headers.pop("Location")
     return answer
 
 

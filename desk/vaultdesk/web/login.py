@@ -11,6 +11,7 @@ from vaultdesk import conf
 from vaultdesk.output import say
 from vaultdesk.web import guard
 from vaultdesk.web.libraries import library
+from vaultdesk.web.passwords import Crowded
 from vaultdesk.web.visit import form, given, goes_to, page, visit
 
 flask = library("flask")
@@ -55,7 +56,10 @@ def _looked_at(name: str, password: str) -> Any:
         )
         say(f"vaultdesk web: {it.address}: too many wrong tries as {name!r}")
         return _asked(text % {"number": minutes}, 429, name)
-    digest = it.site.users.let_in(name, password)
+    try:
+        digest = it.site.users.let_in(name, password)
+    except Crowded:
+        return _asked(it.language.text("Too many log in at this moment: try again in some seconds."), 503, name)
     if digest:
         it.site.tries.was_right(name, it.address)
         return _let_in(name, digest)

@@ -14,6 +14,11 @@ argon2 = library("argon2")
 # RFC 9106's second choice: 64 MiB for each password that is looked at.
 HASHER = argon2.PasswordHasher(time_cost=3, memory_cost=65_536, parallelism=4)
 AT_ONCE = threading.BoundedSemaphore(2)  # passwords that are looked at
+COMING = threading.BoundedSemaphore(128)  # and those that wait for it besides: the other threads are for pages
+
+
+class Crowded(DeskError):
+    """So many log in that no more can wait."""
 
 
 def digest_of(password: str) -> str:
@@ -22,12 +27,16 @@ def digest_of(password: str) -> str:
 
 
 def is_digest_of(digest: str, password: str) -> bool:
-    """Whether that is the digest of the password."""
-    with AT_ONCE:
-        try:
+    """Whether that is the digest of the password. `Crowded` where too many wait for that."""
+    if not COMING.acquire(blocking=False):
+        raise Crowded("too many log in at this moment: try again in some seconds")
+    try:
+        with AT_ONCE:
             return bool(HASHER.verify(digest, password))
-        except (argon2.exceptions.VerificationError, argon2.exceptions.InvalidHash):
-            return False
+    except (argon2.exceptions.VerificationError, argon2.exceptions.InvalidHash):
+        return False
+    finally:
+        COMING.release()
 
 
 class Users:
@@ -63,7 +72,7 @@ class Users:
 
     def let_in(self, name: str, password: str) -> str:
         """The digest of a user whose password that is; empty where it isn't, or there is no such user. Both take the
-        same time."""
+        same time. `Crowded` where too many log in."""
         digest = self.digests().get(name)
         is_right = is_digest_of(digest or self._nobody, password)
         return digest if digest and is_right else ""

@@ -34,7 +34,7 @@ def put() -> Any:
     words = _words(given())
     if not words["bucket"] or not words["key"]:
         raise UsageError("a document has a bucket and a key: give both")
-    return page("put_file.html", words=words, **_guards(words))
+    return page("put_file.html", words=words, most=documents.MOST, **_guards(words))
 
 
 def _guards(words: Mapping[str, Any]) -> dict[str, Any]:

@@ -22,6 +22,7 @@ from vaultdesk.web.texts import Language
 from vaultdesk.web.tries import Tries
 
 flask = library("flask")
+MOST = 1_073_741_824  # bytes of a request
 
 
 @dataclass

@@ -4,8 +4,12 @@ from __future__ import annotations
 
 import argparse
 import logging
+import resource
 import signal
+import socket
 import sys
+from collections.abc import Iterator
+from contextlib import ExitStack, contextmanager, suppress
 from dataclasses import replace
 from pathlib import Path
 from types import FrameType
@@ -18,10 +22,12 @@ from vaultdesk.spelling import whole
 
 ABOUT = """Serves the desk as pages for a browser, until it is stopped by SIGTERM or SIGINT, over a vault whose server
 takes lines. It decides nothing: each answer is the desk's, each refusal the engine's. Users log in by name and password
-(--users), or a proxy says who it is (--header). It speaks HTTP: a proxy in front of it speaks TLS, without which
-browsers send no cookie back, but to this machine itself. docs/WEB.md has the set-up."""
-THREADS = 16  # requests at once
+(--users), or a proxy says who it is (--header). It speaks TLS with --tls-cert and --tls-key, and HTTP without: a proxy
+in front of it speaks TLS then, without which browsers send no cookie back, but to this machine itself. docs/WEB.md has
+the set-up."""
+THREADS = 144  # requests at once, of which logins take COMING at most
 CONNECTIONS = 1_000
+DESCRIPTORS = 4_096  # which so many connections take, where each is handed on
 
 
 def _door(desk: config.Desk) -> str:
@@ -52,18 +58,44 @@ def _site(words: argparse.Namespace) -> Any:
     return Site(name, served, Copies(desk.file), languages(), users, words.header or "", trusted)
 
 
-def _server(words: argparse.Namespace, site: Any) -> Any:
+def _server(words: argparse.Namespace, pages: Any, **more: Any) -> Any:
     """The server, which listens by now. `DeskError` where it can't."""
-    from vaultdesk.web.app import MOST, made
     from vaultdesk.web.libraries import library
+    from vaultdesk.web.visit import MOST
 
     logging.getLogger("waitress").setLevel(logging.ERROR)  # each request has a line of its own
     how = {"threads": THREADS, "connection_limit": CONNECTIONS, "max_request_body_size": MOST, "ident": None}
     how |= {"clear_untrusted_proxy_headers": False, "channel_timeout": 60, "expose_tracebacks": False}
+    # `select`, which it has else, takes no descriptor above 1,023.
+    how |= {"asyncore_use_poll": True, "host": words.address, "port": words.port, **more}
     try:
-        return library("waitress.server").create_server(made(site), host=words.address, port=words.port, **how)
+        return library("waitress.server").create_server(pages, **how)
     except OSError as error:
-        raise DeskError(f"{words.address}:{words.port}: {error.strerror or error}") from error
+        raise _not_there(words, error) from error
+
+
+def _not_there(words: argparse.Namespace, error: OSError) -> DeskError:
+    """Says that nothing can listen where the words say."""
+    return DeskError(f"{words.address}:{words.port}: {error.strerror or error}")
+
+
+def _front(words: argparse.Namespace) -> Any:
+    """What speaks TLS before the pages, and listens by now; nothing without a certificate. `DeskError` where it can't
+    listen, or has no certificate and key."""
+    if bool(words.tls_cert) != bool(words.tls_key):
+        raise UsageError("a certificate has a key: give --tls-cert and --tls-key, or neither")
+    if not words.tls_cert:
+        return None
+    from vaultdesk.web.tls import Front, context_of
+
+    context = context_of(Path(words.tls_cert), Path(words.tls_key))
+    now, most = resource.getrlimit(resource.RLIMIT_NOFILE)
+    resource.setrlimit(resource.RLIMIT_NOFILE, (max(now, min(DESCRIPTORS, most)), most))
+    family = socket.AF_INET6 if ":" in words.address else socket.AF_INET
+    try:
+        return Front(context, socket.create_server((words.address, words.port), family=family, backlog=CONNECTIONS))
+    except OSError as error:
+        raise _not_there(words, error) from error
 
 
 class _Stopped(Exception):
@@ -74,24 +106,38 @@ def _stop(number: int, _: FrameType | None) -> None:
     raise _Stopped(signal.Signals(number).name)
 
 
+@contextmanager
+def _serving(words: argparse.Namespace, site: Any) -> Iterator[tuple[str, Any]]:
+    """Where the pages are, and their server, which has ended after that."""
+    from vaultdesk.web.app import made, prepare
+
+    front, app = _front(words), made(site)
+    with ExitStack() as ends:
+        ends.callback(site.copies.close)
+        ends.callback(site.sessions.end_all)
+        prepare(app, site)
+        if front is None:
+            server = _server(words, app)
+            ends.callback(server.close)
+            yield f"http://{words.address}:{server.effective_port}", server
+            return
+        ends.callback(front.close)
+        server = _server(words, front.before(app), host="127.0.0.1", port=0, url_scheme="https")
+        ends.callback(server.close)
+        front.begin(int(server.effective_port))
+        yield f"https://{words.address}:{front.listener.getsockname()[1]}", server
+
+
 def web(words: argparse.Namespace) -> int:
     """Serves the pages."""
     site = _site(words)
-    server = _server(words, site)
-    for it in (signal.SIGTERM, signal.SIGINT):
-        signal.signal(it, _stop)
-    where = f"http://{words.address}:{server.effective_port}"
-    try:
+    with suppress(_Stopped), _serving(words, site) as (where, server):
+        for it in (signal.SIGTERM, signal.SIGINT):
+            signal.signal(it, _stop)
         say(f"pages of {site.desk.file} at {where}")
         print_done(words.json, vault=str(site.desk.file), serves=where)
         sys.stdout.flush()
         server.run()
-    except _Stopped:
-        pass
-    finally:
-        server.close()
-        site.sessions.end_all()
-        site.copies.close()
     return 0
 
 
@@ -108,5 +154,7 @@ def add(commands: argparse._SubParsersAction[argparse.ArgumentParser], common: a
     it.add_argument("--header", metavar="NAME", help=more)
     more = "the address of a proxy: what it says of user and client counts (127.0.0.1); may be given again"
     it.add_argument("--trust", metavar="A", action="append", help=more)
+    it.add_argument("--tls-cert", metavar="FILE", help="a certificate, in PEM, for TLS without a proxy")
+    it.add_argument("--tls-key", metavar="FILE", help="and its key, in PEM and without a password")
     it.add_argument("--door", metavar="WHERE", help="where the vault's server takes lines (default: found)")
     it.set_defaults(do=web)
