@@ -186,7 +186,8 @@ def try_desk(root):
     root.run(f"mkdir -m 777 /tmp/desk; runuser -u nobody -- sh -euc {shlex.quote(script)}")
     version = (root.folder / "tmp/desk/version").read_text()
     check(version == f"vaultdesk {(TOP / 'packaging/VERSION').read_text()}", f"the desk's version is {version}")
-    check(not list((root.folder / "usr/share/vaultctl").rglob("*.pyc")), "the desk writes beside its modules")
+    owners = {it.owner() for it in (root.folder / "usr/share/vaultctl").rglob("*.pyc")}
+    check(owners == {"root"}, f"byte code beside the desk's modules is of {owners}")
 
 
 def try_check(root):
@@ -360,7 +361,7 @@ def try_restore(root):
     check(not (root.folder / f"{where.lstrip('/')}-shm").exists(), "the index of the old log stays")
     names = root.run(f"sqlite3 -readonly {where} 'SELECT name FROM departments' ")
     check("offline" in names and "later" not in names, f"what was put back has the departments {names}")
-    away = says.strip().split()[-1]
+    away = re.search(r"what stood there is in (\S+)", says)[1]
     check(root.run(f"vaultctl verify {away}/records.vault") == "sound\n", f"what stood there isn't in {away}")
     check(root.run(f"stat -c '%U %a' {away}") == "vaultctl 700\n", f"{away} isn't the vaults' user's alone")
 
