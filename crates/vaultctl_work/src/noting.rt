@@ -1,5 +1,5 @@
 //! A server that notes each change in a journal.
-ghost use Rattle.std.specs.Prelude.{◌≡◌, ◌≢◌, Ok, false};
+ghost use Rattle.std.specs.Prelude.{◌≡◌, ◌≢◌, IfErr, IfOk, Ok, false};
 ghost use Rattle.vaultctl_replay.specs.Entries.{is_open};
 ghost use Rattle.vaultctl_work.specs.Done.{IsServed};
 ghost use Rattle.vaultctl_work.specs.Noted.{IsNoted};
@@ -95,28 +95,43 @@ fn serve_noted<K: Keeper, W: Write, E: Write>(
     with_journal(journal.goes_on(), ended)
 }
 
-/// Serves what the job asks for, and notes each change in a new journal at that path. Where nothing is served, no journal
-/// stays there.
+/// A new journal at that path, which goes to a file of its own. Where none can be made, why is said in words.
+pub fn new_journal<E: Write>(
+    rt: &HostRuntime,
+    path: &str,
+    err: &mut E,
+) -> Result<Journal<File>, JobFault>
+    ensures open { IfOk result (λ journal. journal.state ≡ JournalState.Open) }
+    ensures err { IfErr result (λ fault. fault ≡ JobFault.Device) }
+{
+    match open_new(rt, path) {
+        Ok(file) => Ok(Journal::new(file)),
+        Err(error) => {
+            say(err, unmade(error.kind()));
+            Err(JobFault::Device)
+        }
+    }
+}
+
+/// Serves what the job asks for, and notes each change in the journal, whose file is at that path. Where nothing is
+/// served, no file stays there.
 ///
-/// The faults are those of `serve_noted`, and `Device` where no journal can be made; why is said in words.
-pub fn serve_journal<K: Keeper, E: Write>(
+/// The faults are those of `serve_noted`.
+pub fn serve_journal<K: Keeper, W: Write, E: Write>(
     rt: &HostRuntime,
     keeper: &mut K,
     job: &ServeJob,
     path: &str,
+    journal: &mut Journal<W>,
     err: &mut E,
 ) -> Result<Outcome, JobFault>
     ensures done { K.is_honest keeper.new → K.is_honest keeper.old × IsServed job.now (K.vault keeper.old) (K.vault keeper.new) }
+    // By the journal's lines a copy of the vault of its beginning becomes the vault, or the one before the last command.
+    ensures noted { K.is_honest keeper.new → IsNoted W.Write K.Kept journal.old journal.new (K.vault keeper.old) (K.vault keeper.new) }
+    // Where the journal doesn't go on, that is reported.
+    ensures open { is_open journal.new.state ≡ false → result ≢ Ok Outcome.Done }
 {
-    let file = match open_new(rt, path) {
-        Ok(file) => file,
-        Err(error) => {
-            say(err, unmade(error.kind()));
-            return Err(JobFault::Device);
-        }
-    };
-    let mut journal = Journal::new(file);
-    let ended = serve_noted(rt, keeper, &mut journal, job, err);
+    let ended = serve_noted(rt, keeper, journal, job, err);
     if matches!(ended, Err(JobFault::Device | JobFault::Memory)) {
         let _ = fs::remove_file(rt, path);
     }

@@ -5,7 +5,7 @@ ghost use Rattle.vaultctl_serve.specs.Serving.{Stepped};
 ghost use Rattle.vaultctl_work.specs.Done.{IsServed, most_with_lines as served_with_lines};
 ghost use Rattle.vaultctl_work.specs.Outcomes as spec;
 
-use crate::noting::serve_journal;
+use crate::noting::{new_journal, serve_journal};
 use crate::saying::say;
 use crate::work::Work;
 use std::alloc::{AllocError, Global};
@@ -167,6 +167,20 @@ pub fn serve_heard<K: Keeper, H: Hears, E: Write>(
     serve_for_hosts(rt, keeper, hears, job, &hosts, err)
 }
 
+/// Serves what the job asks for, with a new journal at that path.
+fn serve_at<K: Keeper, E: Write>(
+    rt: &HostRuntime,
+    keeper: &mut K,
+    job: &ServeJob,
+    path: &str,
+    err: &mut E,
+) -> Result<Outcome, JobFault>
+    ensures done { K.is_honest keeper.new → K.is_honest keeper.old × IsServed job.now (K.vault keeper.old) (K.vault keeper.new) }
+{
+    let mut journal = new_journal(rt, path, err)?;
+    serve_journal(rt, keeper, job, path, &mut journal, err)
+}
+
 /// The answers to requests at a port of 127.0.0.1, and to lines at a second door where one is asked for.
 impl Work for ServeJob {
     ghost prints = { λ outcome before after. ⊤ };
@@ -187,7 +201,7 @@ impl Work for ServeJob {
         err: &mut E,
     ) -> Result<Outcome, JobFault> {
         match &self.journal {
-            Some(path) => serve_journal(rt, keeper, self, path.as_str(), err),
+            Some(path) => serve_at(rt, keeper, self, path.as_str(), err),
             None => serve_heard(rt, keeper, &mut Nobody, self, err),
         }
     }
