@@ -19,7 +19,7 @@ use Rattle.vault_lines_read.specs.declared.read_line.Line.TheVariants.{Command, 
 use Rattle.vault_lines_read.specs.declared.read_line.Line.{Line}
 use Rattle.vault_io.specs.Begins.{Begins}
 use Rattle.vaultctl_replay.specs.Lines.{advance, asked_in, last_of, AskSoFar}
-use Rattle.vaultctl_replay.specs.Runs.{lines_of, Answers, Runs, Finished, Began, AnswersAll, AnswersEnded, AnswersSome, HeardBy, HearsLine, Sent, Steady}
+use Rattle.vaultctl_replay.specs.Runs.{lines_of, Answers, Runs, Finished, Began, AnswersAll, AnswersEnded, AnswersSome, HeardBy, Sent, Steady}
 use Rattle.vaultctl_replay.specs.declared.fault.ReplayFault.{ReplayFault}
 use Rattle.vaultctl_replay.specs.declared.fault.ReplayFault.TheVariants as faults
 use Rattle.vaultctl_replay.proofs.LineLemmas.{advance-append, asked_all, asked_ended, asked_in-append, most_kept}
@@ -91,12 +91,6 @@ module _ {K : Type 0} (g : Ghosts K) (old new : K) {J : Type 0} (hears : J → T
   heard_weaker Writes Wrote each Skip d = (d.0, d.1, d.2, each [] d.3)
   heard_weaker Writes Wrote each (Refused r) d = (d.0, d.1, d.2, each (reply_text (reply.Refused r)) d.3)
   heard_weaker Writes Wrote each (Command c) d = (d.0, d.1, d.2, d.3, each (reply_text d.0) d.4)
-
-  -- its command was heard of, where the device was honest
-  pub heard_line : (Writes : List ℕ → Type 0) (asked : Line) → HeardBy g old new hears j j' Writes asked → g.is_honest new → HearsLine hears j j' asked (g.vault old) (g.vault new)
-  heard_line Writes Skip d h = (d.0, d.2)
-  heard_line Writes (Refused r) d h = (d.0, d.2)
-  heard_line Writes (Command c) d h = (d.0, d.1 h, d.3)
 
 -- the line of a reply was written, or a beginning of it
 pub line_sent : {T : Type 0} (r : Result T ReplayFault) (w w' : Option (List ℕ)) (line out : List ℕ) → line ≡ out → OnOk r (Appends w w' line) → OnErr r (Begins w w' line) → IfErr r (λ e. e ≡ faults.Write) → Sent r w w' out

@@ -95,9 +95,3 @@ module _ {K : Type 0} (g : Ghosts K) (old new : K) {J : Type 0} (hears : J → T
   HeardBy Writes (Refused r) = (g.vault new ≡ g.vault old) × (g.count new ≡ g.count old) × (j' ≡ j) × Writes (reply_text (reply.Refused r))
   HeardBy Writes (Command c) =
       (r : Reply) × (g.is_honest new → IsStep (g.vault old) c.at c.who c.command r (g.vault new)) × (g.count new ≡ count_after (g.count old) (is_device_reply r)) × hears j c r j' × Writes (reply_text r)
-
--- its command was carried out, and heard of with its reply; where it asks for none, nothing was
-abbrev pub HearsLine : {J : Type 0} → (J → Timed → Reply → J → Type 0) → J → J → Line → Vault → Vault → Type 0
-HearsLine hears before after Skip old new = (new ≡ old) × (after ≡ before)
-HearsLine hears before after (Refused r) old new = (new ≡ old) × (after ≡ before)
-HearsLine hears before after (Command c) old new = (reply : Reply) × IsStep old c.at c.who c.command reply new × hears before c reply after

@@ -5,7 +5,7 @@ ghost use Rattle.vault_lines_read.specs.ReadLine.{line_of};
 ghost use Rattle.vault_lines_reply.specs.ReplyLine.{reply_text};
 ghost use Rattle.vault_lines_read.specs.declared.read_line.Line.TheVariants.{Command};
 ghost use Rattle.vaultctl_replay.specs.Lines.{unended_of};
-ghost use Rattle.vaultctl_replay.specs.Runs.{BeganBy, FinishedBy, HeardBy, HearsLine, Sent};
+ghost use Rattle.vaultctl_replay.specs.Runs.{BeganBy, FinishedBy, HeardBy, Sent};
 
 use crate::fault::ReplayFault;
 use crate::observer::Observer;
@@ -38,7 +38,7 @@ fn carried_out<K: Keeper, H: Hears>(
     hears: &mut H,
     timed: Timed,
 ) -> Result<String, AllocError>
-    ensures answered { HeardBy K.Kept keeper.old keeper.new H.hears hears.old hears.new (λ out. IfOk result (λ text. string_bytes text ≡ out)) (Command timed) }
+    ensures heard { HeardBy K.Kept keeper.old keeper.new H.hears hears.old hears.new (λ out. IfOk result (λ text. string_bytes text ≡ out)) (Command timed) }
     ensures leaves { LeavesNoLess K.Kept keeper.old keeper.new }
 {
     let reply = step(alloc, keeper, timed.at, &timed.who, &timed.command);
@@ -54,7 +54,7 @@ fn reply_to<K: Keeper, H: Hears>(
     hears: &mut H,
     asked: Line,
 ) -> Result<String, AllocError>
-    ensures answered { HeardBy K.Kept keeper.old keeper.new H.hears hears.old hears.new (λ out. IfOk result (λ text. string_bytes text ≡ out)) asked }
+    ensures heard { HeardBy K.Kept keeper.old keeper.new H.hears hears.old hears.new (λ out. IfOk result (λ text. string_bytes text ≡ out)) asked }
     ensures leaves { LeavesNoLess K.Kept keeper.old keeper.new }
 {
     match asked {
@@ -77,9 +77,8 @@ pub fn answer<K: Keeper, W: Write, H: Hears>(
     ensures ok { OnOk result (FinishedBy K.Kept keeper.old keeper.new W.Write writer.old writer.new (asked ∷ [])) }
     ensures err { OnErr result (BeganBy K.Kept keeper.old keeper.new W.Write writer.old writer.new (asked ∷ [])) }
     ensures kind { ¬ (result ≡ Err ReplayFault.Read) }
-    ensures heard { K.is_honest keeper.new → HearsLine H.hears hears.old hears.new asked (K.vault keeper.old) (K.vault keeper.new) }
     // The reply that is heard of is the one that is written.
-    ensures answered { HeardBy K.Kept keeper.old keeper.new H.hears hears.old hears.new (Sent result (W.contents writer.old) (W.contents writer.new)) asked }
+    ensures heard { HeardBy K.Kept keeper.old keeper.new H.hears hears.old hears.new (Sent result (W.contents writer.old) (W.contents writer.new)) asked }
     ensures leaves { LeavesNoLess K.Kept keeper.old keeper.new }
 {
     let Ok(reply) = reply_to(alloc, keeper, hears, asked) else {

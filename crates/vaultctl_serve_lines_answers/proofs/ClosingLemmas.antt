@@ -1,5 +1,5 @@
 -- What is left of a line that was answered, or wasn't.
-use Rattle.std.proofs.Common.{◌≡◌, ◌∙◌, ℕ, Bool, true, false, List, [], ◌∷◌, Option, None, Some, Result, Ok, Err, OnOk, OnErr, refl, sym, ap, subst, inl}
+use Rattle.std.proofs.Common.{◌≡◌, ◌∙◌, ℕ, Bool, true, false, List, [], ◌∷◌, Option, None, Some, Result, Ok, Err, OnOk, OnErr, refl, sym, ap, subst, inl, inr}
 use Rattle.std.specs.Prelude.{if◌then◌else◌, nat_lt, IfOk, IsOk}
 use Rattle.std.proofs.KnownBytes.{Appends-nil}
 use Rattle.vault_base.specs.declared.refusal.Refusal.{Refusal}
@@ -8,6 +8,7 @@ use Rattle.vault_core_model.specs.Checks.{◌>>=◌, administrator}
 use Rattle.vault_core_model.specs.Leaves.{Standing}
 use Rattle.vault_core_model.specs.Vault.{Vault}
 use Rattle.vault_core_model.specs.declared.command.Timed.{Timed}
+use Rattle.vault_core_model.specs.declared.kept.Kept.{Ghosts}
 use Rattle.vault_core_model.specs.declared.records.Caller.{Caller}
 use Rattle.vault_core_model.specs.declared.reply.Reply.{Reply}
 use Rattle.vault_core.specs.Hearing.{HearsOnce}
@@ -21,8 +22,9 @@ use Rattle.vaultctl_serve_lines_answers.specs.Inquiry.{inquiry_of}
 use Rattle.vaultctl_serve_lines_answers.specs.declared.inquiry.About.TheVariants as about
 use Rattle.vaultctl_serve_lines_answers.specs.declared.inquiry.Inquiry.{Inquiry}
 use Rattle.vaultctl_replay.proofs.RunLemmas.{kept}
-use Rattle.vaultctl_replay.specs.Runs.{HearsLine}
-use Rattle.vaultctl_serve_lines_answers.specs.Answered.{Answered, AnswersOne, Left, LeavesOne, LineAnswered, LineLeft}
+use Rattle.vaultctl_replay.specs.Runs.{Sent}
+use Rattle.vaultctl_replay.specs.declared.fault.ReplayFault.{ReplayFault}
+use Rattle.vaultctl_serve_lines_answers.specs.Answered.{Answered, AnswersOne, DoorHeardBy, Left, LeavesOne, LineAnswered, LineHeardBy, LineLeft}
 use Rattle.vaultctl_serve_lines_answers.specs.Asked.{about_or_refused, door_line_of, end_or_about, heard_of, is_malformed, unlike_command}
 use Rattle.vaultctl_serve_lines_answers.specs.Asking.{found_of, is_end, judged, stated_text, StatedAs}
 use Rattle.vaultctl_serve_lines_answers.specs.Closing.{closing, MayEnd}
@@ -124,9 +126,20 @@ module _ (heard : Heard) (moment : Option ℕ) where
   asked-once asked is old new w w' (Ok t) ok err h = finished-once new.is_honest h moment asked (door-at asked is) old.vault new.vault old.count new.count w w' ok
   asked-once asked is old new w w' (Err e) ok err h = began-once new.is_honest h moment asked (door-at asked is) old.vault new.vault old.count new.count w w' err
 
-  -- its command was heard of
-  pub asked-heard : {J : Type 0} (hears : J → Timed → Reply → J → Type 0) (before after : J) (asked : Line) → door.Line asked ≡ door_line_of heard.is_ended moment heard.bytes.items → (old new : Vault) → HearsLine hears before after asked old new → HearsOnce hears before after moment old new
-  asked-heard hears before after asked is old new h = line-heard hears moment before after asked (door-at asked is) old new h
+  -- its command was heard of, at that moment
+  module _ {K J : Type 0} (g : Ghosts K) (old new : K) (hears : J → Timed → Reply → J → Type 0) (before after : J) where
+    asked-heard : (Writes : List ℕ → Type 0) (asked : DoorLine) → asked ≡ door_line_of heard.is_ended moment heard.bytes.items → DoorHeardBy g old new hears before after Writes asked → g.is_honest new → HearsOnce hears before after moment (g.vault old) (g.vault new)
+    asked-heard Writes (door.Line asked) is d h = line-heard g old new hears before after Writes moment asked (door-at asked is) d h
+    asked-heard Writes (door.Asked asked) is d h = inl d
+
+    pub heard-once : {T : Type 0} (r : Result T ReplayFault) (w w' : Option (List ℕ)) → LineHeardBy g old new hears before after r w w' moment heard → g.is_honest new → HearsOnce hears before after moment (g.vault old) (g.vault new)
+    heard-once r w w' line h = elim line [
+      | inl none ↦ inl (none.1, none.2)
+      | inr d ↦ asked-heard (Sent r w w') (door_line_of heard.is_ended moment heard.bytes.items) refl d h
+    ]
+
+    pub door-heard : {T : Type 0} (r : Result T ReplayFault) (w w' : Option (List ℕ)) (asked : DoorLine) → asked ≡ door_line_of heard.is_ended moment heard.bytes.items → DoorHeardBy g old new hears before after (Sent r w w') asked → LineHeardBy g old new hears before after r w w' moment heard
+    door-heard r w w' asked is d = let P : DoorLine → Type 0 = λ a. DoorHeardBy g old new hears before after (Sent r w w') a in inr (subst P is d)
 
   -- who may end it is the caller of the line
   pub may-end : (asked : DoorRequest) (v : Vault) → door.Asked asked ≡ door_line_of heard.is_ended moment heard.bytes.items → (asked.what ≡ wanted.End) × IsOk (administrator v asked.at asked.who) → MayEnd v moment heard.bytes.items

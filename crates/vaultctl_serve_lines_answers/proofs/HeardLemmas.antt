@@ -4,6 +4,7 @@ use Rattle.std.specs.Prelude.{if◌then◌else◌}
 use Rattle.vault_base.specs.declared.refusal.Refusal.TheVariants.{MalformedBody}
 use Rattle.vault_core_model.specs.Vault.{Vault}
 use Rattle.vault_core_model.specs.declared.command.Timed.{Timed}
+use Rattle.vault_core_model.specs.declared.kept.Kept.{Ghosts}
 use Rattle.vault_core_model.specs.declared.reply.Reply.{Reply}
 use Rattle.vault_core.specs.Hearing.{HearsOnce}
 use Rattle.vault_core.specs.Hearing.{AtMostOne}
@@ -12,7 +13,7 @@ use Rattle.vault_lines_read.specs.declared.read_line.Line.TheVariants as line
 use Rattle.vault_lines_read.specs.Stamped.{stamped_line_of}
 use Rattle.vault_lines_read.proofs.StampedAt.{stamped-at}
 use Rattle.vaultctl_replay.specs.Lines.{is_cr}
-use Rattle.vaultctl_replay.specs.Runs.{Answers, Began, Finished, HearsLine, Runs}
+use Rattle.vaultctl_replay.specs.Runs.{Answers, Began, Finished, HeardBy, Runs}
 use Rattle.vaultctl_serve_lines_answers.specs.Asked.{heard_of}
 
 -- ---- the command of a line is at the reading
@@ -62,7 +63,8 @@ module _ (H : Type 0) (h : H) (moment : Option ℕ) where
 
 -- ---- what is heard of a line
 
-pub line-heard : {J : Type 0} (hears : J → Timed → Reply → J → Type 0) (moment : Option ℕ) (before after : J) (asked : Line) → ((t : Timed) → asked ≡ line.Command t → moment ≡ Some t.at) → (old new : Vault) → HearsLine hears before after asked old new → HearsOnce hears before after moment old new
-line-heard hears moment before after line.Skip at old new h = inl h
-line-heard hears moment before after (line.Refused r) at old new h = inl h
-line-heard hears moment before after (line.Command t) at old new h = inr (t, h.0, at t refl, h.1, h.2)
+pub line-heard : {K J : Type 0} (g : Ghosts K) (old new : K) (hears : J → Timed → Reply → J → Type 0) (before after : J) (Writes : List ℕ → Type 0) (moment : Option ℕ) (asked : Line) → ((t : Timed) → asked ≡ line.Command t → moment ≡ Some t.at)
+    → HeardBy g old new hears before after Writes asked → g.is_honest new → HearsOnce hears before after moment (g.vault old) (g.vault new)
+line-heard g old new hears before after Writes moment line.Skip at d h = inl (d.0, d.2)
+line-heard g old new hears before after Writes moment (line.Refused r) at d h = inl (d.0, d.2)
+line-heard g old new hears before after Writes moment (line.Command t) at d h = inr (t, d.0, at t refl, d.1 h, d.3)

@@ -2,11 +2,10 @@
 ghost use Rattle.std.specs.Prelude.{◌≡◌, IfOk, OnErr, OnOk, Ok};
 ghost use Rattle.vault_base.specs.Days.{moment_at};
 ghost use Rattle.vault_core_model.specs.Leaves.{standing};
-ghost use Rattle.vault_core.specs.Hearing.{HearsOnce};
 ghost use Rattle.vault_core_model.specs.LeavesMany.{LeavesNoLess};
 ghost use Rattle.vault_core.specs.Hearing.{AtMostOne};
-ghost use Rattle.vaultctl_replay.specs.Runs.{HearsLine};
-ghost use Rattle.vaultctl_serve_lines_answers.specs.Answered.{AnswersOne, LeavesOne, LineAnswered, LineLeft};
+ghost use Rattle.vaultctl_replay.specs.Runs.{HeardBy, Sent};
+ghost use Rattle.vaultctl_serve_lines_answers.specs.Answered.{AnswersOne, LeavesOne, LineAnswered, LineHeardBy, LineLeft};
 ghost use Rattle.vaultctl_serve_lines_answers.specs.Closing.{MayEnd};
 
 use crate::asked::{DoorLine, door_line};
@@ -42,7 +41,7 @@ fn answer_asked<W: Write, K: Keeper, H: Hears>(
     ensures ok { OnOk result (AnswersOne (standing K.Kept keeper.old) (standing K.Kept keeper.new) (W.contents writer.old) (W.contents writer.new) asked) }
     ensures err { OnErr result (LeavesOne (standing K.Kept keeper.old) (standing K.Kept keeper.new) (W.contents writer.old) (W.contents writer.new) asked) }
     ensures on { ¬ (result ≡ Ok Next.End) }
-    ensures heard { K.is_honest keeper.new → HearsLine H.hears hears.old hears.new asked (K.vault keeper.old) (K.vault keeper.new) }
+    ensures heard { HeardBy K.Kept keeper.old keeper.new H.hears hears.old hears.new (Sent result (W.contents writer.old) (W.contents writer.new)) asked }
     ensures leaves { LeavesNoLess K.Kept keeper.old keeper.new }
 {
     match answer(alloc, keeper, writer, hears, asked) {
@@ -66,7 +65,7 @@ fn serve_line_at<W: Write, K: Keeper, H: Hears>(
         (W.contents writer.old) (W.contents writer.new) moment.now heard.now) }
     ensures end { result ≡ Ok Next.End → K.is_honest keeper.new → MayEnd (K.vault keeper.new) moment.now heard.now.bytes.items }
     ensures once { K.is_honest keeper.new → AtMostOne moment.now (K.vault keeper.old) (K.vault keeper.new) }
-    ensures heard { K.is_honest keeper.new → HearsOnce H.hears hears.old hears.new moment.now (K.vault keeper.old) (K.vault keeper.new) }
+    ensures heard { LineHeardBy K.Kept keeper.old keeper.new H.hears hears.old hears.new result (W.contents writer.old) (W.contents writer.new) moment.now heard.now }
     ensures leaves { LeavesNoLess K.Kept keeper.old keeper.new }
 {
     let Ok(asked) = door_line(service.alloc, heard, moment) else {
@@ -100,7 +99,8 @@ pub fn serve_line<W: Write, K: Keeper, H: Hears>(
     // Only a line that asks for the end ends the server, and only by a caller who has the right to administer.
     ensures end { result ≡ Ok Next.End → K.is_honest keeper.new → MayEnd (K.vault keeper.new) (moment_at reading) heard.now.bytes.items }
     ensures once { K.is_honest keeper.new → AtMostOne (moment_at reading) (K.vault keeper.old) (K.vault keeper.new) }
-    ensures heard { K.is_honest keeper.new → HearsOnce H.hears hears.old hears.new (moment_at reading) (K.vault keeper.old) (K.vault keeper.new) }
+    // Its command is heard of, with the reply that is written; where the line asks for none, nothing is.
+    ensures heard { LineHeardBy K.Kept keeper.old keeper.new H.hears hears.old hears.new result (W.contents writer.old) (W.contents writer.new) (moment_at reading) heard.now }
     ensures leaves { LeavesNoLess K.Kept keeper.old keeper.new }
 {
     serve_line_at(

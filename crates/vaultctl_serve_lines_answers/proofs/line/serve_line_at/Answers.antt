@@ -1,7 +1,7 @@
 use Rattle.std.proofs.Common.{◌∙◌, sym, inl, refl}
 use Rattle.std.proofs.lemmas.Result.{IfOk-weaker, on_err_weaker}
 use Rattle.vault_core_model.specs.Leaves.{standing}
-use Rattle.vaultctl_serve_lines_answers.proofs.ClosingLemmas.{asked-heard, asked-once, each-ok, given-same, line-answered, line-left, line-left-none, may-end}
+use Rattle.vaultctl_serve_lines_answers.proofs.ClosingLemmas.{asked-once, door-heard, each-ok, given-same, line-answered, line-left, line-left-none, may-end}
 use Rattle.vaultctl_serve_lines_answers.specs.declared.asked.DoorLine.TheVariants as door
 use Rattle.vaultctl_serve_lines_answers.proofs.line.serve_line_at.Goals as goal
 
@@ -36,7 +36,9 @@ returns-in-Asked-clause-once g c =
 
 pub returns-in-Asked-clause-heard : goal.returns-in-Asked-clause-heard
 returns-in-Asked-clause-heard g c =
-    λ h. inl (given-same c.give.result (g.K.Kept.vault c.args.keeper.now) (g.K.Kept.vault c.give.new.keeper) _ _ c.give.ensures.ok c.give.ensures.err, refl)
+    let is = sym c.in-Asked.is ∙ c.in-Ok.ensures in
+    let same = given-same c.give.result (g.K.Kept.vault c.args.keeper.now) (g.K.Kept.vault c.give.new.keeper) _ _ c.give.ensures.ok c.give.ensures.err in
+    door-heard c.args.heard.now c.args.moment.now g.K.Kept c.args.keeper.now c.give.new.keeper g.H.Hears.hears c.args.hears.now c.args.hears.now c.give.result (g.W.Write.contents c.args.writer.now) (g.W.Write.contents c.give.new.writer) (door.Asked c.in-Asked.asked) is (same, refl)
 
 -- a command, or a line that is refused, or an empty one
 pub returns-in-Line-clause-ok : goal.returns-in-Line-clause-ok
@@ -61,4 +63,8 @@ returns-in-Line-clause-once g c =
 pub returns-in-Line-clause-heard : goal.returns-in-Line-clause-heard
 returns-in-Line-clause-heard g c =
     let is = sym c.in-Line.is ∙ c.in-Ok.ensures in
-    λ h. asked-heard c.args.heard.now c.args.moment.now g.H.Hears.hears c.args.hears.now c.answer_asked.new.hears c.in-Line.asked is (g.K.Kept.vault c.args.keeper.now) (g.K.Kept.vault c.answer_asked.new.keeper) (c.answer_asked.ensures.heard h)
+    door-heard c.args.heard.now c.args.moment.now g.K.Kept c.args.keeper.now c.answer_asked.new.keeper g.H.Hears.hears c.args.hears.now c.answer_asked.new.hears c.answer_asked.result (g.W.Write.contents c.args.writer.now) (g.W.Write.contents c.answer_asked.new.writer) (door.Line c.in-Line.asked) is c.answer_asked.ensures.heard
+
+-- nothing was done
+pub returns-in_default-clause-heard : goal.returns-in_default-clause-heard
+returns-in_default-clause-heard g c = inl (refl, refl, refl, refl)
