@@ -1,7 +1,6 @@
 -- On what was done with the vault of a file.
-use Rattle.std.proofs.Common.{◌≡◌, ◌∷◌, ◌++◌, [], List, Bool, true, Result, Ok, Err, ap, refl, sym, subst, ◌∙◌}
+use Rattle.std.proofs.Common.{◌≡◌, ℕ, ◌∷◌, ◌++◌, [], List, Bool, true, Option, Result, Ok, Err, ap, inl, inr, refl, sym, subst, ◌∙◌}
 use Rattle.std.proofs.Math.Logic.{∥∥₁_map}
-use Rattle.std.specs.Prelude.{IsOkAnd}
 use Rattle.sqlite_disk.specs.declared.Disk.{Ghosts}
 use Rattle.sqlite_store.specs.declared.store.FileStore.{FileStore}
 use Rattle.sqlite_wal.specs.Recovery.{Image}
@@ -15,17 +14,18 @@ use Rattle.vault_store.specs.VaultOf.{vault_of}
 use Rattle.vault_store.specs.declared.sql_keeper.SqlKeeper.{SqlKeeper}
 use Rattle.vault_values.specs.Fault.{Gives}
 use Rattle.vault_values.specs.declared.fault.LineFault.{LineFault}
+use Rattle.vault_values.specs.declared.fault.LineFault.TheVariants as line
+use Rattle.vaultctl_commands.specs.declared.fault.JobFault.{JobFault}
+use Rattle.vaultctl_commands.specs.declared.outcome.Outcome.{Outcome}
 use Rattle.vaultctl_machine.proofs.CarriedLemmas.{carried, carries_weaker}
 use Rattle.vaultctl_machine.specs.Closings.{Carries, Closes, Copies}
 use Rattle.vaultctl_machine.specs.Files.{IsFoundEarlier, IsFoundIn}
+use Rattle.vaultctl_machine.specs.declared.vaults.Machine.{Machine}
+use Rattle.vaultctl_perform.specs.Done.{IsCarriedOut, IsDoneAsRead, IsDoneAsSaid, IsGiven}
 
 -- what is equal has equal parts
 pub along : {M X : Type 0} {a b : M} → a ≡ b → (f : M → X) → f a ≡ f b
 along same f = ap f same
-
--- what holds of the value holds where it is there
-pub at_ok : {T E : Type 0} (r : Result T E) {x : T} (P : T → Type 0) → r ≡ Ok x → P x → IsOkAnd r P
-at_ok {T} {E} r P is p = subst (λ (s : Result T E). IsOkAnd s P) (sym is) p
 
 module _ {D : Type 0} {g : Ghosts D} (image : Image) where
   -- a keeper of the vault that was found is one, whoever watches it
@@ -44,17 +44,6 @@ module _ {D : Type 0} {g : Ghosts D} (image : Image) where
   -- so it is from where nothing was closed before it
   pub carries_from : (old mid new : List (Held (FileStore D g) × Bool)) (Does : Vault → Vault → Type 0) → Carries image mid new Does → mid ≡ old → Carries image old new Does
   carries_from old mid new Does c same = subst (λ (l : List (Held (FileStore D g) × Bool)). Carries image l new Does) same c
-
-  -- what was done, said in another way
-  pub carries_as : (old new : List (Held (FileStore D g) × Bool)) (P Q : Vault → Vault → Type 0) → Carries image old new P → ((v w : Vault) → P v w → Q v w) → Carries image old new Q
-  carries_as old new P Q c so = carries_weaker image old new P Q so c
-
-  -- what was done for the words as they were read was done for what they say
-  pub done_as_said : {X Y : Type 0} (view : X → Y) (old new : List (Held (FileStore D g) × Bool)) (P : X → Vault → Vault → Type 0) (Q : Y → Vault → Vault → Type 0) (asked : Result X LineFault) (said : Result Y Refusal)
-      → Gives view asked said → IsOkAnd asked (λ x. Carries image old new (P x)) → ((x : X) (v w : Vault) → P x v w → Q (view x) v w) → IsOkAnd said (λ y. Carries image old new (Q y))
-  done_as_said {X} {Y} view old new P Q (Ok x) said gives c so =
-      subst (λ (s : Result Y Refusal). IsOkAnd s (λ y. Carries image old new (Q y))) (sym gives) (carries_weaker image old new (P x) (Q (view x)) (so x) c)
-  done_as_said view old new P Q (Err e) said gives c so = absurd c
 
 module _ {D : Type 0} {g : Ghosts D} where
   -- one connection more was closed, also from where nothing was closed before it
@@ -79,3 +68,28 @@ module _ {D E : Type 0} {g : Ghosts D} {h : Ghosts E} (image : Image) where
       let Stands : Held (FileStore E h) → Type 0 = λ conn. HasCleanDisk (file_state source) → HasCleanDisk (file_state conn) → (v : Vault) × IsFoundEarlier image v × ∥ StandsFor (file_state conn) v ∥₁ in
       let copy : Closes none copies Stands = closes_one vault.conn none still copies Stands copied (λ clean there. (vault_of over_files vault, is clean there, ∥∥₁_map stands (λ it. it there))) unchanged in
       (source, closed ∙ ap (λ (l : List (Held (FileStore D g) × Bool)). l ++ (source, true) ∷ []) same, copy)
+
+module _ {D E : Type 0} {g : Ghosts D} {h : Ghosts E} (old new : Machine (FileStore D g) (FileStore E h)) (outcome : Result Outcome JobFault) (before after : Option (List ℕ)) where
+  -- values that were read are such
+  pub read_ok : {X : Type 0} (asked : Result X LineFault) {x : X} (Does : X → Type 0) → asked ≡ Ok x → Does x → IsDoneAsRead old new asked outcome before after Does
+  read_ok {X} asked Does is did = subst (λ (a : Result X LineFault). IsDoneAsRead old new a outcome before after Does) (sym is) did
+
+  -- what was done for the words as they were read was done for what they say
+  pub as_said : {X Y : Type 0} (view : X → Y) (asked : Result X LineFault) (said : Result Y Refusal) (P : X → Type 0) (Q : Y → Type 0) → Gives view asked said
+      → IsDoneAsRead old new asked outcome before after P → ((x : X) → P x → Q (view x)) → IsDoneAsSaid old new said outcome before after Q
+  as_said {X} {Y} view (Ok x) said P Q gives did so =
+      subst (λ (s : Result Y Refusal). IsDoneAsSaid old new s outcome before after Q) (sym gives) (inr (so x did))
+  as_said view (Err line.Memory) (Ok y) P Q gives did so = inl did
+  as_said view (Err line.Memory) (Err refusal) P Q gives did so = inl did
+  as_said {X} {Y} view (Err (line.Refused refusal)) said P Q gives did so =
+      subst (λ (s : Result Y Refusal). IsDoneAsSaid old new s outcome before after Q) (sym gives) (inr did)
+
+module _ {D E : Type 0} {g : Ghosts D} {h : Ghosts E} (image : Image) (old new : Machine (FileStore D g) (FileStore E h)) where
+  pub given_as : (P Q : Vault → Vault → Type 0) → ((v w : Vault) → P v w → Q v w) → IsGiven image old new P → IsGiven image old new Q
+  given_as P Q so it = (it.0, carries_weaker image old.closed.items new.closed.items P Q so it.1)
+
+  -- what was done with the vault, said in another way
+  pub carried_as : (outcome : Result Outcome JobFault) (S T A B : Type 0) (P Q : Vault → Vault → Type 0) → (S → T) → (A → B) → ((v w : Vault) → P v w → Q v w)
+      → IsCarriedOut image old new outcome S A P → IsCarriedOut image old new outcome T B Q
+  carried_as outcome S T A B P Q same prints so (inl it) = inl (it.0, it.1, same it.2)
+  carried_as outcome S T A B P Q same prints so (inr it) = inr (prints it.0, given_as P Q so it.1)

@@ -1,66 +1,118 @@
--- What a job that was done did to the files that it named.
-use Rattle.std.specs.Prelude.{◌≡◌, ℕ, Bool, List, Option, None, Some, Result, IsOkAnd}
+-- What a job came to, whatever that is: which vaults were opened, made or copied, what was done of them, and what was printed.
+use Rattle.std.specs.Prelude.{◌≡◌, ◌⊎◌, ℕ, List, Option, None, Some, Result, Ok, Err, IfOk, ⊤}
+use Rattle.std.specs.Io.KnownBytes.{Appends}
 use Rattle.sqlite_disk.specs.declared.Disk.{Ghosts}
 use Rattle.sqlite_store.specs.declared.store.FileStore.{FileStore}
 use Rattle.sqlite_wal.specs.Recovery.{Image}
 use Rattle.sqlite.specs.Files.{file_state}
-use Rattle.sqlite.specs.Held.{Held}
 use Rattle.sqlite.specs.State.{HasCleanDisk}
 use Rattle.vault_base.specs.declared.refusal.Refusal.{Refusal}
+use Rattle.vault_base.specs.declared.refusal.Table.{Table}
 use Rattle.vault_core_model.specs.Vault.{Vault, opening}
+use Rattle.vault_core_model.specs.declared.reply.Reply.TheVariants as reply
 use Rattle.vault_store.specs.Kept.{StandsFor}
+use Rattle.vault_values.specs.declared.fault.LineFault.{LineFault}
+use Rattle.vault_values.specs.declared.fault.LineFault.TheVariants as line
 use Rattle.vaultctl_commands.specs.Asked.{dept_of, caller_of, bucket_of, move_bucket_of, intake_of, run_of, report_of, certificate_of, events_of, seal_of}
+use Rattle.vaultctl_commands.specs.Evidence.{PrintsLawful, PrintsSeal}
+use Rattle.vaultctl_commands.specs.Printed.{PrintsReply, printed}
 use Rattle.vaultctl_commands.specs.declared.asked.AskedCommand.{AskedCommand}
-use Rattle.vaultctl_commands.specs.declared.outcome.Outcome.TheVariants.{Done}
+use Rattle.vaultctl_commands.specs.declared.fault.JobFault.{JobFault}
+use Rattle.vaultctl_commands.specs.declared.fault.JobFault.TheVariants as fault
+use Rattle.vaultctl_commands.specs.declared.outcome.Outcome.{Outcome}
+use Rattle.vaultctl_commands.specs.declared.outcome.Outcome.TheVariants.{Done, Refused}
 use Rattle.vaultctl_job.specs.declared.job.Job.{Job}
 use Rattle.vaultctl_job.specs.declared.job.Job.TheVariants as job
 use Rattle.vaultctl_machine.specs.Closings.{Carries, Closes, Copies}
 use Rattle.vaultctl_machine.specs.VaultCounts.{with_copied, with_made, with_opened}
-use Rattle.vaultctl_machine.specs.declared.vault_counts.VaultCounts.{VaultCounts}
-use Rattle.vaultctl_work.specs.Done.{IsAnswered, IsIntakeDone, IsJudgedDone, IsSealDone, IsServed, IsStepDone}
+use Rattle.vaultctl_machine.specs.declared.vaults.Machine.{Machine}
+use Rattle.vaultctl_work.specs.Asked.{IsDoneAt}
+use Rattle.vaultctl_work.specs.Done.{IsAnswered, IsIntakeDone, IsJudgedDone, IsSealDone, IsServed}
+use Rattle.vaultctl_work.specs.Printed.{PrintsRows}
 use Rattle.vaultctl_work.specs.Scene.{scene}
+use Rattle.vaultctl_perform.specs.Printed.{damaged_line, migrated_line, sound_line}
 use Rattle.vaultctl_perform.specs.Replay.{AnswersFromNew}
 
--- a script without a file has a vault in memory
-abbrev pub given_for : Option (List ℕ) → VaultCounts → VaultCounts
-given_for None given = given
-given_for (Some file) given = with_opened given
+module _ {D E : Type 0} {g : Ghosts D} {h : Ghosts E} (old new : Machine (FileStore D g) (FileStore E h)) where
+  -- no vault was given out, and none was closed
+  abbrev pub IsUngiven : Type 0
+  IsUngiven = (new.given ≡ old.given) × (new.closed ≡ old.closed) × (new.copies ≡ old.copies)
 
--- how many vaults were given out after the job
-abbrev pub given_by : Job → VaultCounts → VaultCounts
-given_by (job.Init j) given = with_made given
-given_by (job.Migrate j) given = with_copied given
-given_by (job.Replay j) given = given_for j.file given
-given_by _ given = with_opened given
+  -- one new vault was made and closed, and no other opened or copied
+  abbrev pub IsNew : Type 0
+  IsNew = (new.given ≡ with_made old.given) × Closes old.closed.items new.closed.items (λ conn. HasCleanDisk (file_state conn) → ∥ StandsFor (file_state conn) opening ∥₁)
 
-module _ {D : Type 0} {g : Ghosts D} (image : Image) where
-  -- what is asked was done with the vault that was found in the file
-  abbrev pub IsAskedDone : Result AskedCommand Refusal → List (Held (FileStore D g) × Bool) → List (Held (FileStore D g) × Bool) → Option (List ℕ) → Option (List ℕ) → Type 0
-  IsAskedDone said old new before after = IsOkAnd said (λ asked. Carries image old new (λ v w. IsStepDone asked Done v w before after))
+  -- so it is of a job that was done, and of one that was refused nothing was made
+  abbrev pub IsMade : Result Outcome JobFault → Type 0
+  IsMade outcome = ((outcome ≡ Ok Done) × IsNew) ⊎ ((outcome ≡ Ok Refused) × IsUngiven)
 
-  -- a script without a file is answered from a new vault on
-  abbrev pub IsScriptDone : Option (List ℕ) → List (Held (FileStore D g) × Bool) → List (Held (FileStore D g) × Bool) → Option (List ℕ) → Option (List ℕ) → Option (List ℕ) → Option (List ℕ) → Type 0
-  IsScriptDone None old new input left before after = AnswersFromNew input left before after
-  IsScriptDone (Some file) old new input left before after = Carries image old new (λ v w. IsAnswered (scene v input before) (scene w left after))
+  -- room for the values of words was refused: nothing was looked for or printed
+  abbrev pub IsUnread : Result Outcome JobFault → Option (List ℕ) → Option (List ℕ) → Type 0
+  IsUnread outcome before after = (new ≡ old) × (outcome ≡ Err fault.Memory) × (after ≡ before)
 
-module _ {D E : Type 0} {g : Ghosts D} {h : Ghosts E} (image : Image) where
-  -- by the connections that were closed before and after, those of copies too, what was left of the input, and what was printed
-  abbrev pub IsDoneInFiles : Job → List (Held (FileStore D g) × Bool) → List (Held (FileStore D g) × Bool) → List (Held (FileStore E h) × Bool) → List (Held (FileStore E h) × Bool)
-      → Option (List ℕ) → Option (List ℕ) → Option (List ℕ) → Option (List ℕ) → Type 0
-  IsDoneInFiles (job.Init j) old new none copies input left before after = Closes old new (λ conn. HasCleanDisk (file_state conn) → ∥ StandsFor (file_state conn) opening ∥₁)
-  IsDoneInFiles (job.Dept j) old new none copies input left before after = IsAskedDone image (dept_of j) old new before after
-  IsDoneInFiles (job.Caller j) old new none copies input left before after = IsAskedDone image (caller_of j) old new before after
-  IsDoneInFiles (job.Bucket j) old new none copies input left before after = IsAskedDone image (bucket_of j) old new before after
-  IsDoneInFiles (job.Move j) old new none copies input left before after = IsAskedDone image (move_bucket_of j) old new before after
-  IsDoneInFiles (job.Intake j) old new none copies input left before after = IsOkAnd (intake_of j) (λ asked. Carries image old new (λ v w. IsIntakeDone asked Done v w before after))
-  IsDoneInFiles (job.Run j) old new none copies input left before after = IsAskedDone image (run_of j) old new before after
-  IsDoneInFiles (job.Report j) old new none copies input left before after = IsAskedDone image (report_of j) old new before after
-  IsDoneInFiles (job.Certificate j) old new none copies input left before after = IsAskedDone image (certificate_of j) old new before after
-  IsDoneInFiles (job.Register j) old new none copies input left before after = Carries image old new (λ v w. w ≡ v)
-  IsDoneInFiles (job.Verify j) old new none copies input left before after = Carries image old new (λ v w. w ≡ v)
-  IsDoneInFiles (job.Events j) old new none copies input left before after = IsOkAnd (events_of j) (λ asked. Carries image old new (λ v w. w ≡ v))
-  IsDoneInFiles (job.Seal j) old new none copies input left before after = IsOkAnd (seal_of j) (λ asked. Carries image old new (λ v w. IsSealDone asked Done v w before after))
-  IsDoneInFiles (job.Lawful j) old new none copies input left before after = Carries image old new (λ v w. IsJudgedDone Done v w before after)
-  IsDoneInFiles (job.Replay j) old new none copies input left before after = IsScriptDone image j.file old new input left before after
-  IsDoneInFiles (job.Serve j) old new none copies input left before after = Carries image old new (λ v w. IsServed j v w)
-  IsDoneInFiles (job.Migrate j) old new none copies input left before after = Copies image old new none copies
+  -- a value isn't allowed: its refusal was printed where no fault stopped that, and nothing looked for
+  abbrev pub IsValueRefused : Refusal → Result Outcome JobFault → Option (List ℕ) → Option (List ℕ) → Type 0
+  IsValueRefused refusal outcome before after = (new ≡ old) × IfOk outcome (λ stated. (stated ≡ Refused) × Appends before after (printed (reply.Refused refusal)))
+
+  -- by values of words: where all are allowed, that was done; else the first that isn't is refused
+  abbrev pub IsDoneAsSaid : {X : Type 0} → Result X Refusal → Result Outcome JobFault → Option (List ℕ) → Option (List ℕ) → (X → Type 0) → Type 0
+  IsDoneAsSaid (Ok x) outcome before after Does = IsUnread outcome before after ⊎ Does x
+  IsDoneAsSaid (Err refusal) outcome before after Does = IsUnread outcome before after ⊎ IsValueRefused refusal outcome before after
+
+  -- the same of values as they were read
+  abbrev pub IsDoneAsRead : {X : Type 0} → Result X LineFault → Result Outcome JobFault → Option (List ℕ) → Option (List ℕ) → (X → Type 0) → Type 0
+  IsDoneAsRead (Ok x) outcome before after Does = Does x
+  IsDoneAsRead (Err line.Memory) outcome before after Does = IsUnread outcome before after
+  IsDoneAsRead (Err (line.Refused refusal)) outcome before after Does = IsValueRefused refusal outcome before after
+
+module _ {D E : Type 0} {g : Ghosts D} {h : Ghosts E} (image : Image) (old new : Machine (FileStore D g) (FileStore E h)) where
+  -- one vault was opened, and no other made or copied; with the one that was found in the file this was done, and the connection that was closed then stood for the vault that this left
+  abbrev pub IsGiven : (Vault → Vault → Type 0) → Type 0
+  IsGiven Does = (new.given ≡ with_opened old.given) × Carries image old.closed.items new.closed.items Does
+
+  -- The vault wasn't opened, or was closed as it was found, since its files couldn't be watched: so the job is refused, and nothing printed or read. Or this was printed, and done with the vault.
+  abbrev pub IsCarriedOut : Result Outcome JobFault → Type 0 → Type 0 → (Vault → Vault → Type 0) → Type 0
+  IsCarriedOut outcome Untouched Prints Does = ((IsUngiven old new ⊎ IsGiven (λ v w. w ≡ v)) × (outcome ≡ Ok Refused) × Untouched) ⊎ (Prints × IsGiven Does)
+
+module _ {D E : Type 0} {g : Ghosts D} {h : Ghosts E} (image : Image) (outcome : Result Outcome JobFault) (old new : Machine (FileStore D g) (FileStore E h)) (before after : Option (List ℕ)) where
+  -- a command, where its values are allowed
+  abbrev pub IsAskedDone : Result AskedCommand Refusal → Type 0
+  IsAskedDone said = IsDoneAsSaid old new said outcome before after (λ asked. IsCarriedOut image old new outcome (after ≡ before) (IfOk outcome (λ stated. PrintsReply stated before after)) (λ v w. IsDoneAt asked.at asked v w outcome before after))
+
+  -- the vault was opened and closed as it was found, and `sound` printed; or it wasn't opened, and nothing is printed but the table that isn't sound
+  abbrev pub IsVerified : Type 0
+  IsVerified =
+      (IsGiven image old new (λ v w. w ≡ v) × IfOk outcome (λ stated. (stated ≡ Done) × Appends before after sound_line))
+      ⊎ (IsUngiven old new × IfOk outcome (λ stated. (stated ≡ Refused) × ((after ≡ before) ⊎ ((table : Table) × Appends before after (damaged_line table)))))
+
+  -- the vault of an earlier version was copied, and `migrated` printed; or no vault was given out, and nothing printed
+  abbrev pub IsMigrated : Type 0
+  IsMigrated =
+      (((new.given ≡ with_copied old.given) × Copies image old.closed.items new.closed.items old.copies.items new.copies.items) × IfOk outcome (λ stated. (stated ≡ Done) × Appends before after migrated_line))
+      ⊎ (IsUngiven old new × ((outcome ≡ Ok Refused) × (after ≡ before)))
+
+module _ {D E : Type 0} {g : Ghosts D} {h : Ghosts E} (image : Image) (outcome : Result Outcome JobFault) (old new : Machine (FileStore D g) (FileStore E h)) (input left before after : Option (List ℕ)) where
+  -- a script over the vault in a file; without one, from a new vault on
+  abbrev pub IsScriptDone : Option (List ℕ) → Type 0
+  IsScriptDone None = (new ≡ old) × AnswersFromNew outcome input left before after
+  IsScriptDone (Some file) = IsCarriedOut image old new outcome ((left ≡ input) × (after ≡ before)) ⊤ (λ v w. IsAnswered outcome (scene v input before) (scene w left after))
+
+  -- what came of a job, by what was left of the input, and what was printed
+  abbrev pub IsPerformed : Job → Type 0
+  IsPerformed (job.Init j) = IsMade old new outcome × (after ≡ before)
+  IsPerformed (job.Dept j) = IsAskedDone image outcome old new before after (dept_of j)
+  IsPerformed (job.Caller j) = IsAskedDone image outcome old new before after (caller_of j)
+  IsPerformed (job.Bucket j) = IsAskedDone image outcome old new before after (bucket_of j)
+  IsPerformed (job.Move j) = IsAskedDone image outcome old new before after (move_bucket_of j)
+  IsPerformed (job.Intake j) = IsDoneAsSaid old new (intake_of j) outcome before after (λ asked. IsCarriedOut image old new outcome (after ≡ before) (IfOk outcome (λ stated. PrintsRows stated before after)) (λ v w. IsIntakeDone asked outcome v w before after))
+  IsPerformed (job.Run j) = IsAskedDone image outcome old new before after (run_of j)
+  IsPerformed (job.Report j) = IsAskedDone image outcome old new before after (report_of j)
+  IsPerformed (job.Certificate j) = IsAskedDone image outcome old new before after (certificate_of j)
+  IsPerformed (job.Register j) = IsCarriedOut image old new outcome ((left ≡ input) × (after ≡ before)) ⊤ (λ v w. w ≡ v)
+  IsPerformed (job.Verify j) = IsVerified image outcome old new before after
+  IsPerformed (job.Events j) = IsDoneAsSaid old new (events_of j) outcome before after (λ asked. IsCarriedOut image old new outcome (after ≡ before) ⊤ (λ v w. w ≡ v))
+  IsPerformed (job.Seal j) = IsDoneAsSaid old new (seal_of j) outcome before after (λ asked. IsCarriedOut image old new outcome (after ≡ before) (IfOk outcome (λ stated. PrintsSeal stated before after)) (λ v w. IsSealDone asked outcome v w before after))
+  IsPerformed (job.Lawful j) = IsCarriedOut image old new outcome ((left ≡ input) × (after ≡ before)) (IfOk outcome (λ stated. PrintsLawful stated before after)) (λ v w. IsJudgedDone outcome v w before after)
+  IsPerformed (job.Replay j) = IsScriptDone j.file
+  IsPerformed (job.Serve j) = IsCarriedOut image old new outcome ((left ≡ input) × (after ≡ before)) ⊤ (λ v w. IsServed j v w)
+  IsPerformed (job.Migrate j) = IsMigrated image outcome old new before after

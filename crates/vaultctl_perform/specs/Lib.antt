@@ -4,4 +4,3 @@ pub mod Named
 pub mod Replay
 pub mod Status
 pub mod Printed
-pub mod Values

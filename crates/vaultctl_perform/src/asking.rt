@@ -1,15 +1,14 @@
 //! Jobs that ask one thing of the vault in a file: their values, then the file, then what is asked.
-ghost use Rattle.std.specs.Prelude.{◌≡◌, ◌≢◌, ℕ, List, Option, IsOkAnd, Result, Ok, Err};
+ghost use Rattle.std.specs.Prelude.{◌≡◌, ℕ, List, Option, Result, IfOk};
 ghost use Rattle.sqlite_wal.specs.Files.{image_at};
 ghost use Rattle.vault_base.specs.declared.refusal.Refusal.{Refusal as AnyRefusal};
 ghost use Rattle.vault_values.specs.Fault.{Gives};
-ghost use Rattle.vaultctl_commands.specs.Printed.{PrintsReply};
-ghost use Rattle.vaultctl_commands.specs.PrintedIntake.{PrintsIntake};
 ghost use Rattle.vaultctl_commands.specs.declared.asked.AskedCommand.{AskedCommand as AskedOf};
 ghost use Rattle.vaultctl_commands.specs.declared.asked.AskedIntake.{AskedIntake as IntakeOf};
-ghost use Rattle.vaultctl_machine.specs.Closings.{Carries};
-ghost use Rattle.vaultctl_machine.specs.VaultCounts.{with_opened};
-ghost use Rattle.vaultctl_work.specs.Done.{IsIntakeDone, IsStepDone};
+ghost use Rattle.vaultctl_perform.specs.Done.{IsAskedDone, IsCarriedOut, IsDoneAsRead, IsDoneAsSaid};
+ghost use Rattle.vaultctl_perform.specs.Status.{Ends};
+ghost use Rattle.vaultctl_work.specs.Done.{IsIntakeDone};
+ghost use Rattle.vaultctl_work.specs.Printed.{PrintsRows};
 ghost use Rattle.vaultctl_work.specs.Scene.{scene};
 
 use crate::call::{Call, Task};
@@ -20,7 +19,6 @@ use std::io::{self, Write};
 use vault_values::fault::LineFault;
 use vaultctl_commands::asked::AskedCommand;
 use vaultctl_commands::fault::JobFault;
-use vaultctl_commands::outcome::Outcome;
 use vaultctl_machine::vaults::FileMachine;
 use vaultctl_remedies::slips::first_slip;
 use vaultctl_work::intake::Intake;
@@ -36,12 +34,9 @@ pub fn ask_read<A: Start, B: Start, T: Work, W: Write, E: Write>(
     out: &mut W,
     err: &mut E,
 ) -> u8
-    ensures values { (said : Result T AnyRefusal) (r : AnyRefusal) → Gives (λ x. x) asked.now said → said ≡ Err r → (machine.new ≡ machine.old) × (result ≡ 1) }
-    ensures printed { result ≡ 0 → T.prints (Ok Outcome.Done) (W.contents out.old) (W.contents out.new) }
-    ensures given { result ≡ 0 → machine.new.given ≡ with_opened machine.old.given }
-    ensures done { result ≡ 0 → IsOkAnd asked.now (λ work. Carries (image_at A.Start) machine.old.closed.items machine.new.closed.items
-        (λ v w. (from : Option (List ℕ)) × (to : Option (List ℕ)) × T.does work (scene v from (W.contents out.old)) (scene w to (W.contents out.new)) (Ok Outcome.Done))) }
-    ensures status { result ≢ 2 }
+    ensures performed { Ends result (λ outcome. IsDoneAsRead machine.old machine.new asked.now outcome (W.contents out.old) (W.contents out.new)
+        (λ work. IsCarriedOut (image_at A.Start) machine.old machine.new outcome (W.contents out.new ≡ W.contents out.old) (T.prints outcome (W.contents out.old) (W.contents out.new))
+        (λ v w. (from : Option (List ℕ)) × (to : Option (List ℕ)) × T.does work (scene v from (W.contents out.old)) (scene w to (W.contents out.new)) outcome))) }
 {
     let alloc = machine.runtime().alloc();
     match asked {
@@ -66,13 +61,8 @@ pub fn ask<A: Start, B: Start, W: Write, E: Write>(
     out: &mut W,
     err: &mut E,
 ) -> u8
-    ensures values { (said : Result AskedOf AnyRefusal) (r : AnyRefusal) → Gives (λ x. x) asked said → said ≡ Err r → (machine.new ≡ machine.old) × (result ≡ 1) }
-    // Status 0 says that it was done, and that the reply which says so was printed.
-    ensures printed { result ≡ 0 → PrintsReply Outcome.Done (W.contents out.old) (W.contents out.new) }
-    ensures given { result ≡ 0 → machine.new.given ≡ with_opened machine.old.given }
-    ensures done { (said : Result AskedOf AnyRefusal) → Gives (λ x. x) asked said → result ≡ 0
-        → IsOkAnd said (λ it. Carries (image_at A.Start) machine.old.closed.items machine.new.closed.items (λ v w. IsStepDone it Outcome.Done v w (W.contents out.old) (W.contents out.new))) }
-    ensures status { result ≢ 2 }
+    ensures performed { (said : Result AskedOf AnyRefusal) → Gives (λ x. x) asked said
+        → Ends result (λ outcome. IsAskedDone (image_at A.Start) outcome machine.old machine.new (W.contents out.old) (W.contents out.new) said) }
 {
     ask_read(machine, call, start, &asked, out, err)
 }
@@ -87,13 +77,10 @@ pub fn take_in<A: Start, B: Start, W: Write, E: Write>(
     out: &mut W,
     err: &mut E,
 ) -> u8
-    ensures values { (said : Result IntakeOf AnyRefusal) (r : AnyRefusal) → Gives (λ i. i.asked) asked.entry said → said ≡ Err r → (machine.new ≡ machine.old) × (result ≡ 1) }
-    // Status 0 says that each row was taken in, and that the lines which say so were printed.
-    ensures printed { result ≡ 0 → PrintsIntake Outcome.Done (W.contents out.old) (W.contents out.new) }
-    ensures given { result ≡ 0 → machine.new.given ≡ with_opened machine.old.given }
-    ensures done { (said : Result IntakeOf AnyRefusal) → Gives (λ i. i.asked) asked.entry said → result ≡ 0
-        → IsOkAnd said (λ it. Carries (image_at A.Start) machine.old.closed.items machine.new.closed.items (λ v w. IsIntakeDone it Outcome.Done v w (W.contents out.old) (W.contents out.new))) }
-    ensures status { result ≢ 2 }
+    ensures performed { (said : Result IntakeOf AnyRefusal) → Gives (λ i. i.asked) asked.entry said
+        → Ends result (λ outcome. IsDoneAsSaid machine.old machine.new said outcome (W.contents out.old) (W.contents out.new)
+        (λ it. IsCarriedOut (image_at A.Start) machine.old machine.new outcome (W.contents out.new ≡ W.contents out.old) (IfOk outcome (λ stated. PrintsRows stated (W.contents out.old) (W.contents out.new)))
+        (λ v w. IsIntakeDone it outcome v w (W.contents out.old) (W.contents out.new)))) }
 {
     ask_read(machine, call, start, &asked, out, err)
 }

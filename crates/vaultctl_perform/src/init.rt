@@ -1,13 +1,14 @@
 //! A new vault in a file.
-ghost use Rattle.std.specs.Prelude.{◌≡◌, ◌≢◌, OnOk};
+ghost use Rattle.std.specs.Prelude.{◌≡◌, OnOk, OnErr};
 ghost use Rattle.sqlite.specs.Files.{file_state, over_files};
 ghost use Rattle.sqlite.specs.State.{HasCleanDisk};
 ghost use Rattle.vault_core_model.specs.Vault.{opening};
 ghost use Rattle.vault_store.specs.Kept.{StandsFor};
 ghost use Rattle.vault_store.specs.VaultOf.{vault_of};
 ghost use Rattle.vaultctl_machine.specs.Closings.{Closes};
-ghost use Rattle.vaultctl_machine.specs.VaultCounts.{with_made};
+ghost use Rattle.vaultctl_perform.specs.Done.{IsMade, IsNew, IsUngiven};
 ghost use Rattle.vaultctl_perform.specs.Status as spec;
+ghost use Rattle.vaultctl_perform.specs.Status.{Ends};
 
 use crate::messages::print_cause;
 use sqlite::Start;
@@ -30,8 +31,8 @@ fn make<A: Start, B: Start>(
     file: &str,
     start: A,
 ) -> Result<(), OpenError>
-    ensures given { OnOk result (machine.new.given ≡ with_made machine.old.given) }
-    ensures done { OnOk result (Closes machine.old.closed.items machine.new.closed.items (λ conn. HasCleanDisk (file_state conn) → ∥ StandsFor (file_state conn) opening ∥₁)) }
+    ensures made { OnOk result (IsNew machine.old machine.new) }
+    ensures none { OnErr result (IsUngiven machine.old machine.new) }
 {
     let vault = machine.make(file, start)?;
     close_new(machine, vault);
@@ -55,10 +56,7 @@ pub fn init<A: Start, B: Start, E: Write>(
     start: A,
     err: &mut E,
 ) -> u8
-    ensures status { result ≢ 2 }
-    // Status 0 says that a new vault was made and closed, and no other opened or copied.
-    ensures given { result ≡ 0 → machine.new.given ≡ with_made machine.old.given }
-    ensures done { result ≡ 0 → Closes machine.old.closed.items machine.new.closed.items (λ conn. HasCleanDisk (file_state conn) → ∥ StandsFor (file_state conn) opening ∥₁) }
+    ensures performed { Ends result (λ outcome. IsMade machine.old machine.new outcome) }
 {
     let made = make(machine, file, start);
     print_made(err, made)

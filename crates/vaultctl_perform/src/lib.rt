@@ -1,15 +1,13 @@
 //! Carries out what the program's words ask for.
 #![tactic(auto)]
 
-ghost use Rattle.std.specs.Prelude.{◌≡◌, ◌≢◌, [], None, Some, map, string_bytes};
+ghost use Rattle.std.specs.Prelude.{◌≡◌, ◌≢◌, ◌⊎◌, [], None, Some, map, string_bytes};
 ghost use Rattle.clap.specs.Words.{fault_of};
 ghost use Rattle.vaultctl_job.specs.Words.{job_for, vaultctl};
 ghost use Rattle.vaultctl_job.specs.declared.job.Job.{Job as AnyJob};
-ghost use Rattle.vault_base.specs.declared.refusal.Refusal.{Refusal};
 ghost use Rattle.sqlite_wal.specs.Files.{image_at};
-ghost use Rattle.vaultctl_perform.specs.Done.{IsDoneInFiles, IsScriptDone, given_by};
-ghost use Rattle.vaultctl_perform.specs.Printed.{IsPrinted};
-ghost use Rattle.vaultctl_perform.specs.Values.{IsValueFault};
+ghost use Rattle.vaultctl_perform.specs.Done.{IsPerformed, IsScriptDone};
+ghost use Rattle.vaultctl_perform.specs.Status.{Ends};
 
 mod asking;
 mod call;
@@ -48,10 +46,8 @@ fn replay_script<A: Start, B: Start, R: Read, W: Write, E: Write>(
     out: &mut W,
     err: &mut E,
 ) -> u8
-    ensures given { result ≡ 0 → machine.new.given ≡ given_by (Job.Replay task.entry.work.now) machine.old.given }
-    ensures done { result ≡ 0 → IsScriptDone (image_at A.Start) task.entry.work.now.file machine.old.closed.items machine.new.closed.items
-        (R.remaining reader.old) (R.remaining reader.new) (W.contents out.old) (W.contents out.new) }
-    ensures status { result ≢ 2 }
+    ensures performed { Ends result (λ outcome. IsScriptDone (image_at A.Start) outcome machine.old machine.new
+        (R.remaining reader.old) (R.remaining reader.new) (W.contents out.old) (W.contents out.new) task.entry.work.now.file) }
 {
     let job = task.work;
     match &job.file {
@@ -74,18 +70,10 @@ pub fn perform<A: Start, B: Start, R: Read, W: Write, E: Write>(
     out: &mut W,
     err: &mut E,
 ) -> u8
-    // A value that isn't allowed is never reported as done, and no file is looked for.
-    ensures values { (r : Refusal) → IsValueFault job.now r → (machine.new ≡ machine.old) × (result ≡ 1) }
-    // Status 0 says that what the job prints when it is done was printed.
-    ensures printed { result ≡ 0 → IsPrinted job.now (W.contents out.old) (W.contents out.new) }
-    // It says that one vault was opened, made or copied, as the job asks, and no other.
-    ensures given { result ≡ 0 → machine.new.given ≡ given_by job.now machine.old.given }
-    // It says that what the job asks was done with the vault that was found in the file, and that the connection which was
-    // closed then stood for the vault that this left; of a script without a file, that its lines were answered from a new
-    // vault on.
-    ensures done { result ≡ 0 → IsDoneInFiles (image_at A.Start) job.now machine.old.closed.items machine.new.closed.items machine.old.copies.items machine.new.copies.items
-        (R.remaining reader.old) (R.remaining reader.new) (W.contents out.old) (W.contents out.new) }
-    ensures status { result ≢ 2 }
+    // The status is that of what came of the job. Whatever that is, one vault was opened, made or copied, as the job asks, and
+    // no other, or none; what was done with the one that was found in the file, and what was printed, is what came of it.
+    ensures performed { Ends result (λ outcome. IsPerformed (image_at A.Start) outcome machine.old machine.new
+        (R.remaining reader.old) (R.remaining reader.new) (W.contents out.old) (W.contents out.new) job.now) }
 {
     let alloc = machine.runtime().alloc();
     // A job opens the files of one vault, but for `migrate`.
@@ -141,14 +129,12 @@ pub fn answer_words<A: Start, B: Start, R: Read, W: Write, E: Write>(
     err: &mut E,
 ) -> u8
     ensures refused { result ≡ 2 → fault_of vaultctl (map string_bytes words.now) ≢ [] }
-    // Words that ask for nothing, and values that aren't such, are never reported as done.
+    // Words that ask for nothing are never reported as done.
     ensures words { job_for (map string_bytes words.now) ≡ None → result ≢ 0 }
-    ensures values { (job : AnyJob) (r : Refusal) → job_for (map string_bytes words.now) ≡ Some job → IsValueFault job r → result ≢ 0 }
-    ensures printed { (job : AnyJob) → job_for (map string_bytes words.now) ≡ Some job → result ≡ 0 → IsPrinted job (W.contents out.old) (W.contents out.new) }
-    ensures given { (job : AnyJob) → job_for (map string_bytes words.now) ≡ Some job → result ≡ 0 → machine.new.given ≡ given_by job machine.old.given }
-    ensures done { (job : AnyJob) → job_for (map string_bytes words.now) ≡ Some job → result ≡ 0
-        → IsDoneInFiles (image_at A.Start) job machine.old.closed.items machine.new.closed.items machine.old.copies.items machine.new.copies.items
-        (R.remaining reader.old) (R.remaining reader.new) (W.contents out.old) (W.contents out.new) }
+    // Their job was carried out; or the words weren't read, and nothing was done, printed or read.
+    ensures performed { (job : AnyJob) → job_for (map string_bytes words.now) ≡ Some job
+        → Ends result (λ outcome. IsPerformed (image_at A.Start) outcome machine.old machine.new (R.remaining reader.old) (R.remaining reader.new) (W.contents out.old) (W.contents out.new) job)
+        ⊎ ((result ≢ 0) × (machine.new ≡ machine.old) × (R.remaining reader.new ≡ R.remaining reader.old) × (W.contents out.new ≡ W.contents out.old)) }
 {
     match job_of(machine.runtime().alloc(), words) {
         Ok(job) => perform(machine, starts, &job, reader, out, err),

@@ -1,9 +1,12 @@
 //! What is reported on standard error, and exit statuses.
-ghost use Rattle.std.specs.Prelude.{◌≡◌, ◌≢◌, ◌++◌, OnOk, OnErr};
+ghost use Rattle.std.specs.Prelude.{◌≡◌, ◌≢◌, ◌++◌, IfOk, OnOk, OnErr};
 ghost use Rattle.std.specs.Io.KnownBytes.{Appends};
+ghost use Rattle.vault_core_model.specs.declared.reply.Reply.TheVariants.{Refused};
 ghost use Rattle.vault_io.specs.Begins.{Begins};
+ghost use Rattle.vaultctl_commands.specs.Printed.{printed};
 ghost use Rattle.vaultctl_perform.specs.Named as named;
 ghost use Rattle.vaultctl_perform.specs.Status as spec;
+ghost use Rattle.vaultctl_perform.specs.Status.{Ends};
 
 use std::alloc::Global;
 use std::io::{self, Write};
@@ -154,7 +157,7 @@ pub fn print_value<W: Write, E: Write>(
     out: &mut W,
     err: &mut E,
 ) -> u8
-    ensures { result ≡ 1 }
+    ensures { Ends result (λ outcome. IfOk outcome (λ stated. (stated ≡ Outcome.Refused) × Appends (W.contents out.old) (W.contents out.new) (printed (Refused refusal)))) }
 {
     match print_refusal(alloc, refusal, out) {
         Ok(_) => {

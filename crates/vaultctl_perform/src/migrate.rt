@@ -1,11 +1,13 @@
 //! The vault of an earlier version, copied into a new file.
-ghost use Rattle.std.specs.Prelude.{◌≡◌, ◌≢◌, IfOk, OnOk, Ok};
+ghost use Rattle.std.specs.Prelude.{◌≡◌, IfOk, Ok, OnOk, OnErr};
 ghost use Rattle.std.specs.Io.KnownBytes.{Appends};
 ghost use Rattle.sqlite_wal.specs.Files.{image_at};
 ghost use Rattle.vaultctl_machine.specs.Closings.{Copies};
 ghost use Rattle.vaultctl_machine.specs.VaultCounts.{with_copied};
 ghost use Rattle.vaultctl_machine.specs.Places.{after_a_look};
+ghost use Rattle.vaultctl_perform.specs.Done.{IsMigrated, IsUngiven};
 ghost use Rattle.vaultctl_perform.specs.Printed as spec;
+ghost use Rattle.vaultctl_perform.specs.Status.{Ends};
 
 use crate::messages::{print_cause, status};
 use sqlite::Start;
@@ -25,8 +27,9 @@ fn copy<A: Start, B: Start>(
     starts: Starts<A, B>,
 ) -> Result<(), OpenError>
     ensures looked { machine.new.looked ≡ after_a_look machine.old.looked }
-    ensures given { OnOk result (machine.new.given ≡ with_copied machine.old.given) }
-    ensures done { OnOk result (Copies (image_at A.Start) machine.old.closed.items machine.new.closed.items machine.old.copies.items machine.new.copies.items) }
+    ensures copied { OnOk result ((machine.new.given ≡ with_copied machine.old.given)
+        × Copies (image_at A.Start) machine.old.closed.items machine.new.closed.items machine.old.copies.items machine.new.copies.items) }
+    ensures none { OnErr result (IsUngiven machine.old machine.new) }
 {
     let migrated = machine.migrate(old, new, starts)?;
     machine.close_migrated(migrated);
@@ -43,8 +46,8 @@ fn print_done<W: Write>(out: &mut W) -> Result<Outcome, JobFault>
 
 /// Prints `migrated` of a vault that was copied, or names on `err` why it wasn't.
 fn print_copied<W: Write, E: Write>(copied: Result<(), OpenError>, out: &mut W, err: &mut E) -> u8
-    ensures migrated { result ≡ 0 → (copied ≡ Ok tt) × Appends (W.contents out.old) (W.contents out.new) spec.migrated_line }
-    ensures status { result ≢ 2 }
+    ensures { Ends result (λ outcome. OnOk copied (IfOk outcome (λ stated. (stated ≡ Outcome.Done) × Appends (W.contents out.old) (W.contents out.new) spec.migrated_line))
+        × OnErr copied ((outcome ≡ Ok Outcome.Refused) × (W.contents out.new ≡ W.contents out.old))) }
 {
     match copied {
         Ok(()) => status(err, "migrate", print_done(out)),
@@ -62,12 +65,7 @@ pub fn migrate<A: Start, B: Start, W: Write, E: Write>(
     err: &mut E,
 ) -> u8
     ensures looked { machine.new.looked ≡ after_a_look machine.old.looked }
-    // Status 0 says that the vault which was found in the old file was copied, no other opened or made, and `migrated`
-    // printed.
-    ensures given { result ≡ 0 → machine.new.given ≡ with_copied machine.old.given }
-    ensures done { result ≡ 0 → Copies (image_at A.Start) machine.old.closed.items machine.new.closed.items machine.old.copies.items machine.new.copies.items }
-    ensures printed { result ≡ 0 → Appends (W.contents out.old) (W.contents out.new) spec.migrated_line }
-    ensures status { result ≢ 2 }
+    ensures performed { Ends result (λ outcome. IsMigrated (image_at A.Start) outcome machine.old machine.new (W.contents out.old) (W.contents out.new)) }
 {
     let copied = copy(machine, old, new, starts);
     print_copied(copied, out, err)

@@ -1,6 +1,7 @@
 //! A script over a new vault in memory.
-ghost use Rattle.std.specs.Prelude.{◌≡◌, ◌≢◌, OnOk};
 ghost use Rattle.vaultctl_perform.specs.Replay.{AnswersFromNew};
+ghost use Rattle.vaultctl_perform.specs.Status.{Ends};
+ghost use Rattle.vaultctl_work.specs.Outcomes.{replayed};
 
 use crate::messages::print_fault;
 use std::alloc::Global;
@@ -16,7 +17,7 @@ fn answer_all<R: Read, W: Write, E: Write>(
     out: &mut W,
     err: &mut E,
 ) -> Result<(), ReplayFault>
-    ensures { OnOk result (AnswersFromNew (R.remaining reader.old) (R.remaining reader.new) (W.contents out.old) (W.contents out.new)) }
+    ensures { AnswersFromNew (replayed result) (R.remaining reader.old) (R.remaining reader.new) (W.contents out.old) (W.contents out.new) }
 {
     let Ok(mut keeper) = ListKeeper::new(alloc) else {
         return Err(ReplayFault::Memory);
@@ -32,8 +33,7 @@ pub fn from_new<R: Read, W: Write, E: Write>(
     out: &mut W,
     err: &mut E,
 ) -> u8
-    ensures replayed { result ≡ 0 → AnswersFromNew (R.remaining reader.old) (R.remaining reader.new) (W.contents out.old) (W.contents out.new) }
-    ensures status { result ≢ 2 }
+    ensures performed { Ends result (λ outcome. AnswersFromNew outcome (R.remaining reader.old) (R.remaining reader.new) (W.contents out.old) (W.contents out.new)) }
 {
     match answer_all(alloc, reader, out, err) {
         Ok(()) => 0,

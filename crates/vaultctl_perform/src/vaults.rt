@@ -1,5 +1,5 @@
 //! The vault in a file: it is opened, a job is done with it, and it is closed.
-ghost use Rattle.std.specs.Prelude.{◌≡◌, ◌≢◌, IfOk, Ok, OnOk};
+ghost use Rattle.std.specs.Prelude.{◌≡◌, ◌⊎◌, IfOk, OnOk, OnErr};
 ghost use Rattle.sqlite.specs.Files.{file_state, over_files};
 ghost use Rattle.sqlite.specs.State.{HasCleanDisk};
 ghost use Rattle.sqlite_wal.specs.Files.{image_at};
@@ -7,6 +7,8 @@ ghost use Rattle.vault_store.specs.VaultOf.{vault_of};
 ghost use Rattle.vaultctl_machine.specs.Closings.{Carries};
 ghost use Rattle.vaultctl_machine.specs.Files.{IsFoundIn};
 ghost use Rattle.vaultctl_machine.specs.VaultCounts.{with_opened};
+ghost use Rattle.vaultctl_perform.specs.Done.{IsCarriedOut, IsGiven, IsUngiven};
+ghost use Rattle.vaultctl_perform.specs.Status.{Ends};
 ghost use Rattle.vaultctl_work.specs.Scene.{scene};
 
 use crate::call::Task;
@@ -26,19 +28,30 @@ use vaultctl_work::work::{Work, work_with};
 /// A vault in files, which looks before each change whether they are still those that were opened.
 type WatchedVault<'a, S> = WatchedKeeper<FileVault<S>, OpenedFiles<'a>>;
 
+/// Closes a vault that was opened just now.
+pub fn close_found<A: Start, B: Start>(machine: &mut FileMachine<'_, A, B>, vault: FileVault<A>)
+    requires found { HasCleanDisk (file_state vault.conn) → IsFoundIn (image_at A.Start) (vault_of over_files vault) }
+    ensures given { machine.new.given ≡ machine.old.given }
+    ensures done { Carries (image_at A.Start) machine.old.closed.items machine.new.closed.items (λ v w. w ≡ v) }
+{
+    drop(machine.close(vault));
+}
+
 /// Watches the files of a vault, which was opened just now. Where one can't see them, the vault is closed.
 fn watch<'a, A: Start, B: Start>(
     machine: &mut FileMachine<'a, A, B>,
     file: &str,
     vault: FileVault<A>,
 ) -> Result<WatchedVault<'a, A>, OpenError>
+    requires found { HasCleanDisk (file_state vault.conn) → IsFoundIn (image_at A.Start) (vault_of over_files vault) }
     ensures machine { OnOk result (machine.new ≡ machine.old) }
     ensures below { IfOk result (λ it. it.keeper ≡ vault) }
+    ensures unseen { OnErr result ((machine.new.given ≡ machine.old.given) × Carries (image_at A.Start) machine.old.closed.items machine.new.closed.items (λ v w. w ≡ v)) }
 {
     match OpenedFiles::at(machine.runtime(), file) {
         Ok(files) => Ok(WatchedKeeper::new(vault, files)),
         Err(refusal) => {
-            drop(machine.close(vault));
+            close_found(machine, vault);
             Err(OpenError::Refused(refusal))
         }
     }
@@ -53,6 +66,7 @@ fn open_watched<'a, A: Start, B: Start>(
     ensures given { OnOk result (machine.new.given ≡ with_opened machine.old.given) }
     ensures closed { OnOk result (machine.new.closed ≡ machine.old.closed) }
     ensures found { IfOk result (λ it. HasCleanDisk (file_state it.keeper.conn) → IsFoundIn (image_at A.Start) (vault_of over_files it.keeper)) }
+    ensures unseen { OnErr result (IsUngiven machine.old machine.new ⊎ IsGiven (image_at A.Start) machine.old machine.new (λ v w. w ≡ v)) }
 {
     match machine.open(file, start) {
         Ok(vault) => watch(machine, file, vault),
@@ -109,13 +123,12 @@ pub fn in_vault<A: Start, B: Start, T: Work, R: Read, W: Write, E: Write>(
     out: &mut W,
     err: &mut E,
 ) -> u8
-    ensures printed { result ≡ 0 → T.prints (Ok Outcome.Done) (W.contents out.old) (W.contents out.new) }
-    // Status 0 says that a vault was opened, no other was made or copied, and of the vault that was found in the file it
-    // was done.
-    ensures given { result ≡ 0 → machine.new.given ≡ with_opened machine.old.given }
-    ensures done { result ≡ 0 → Carries (image_at A.Start) machine.old.closed.items machine.new.closed.items
-        (λ v w. T.does task.entry.work.now (scene v (R.remaining reader.old) (W.contents out.old)) (scene w (R.remaining reader.new) (W.contents out.new)) (Ok Outcome.Done)) }
-    ensures status { result ≢ 2 }
+    // Whatever comes of it: it was done with the vault that was found in the file, or that couldn't be opened or watched, and
+    // nothing was printed or read.
+    ensures performed { Ends result (λ outcome. IsCarriedOut (image_at A.Start) machine.old machine.new outcome
+        ((R.remaining reader.new ≡ R.remaining reader.old) × (W.contents out.new ≡ W.contents out.old))
+        (T.prints outcome (W.contents out.old) (W.contents out.new))
+        (λ v w. T.does task.entry.work.now (scene v (R.remaining reader.old) (W.contents out.old)) (scene w (R.remaining reader.new) (W.contents out.new)) outcome)) }
 {
     let Task { call, work } = task;
     match open_watched(machine, call.file, start) {

@@ -1,16 +1,14 @@
 //! Whether the vault in a file is sound.
-ghost use Rattle.std.specs.Prelude.{◌≡◌, ◌≢◌, IfOk, OnOk, Ok, string_bytes};
+ghost use Rattle.std.specs.Prelude.{◌≡◌, ◌⊎◌, IfOk, OnOk, OnErr, string_bytes};
 ghost use Rattle.std.specs.Io.KnownBytes.{Appends};
-ghost use Rattle.sqlite.specs.Files.{file_state, over_files};
-ghost use Rattle.sqlite.specs.State.{HasCleanDisk};
 ghost use Rattle.sqlite_wal.specs.Files.{image_at};
-ghost use Rattle.vault_store.specs.VaultOf.{vault_of};
-ghost use Rattle.vaultctl_machine.specs.Closings.{Carries};
-ghost use Rattle.vaultctl_machine.specs.Files.{IsFoundIn};
-ghost use Rattle.vaultctl_machine.specs.VaultCounts.{with_opened};
+ghost use Rattle.vault_base.specs.declared.refusal.Table.{Table as AnyTable};
+ghost use Rattle.vaultctl_perform.specs.Done.{IsGiven, IsUngiven, IsVerified};
 ghost use Rattle.vaultctl_perform.specs.Printed as spec;
+ghost use Rattle.vaultctl_perform.specs.Status.{Ends};
 
 use crate::messages::{print_cause, print_words, status};
+use crate::vaults::close_found;
 use sqlite::Start;
 use std::alloc::{AllocError, Global};
 use std::io::Write;
@@ -19,7 +17,7 @@ use vaultctl_commands::fault::JobFault;
 use vaultctl_commands::outcome::Outcome;
 use vaultctl_commands::printing::print;
 use vaultctl_machine::open_error::OpenError;
-use vaultctl_machine::vaults::{FileMachine, FileVault};
+use vaultctl_machine::vaults::FileMachine;
 
 /// The line that names a table which isn't sound. The error is out of memory.
 fn damaged_line(alloc: Global, table: Table) -> Result<String, AllocError>
@@ -59,7 +57,7 @@ fn print_unsound<W: Write, E: Write>(
     out: &mut W,
     err: &mut E,
 ) -> u8
-    ensures { result ≡ 1 }
+    ensures { Ends result (λ outcome. IfOk outcome (λ stated. (stated ≡ Outcome.Refused) × Appends (W.contents out.old) (W.contents out.new) (spec.damaged_line table))) }
 {
     let printed = print_damaged(alloc, table, out);
     let exit = status(err, "verify", printed);
@@ -74,7 +72,8 @@ fn print_refused<W: Write, E: Write>(
     out: &mut W,
     err: &mut E,
 ) -> u8
-    ensures { result ≡ 1 }
+    ensures { Ends result (λ outcome. IfOk outcome (λ stated. (stated ≡ Outcome.Refused)
+        × ((W.contents out.new ≡ W.contents out.old) ⊎ ((table : AnyTable) × Appends (W.contents out.old) (W.contents out.new) (spec.damaged_line table))))) }
 {
     match cause.refusal() {
         Refusal::Damaged(table) => print_unsound(alloc, table, cause, out, err),
@@ -89,22 +88,14 @@ fn print_opened<W: Write, E: Write>(
     out: &mut W,
     err: &mut E,
 ) -> u8
-    ensures sound { result ≡ 0 → (opened ≡ Ok tt) × Appends (W.contents out.old) (W.contents out.new) spec.sound_line }
-    ensures status { result ≢ 2 }
+    ensures { Ends result (λ outcome. OnOk opened (IfOk outcome (λ stated. (stated ≡ Outcome.Done) × Appends (W.contents out.old) (W.contents out.new) spec.sound_line))
+        × OnErr opened (IfOk outcome (λ stated. (stated ≡ Outcome.Refused)
+        × ((W.contents out.new ≡ W.contents out.old) ⊎ ((table : AnyTable) × Appends (W.contents out.old) (W.contents out.new) (spec.damaged_line table)))))) }
 {
     match opened {
         Ok(()) => status(err, "verify", print_sound(out)),
         Err(cause) => print_refused(alloc, cause, out, err),
     }
-}
-
-/// Closes a vault that was opened just now.
-fn close_found<A: Start, B: Start>(machine: &mut FileMachine<'_, A, B>, vault: FileVault<A>)
-    requires found { HasCleanDisk (file_state vault.conn) → IsFoundIn (image_at A.Start) (vault_of over_files vault) }
-    ensures given { machine.new.given ≡ machine.old.given }
-    ensures done { Carries (image_at A.Start) machine.old.closed.items machine.new.closed.items (λ v w. w ≡ v) }
-{
-    drop(machine.close(vault));
 }
 
 /// Opens the vault in a file and closes it.
@@ -113,8 +104,8 @@ fn look<A: Start, B: Start>(
     file: &str,
     start: A,
 ) -> Result<(), OpenError>
-    ensures given { OnOk result (machine.new.given ≡ with_opened machine.old.given) }
-    ensures done { OnOk result (Carries (image_at A.Start) machine.old.closed.items machine.new.closed.items (λ v w. w ≡ v)) }
+    ensures found { OnOk result (IsGiven (image_at A.Start) machine.old machine.new (λ v w. w ≡ v)) }
+    ensures none { OnErr result (IsUngiven machine.old machine.new) }
 {
     let vault = machine.open(file, start)?;
     close_found(machine, vault);
@@ -129,12 +120,7 @@ pub fn verify<A: Start, B: Start, W: Write, E: Write>(
     out: &mut W,
     err: &mut E,
 ) -> u8
-    // Status 0 says that the vault which was found in the file was opened and closed, no other was made or copied, and
-    // `sound` printed.
-    ensures given { result ≡ 0 → machine.new.given ≡ with_opened machine.old.given }
-    ensures done { result ≡ 0 → Carries (image_at A.Start) machine.old.closed.items machine.new.closed.items (λ v w. w ≡ v) }
-    ensures printed { result ≡ 0 → Appends (W.contents out.old) (W.contents out.new) spec.sound_line }
-    ensures status { result ≢ 2 }
+    ensures performed { Ends result (λ outcome. IsVerified (image_at A.Start) outcome machine.old machine.new (W.contents out.old) (W.contents out.new)) }
 {
     let opened = look(machine, file, start);
     print_opened(machine.runtime().alloc(), opened, out, err)

@@ -18,18 +18,7 @@ refused_anyway view (Ok x) said r gives is = let no : ⊥ = cc in absurd no
 refused_anyway view (Err Memory) said r gives is = tt
 refused_anyway view (Err (Refused f)) said r gives is = let same : r ≡ f = cc in ap Err same
 
-module _ (Failed : Type 0) (asked : AskedCommand) (v v' : Vault) (stated : Outcome) (before after : Option (List ℕ)) where
-  -- the reading that is given is the one that was taken
-  pub done_at : (given : Option ℕ) (at : ℕ) → ((t : ℕ) → given ≡ Some t → Some at ≡ Some t) → IsDone Failed at asked v v' stated before after → IsDoneAt Failed given asked v v' stated before after
-  done_at None at same d = inl (at, d)
-  done_at (Some t) at same d = subst (λ (o : Option ℕ). IsDoneAt Failed o asked v v' stated before after) (same t refl) d
-
-  -- no reading is taken where one is given
-  pub unread_at : (given : Option ℕ) → ((t : ℕ) → given ≡ Some t → None ≡ Some t) → IsUnread v v' stated before after → IsDoneAt Failed given asked v v' stated before after
-  unread_at None same u = inr u
-  unread_at (Some t) same u = absurd (subst (λ (o : Option ℕ). MatchOption o ⊤ (λ _. ⊥)) (same t refl) tt)
-
--- the same of what is said of the device
+-- what is said of the device
 module _ (Honest : Type 0) (asked : AskedCommand) (v v' : Vault) (n n' : ℕ) (result : Result Outcome JobFault) (before after : Option (List ℕ)) where
   pub steady_at : (given : Option ℕ) (at : ℕ) → ((t : ℕ) → given ≡ Some t → Some at ≡ Some t) → IsSteady Honest at asked v v' n n' result before after → IsSteadyAt Honest given asked v v' n n' result before after
   steady_at None at same s = inl (at, s)
@@ -39,12 +28,8 @@ module _ (Honest : Type 0) (asked : AskedCommand) (v v' : Vault) (n n' : ℕ) (r
   unread_steady_at None same u = inr u
   unread_steady_at (Some t) same u = absurd (subst (λ (o : Option ℕ). MatchOption o ⊤ (λ _. ⊥)) (same t refl) tt)
 
--- whatever is said of a device that failed may be left out
-module _ (Failed : Type 0) (asked : AskedCommand) (v v' : Vault) (stated : Outcome) (before after : Option (List ℕ)) where
-  plainly : (at : ℕ) → IsDone Failed at asked v v' stated before after → IsDone ⊤ at asked v v' stated before after
-  plainly at d = (d.0, d.1, d.2, d.3, λ _. tt)
-
-  pub done_plainly : (given : Option ℕ) → IsDoneAt Failed given asked v v' stated before after → IsDoneAt ⊤ given asked v v' stated before after
-  done_plainly (Some at) d = plainly at d
-  done_plainly None (inl d) = inl (d.0, plainly d.0 d.1)
-  done_plainly None (inr u) = inr u
+  -- where the device has returned what was written, that is what was done
+  pub done_honestly : Honest → (given : Option ℕ) → IsSteadyAt Honest given asked v v' n n' result before after → IsDoneAt given asked v v' result before after
+  done_honestly h (Some at) s = (s.0, s.1 h, s.2)
+  done_honestly h None (inl s) = inl (s.0, (s.1.0, s.1.1 h, s.1.2))
+  done_honestly h None (inr u) = inr u.1

@@ -40,7 +40,7 @@ done_stated before after (inl it) = it
 done_stated before after (inr (is, it)) = absurd (cc is)
 
 -- the reading that is given is the one that was taken
-pub taken_then : (asked : AskedIntake) (stated : Outcome) (v v' : Vault) (before after : Option (List ℕ)) (given : Option ℕ) (at : ℕ) → ((t : ℕ) → given ≡ Some t → Some at ≡ Some t)
-    → IsTakenInAt at asked stated v v' before after → IsTakenInThen given asked stated v v' before after
-taken_then asked stated v v' before after None at same it = (at, it)
-taken_then asked stated v v' before after (Some t) at same it = subst (λ (o : Option ℕ). IsTakenInThen o asked stated v v' before after) (same t refl) it
+pub taken_then : (asked : AskedIntake) (outcome : Result Outcome JobFault) (v v' : Vault) (before after : Option (List ℕ)) (given : Option ℕ) (at : ℕ) → ((t : ℕ) → given ≡ Some t → Some at ≡ Some t)
+    → IsTakenInAt at asked outcome v v' before after → IsTakenInThen given asked outcome v v' before after
+taken_then asked outcome v v' before after None at same it = (at, it)
+taken_then asked outcome v v' before after (Some t) at same it = subst (λ (o : Option ℕ). IsTakenInThen o asked outcome v v' before after) (same t refl) it

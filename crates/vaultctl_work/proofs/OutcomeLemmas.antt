@@ -1,16 +1,9 @@
 -- On what came of a job, by what its parts answer.
 use Rattle.std.proofs.Common.{◌≡◌, Bool, true, false, Result, Ok, Err}
-use Rattle.std.specs.Prelude.{OnOk}
 use Rattle.vaultctl_commands.specs.declared.fault.JobFault.{JobFault}
 use Rattle.vaultctl_commands.specs.declared.outcome.Outcome.{Outcome}
 use Rattle.vaultctl_commands.specs.declared.outcome.Outcome.TheVariants.{Done}
-use Rattle.vaultctl_replay.specs.declared.fault.ReplayFault.{ReplayFault}
-use Rattle.vaultctl_work.specs.Outcomes.{replayed, with_journal}
-
--- what holds where a script was answered holds where the job was done
-pub where_replayed : (P : Type 0) (answered : Result (Unit {0}) ReplayFault) → OnOk answered P → OnOk (replayed answered) P
-where_replayed P (Ok done) p = p
-where_replayed P (Err fault) p = tt
+use Rattle.vaultctl_work.specs.Outcomes.{with_journal}
 
 -- a server whose journal doesn't go on isn't done
 pub not_done : (goes_on : Bool) (ended : Result Outcome JobFault) → goes_on ≡ false → with_journal goes_on ended ≡ Ok Done → ⊥

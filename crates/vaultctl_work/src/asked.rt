@@ -1,11 +1,10 @@
 //! One command: the reading, then the step, then what is printed of the reply.
-ghost use Rattle.std.specs.Prelude.{◌≡◌, ◌≢◌, ℕ, IfOk, Err, Some, ⊤};
-ghost use Rattle.vault_core_model.specs.Leaves.{RoseOrIsFull};
+ghost use Rattle.std.specs.Prelude.{◌≡◌, ◌≢◌, ℕ, IfOk, Err, Some};
 ghost use Rattle.vault_core_model.specs.LeavesMany.{LeavesSteady};
 ghost use Rattle.vault_core_model.specs.Step.{Reached};
 ghost use Rattle.vaultctl_commands.specs.Printed.{PrintsReply};
 ghost use Rattle.vaultctl_work.specs.Asked as spec;
-ghost use Rattle.vaultctl_work.specs.Done.{IsStepDone};
+ghost use Rattle.vaultctl_work.specs.Asked.{IsDoneAt};
 ghost use Rattle.vaultctl_work.specs.Printed.{PrintsAsked};
 
 use crate::saying::say;
@@ -68,12 +67,10 @@ fn carry_out_asked<C: Clock, K: Keeper, W: Write, E: Write>(
     out: &mut W,
     err: &mut E,
 ) -> Result<Outcome, JobFault>
-    // It is one step, by the caller who asks and at the reading that is given, and what is printed is the reply to it.
-    ensures done { K.is_honest keeper.new → IfOk result (λ stated. spec.IsDoneAt (RoseOrIsFull (K.count keeper.old) (K.count keeper.new))
-        asked.now.at asked.now (K.vault keeper.old) (K.vault keeper.new) stated (W.contents out.old) (W.contents out.new)) }
     // Whatever the device does, what is answered is what the printed reply says.
     ensures printed { IfOk result (λ stated. PrintsReply stated (W.contents out.old) (W.contents out.new)) }
-    // And that the device failed is reported just where it did, whatever it does.
+    // It is one step, by the caller who asks and at the reading that is given, and what is printed is the reply to it. That
+    // the device failed is reported just where it did, whatever it does.
     ensures leaves { LeavesSteady K.Kept keeper.old keeper.new (spec.IsSteadyAt (K.is_honest keeper.new) asked.now.at asked.now (K.vault keeper.old) (K.vault keeper.new)
         (K.count keeper.old) (K.count keeper.new) result (W.contents out.old) (W.contents out.new)) }
     ensures reached { K.is_honest keeper.new → Reached (K.vault keeper.old) → Reached (K.vault keeper.new) }
@@ -92,7 +89,7 @@ fn carry_out_asked<C: Clock, K: Keeper, W: Write, E: Write>(
 impl Work for AskedCommand {
     ghost prints = { PrintsAsked };
 
-    ghost does = { λ asked old new result. IfOk result (λ stated. IsStepDone asked stated old.vault new.vault old.output new.output) };
+    ghost does = { λ asked old new result. IsDoneAt asked.at asked old.vault new.vault result old.output new.output };
 
     /// On a terminal a run says how far it has come.
     fn terminal(&self, rt: &HostRuntime) -> Option<Stderr> {

@@ -1,6 +1,6 @@
 //! What a vault shows to somebody who doesn't trust the machine: its events, a seal over them, and whether it is
 //! lawful.
-ghost use Rattle.std.specs.Prelude.{◌≡◌, ⊤, IfOk};
+ghost use Rattle.std.specs.Prelude.{◌≡◌, ⊤};
 ghost use Rattle.vaultctl_work.specs.Done.{IsJudgedDone, IsSealDone};
 ghost use Rattle.vaultctl_work.specs.Printed.{PrintsSealed, PrintsJudged};
 
@@ -41,7 +41,7 @@ impl Work for AskedEvents {
 impl Work for AskedSeal {
     ghost prints = { PrintsSealed };
 
-    ghost does = { λ asked old new result. IfOk result (λ stated. IsSealDone asked stated old.vault new.vault old.output new.output) };
+    ghost does = { λ asked old new result. IsSealDone asked result old.vault new.vault old.output new.output };
 
     fn terminal(&self, rt: &HostRuntime) -> Option<Stderr> {
         terminal(rt)
@@ -62,7 +62,7 @@ impl Work for AskedSeal {
 impl Work for LawfulJob {
     ghost prints = { PrintsJudged };
 
-    ghost does = { λ job old new result. IfOk result (λ stated. IsJudgedDone stated old.vault new.vault old.output new.output) };
+    ghost does = { λ job old new result. IsJudgedDone result old.vault new.vault old.output new.output };
 
     fn terminal(&self, rt: &HostRuntime) -> Option<Stderr> {
         terminal(rt)

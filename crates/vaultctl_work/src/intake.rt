@@ -50,7 +50,7 @@ fn take_in_at<'a, K: Keeper, W: Write, E: Write>(
     ensures printed { IfOk result (λ stated. PrintsRows stated (W.contents out.old) (W.contents out.new)) }
     ensures leaves { LeavesSteady K.Kept keeper.old keeper.new (IsIntakeSteady (K.count keeper.old) (K.count keeper.new) result (W.contents out.old) (W.contents out.new)) }
     ensures done { K.is_honest keeper.new
-        → IfOk result (λ stated. IsTakenInAt intake.entry.at intake.entry.asked.now stated (K.vault keeper.old) (K.vault keeper.new) (W.contents out.old) (W.contents out.new)) }
+        → IsTakenInAt intake.entry.at intake.entry.asked.now result (K.vault keeper.old) (K.vault keeper.new) (W.contents out.old) (W.contents out.new) }
     ensures reached { K.is_honest keeper.new → Reached (K.vault keeper.old) → Reached (K.vault keeper.new) }
     ensures reader { result ≢ Err JobFault.Read }
     ensures device { result ≢ Err JobFault.Device }
@@ -85,7 +85,7 @@ fn take_in_read<K: Keeper, W: Write, E: Write>(
     ensures printed { IfOk result (λ stated. PrintsRows stated (W.contents out.old) (W.contents out.new)) }
     // That the vault's device failed is reported where it did.
     ensures leaves { LeavesSteady K.Kept keeper.old keeper.new (IsIntakeSteady (K.count keeper.old) (K.count keeper.new) result (W.contents out.old) (W.contents out.new)) }
-    ensures done { K.is_honest keeper.new → IfOk result (λ stated. IsIntakeDone asked.now stated (K.vault keeper.old) (K.vault keeper.new) (W.contents out.old) (W.contents out.new)) }
+    ensures done { K.is_honest keeper.new → IsIntakeDone asked.now result (K.vault keeper.old) (K.vault keeper.new) (W.contents out.old) (W.contents out.new) }
     ensures reached { K.is_honest keeper.new → Reached (K.vault keeper.old) → Reached (K.vault keeper.new) }
     ensures reader { result ≢ Err JobFault.Read }
     ensures device { result ≢ Err JobFault.Device }
@@ -131,7 +131,7 @@ fn take_in_list<K: Keeper, W: Write, E: Write>(
 ) -> Result<Outcome, JobFault>
     ensures printed { IfOk result (λ stated. PrintsRows stated (W.contents out.old) (W.contents out.new)) }
     ensures leaves { LeavesSteady K.Kept keeper.old keeper.new (IsIntakeSteady (K.count keeper.old) (K.count keeper.new) result (W.contents out.old) (W.contents out.new)) }
-    ensures done { K.is_honest keeper.new → IfOk result (λ stated. IsIntakeDone asked.now stated (K.vault keeper.old) (K.vault keeper.new) (W.contents out.old) (W.contents out.new)) }
+    ensures done { K.is_honest keeper.new → IsIntakeDone asked.now result (K.vault keeper.old) (K.vault keeper.new) (W.contents out.old) (W.contents out.new) }
     ensures reached { K.is_honest keeper.new → Reached (K.vault keeper.old) → Reached (K.vault keeper.new) }
     ensures reader { result ≢ Err JobFault.Read }
     ensures device { result ≢ Err JobFault.Device }
@@ -159,7 +159,7 @@ pub struct Intake<'a> {
 impl Work for Intake<'_> {
     ghost prints = { PrintsTakenIn };
 
-    ghost does = { λ intake old new result. IfOk result (λ stated. IsIntakeDone intake.asked stated old.vault new.vault old.output new.output) };
+    ghost does = { λ intake old new result. IsIntakeDone intake.asked result old.vault new.vault old.output new.output };
 
     fn terminal(&self, _rt: &HostRuntime) -> Option<Stderr> {
         None

@@ -1,5 +1,5 @@
 //! A register, and a script.
-ghost use Rattle.std.specs.Prelude.{◌≡◌, ⊤, OnOk};
+ghost use Rattle.std.specs.Prelude.{◌≡◌, ⊤};
 ghost use Rattle.vaultctl_work.specs.Done.{IsAnswered};
 ghost use Rattle.vaultctl_work.specs.Outcomes as spec;
 
@@ -75,7 +75,7 @@ fn replayed(answered: Result<(), ReplayFault>) -> Result<Outcome, JobFault>
 impl Work for ReplayJob {
     ghost prints = { λ outcome before after. ⊤ };
 
-    ghost does = { λ job old new result. OnOk result (IsAnswered old new) };
+    ghost does = { λ job old new result. IsAnswered result old new };
 
     fn terminal(&self, _rt: &HostRuntime) -> Option<Stderr> {
         None

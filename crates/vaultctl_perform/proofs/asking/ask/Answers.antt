@@ -1,9 +1,12 @@
 use Rattle.vaultctl_commands.specs.declared.asked.AskedCommand.{AskedCommand}
-use Rattle.vaultctl_perform.proofs.DoneLemmas.{done_as_said}
+use Rattle.sqlite_wal.specs.Files.{image_at}
+use Rattle.vaultctl_perform.proofs.DoneLemmas.{as_said, carried_as}
 use Rattle.vaultctl_perform.proofs.asking.ask.Goals as goal
 
-pub returns-clause-printed : goal.returns-clause-printed
-returns-clause-printed g c = λ z. (c.ask_read.ensures.printed z).0
-
-pub returns-clause-done : goal.returns-clause-done
-returns-clause-done g c = λ said gives z. done_as_said _ (λ (x : AskedCommand). x) _ _ _ _ c.args.asked said gives (c.ask_read.ensures.done z) (λ x v w did. did.2)
+pub returns : goal.returns
+returns g c =
+    let it = c.ask_read.ensures.performed in
+    record {
+      performed = λ said gives. (it.0, it.1, as_said _ _ it.0 _ _ (λ (x : AskedCommand). x) c.args.asked said _ _ gives it.2
+      (λ x. carried_as (image_at g.A.Start) _ _ it.0 _ _ _ _ _ _ (λ same. same) (λ printed. printed.0) (λ v w did. did.2)));
+    }

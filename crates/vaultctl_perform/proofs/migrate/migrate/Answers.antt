@@ -1,8 +1,7 @@
-use Rattle.vaultctl_perform.proofs.StatusLemmas.{holds_of_done}
+use Rattle.vaultctl_perform.proofs.StatusLemmas.{either_way}
 use Rattle.vaultctl_perform.proofs.migrate.migrate.Goals as goal
 
-pub returns-clause-given : goal.returns-clause-given
-returns-clause-given g c = λ z. holds_of_done _ c.copy-copied.result (c.print_copied.ensures.migrated z).0 c.copy-copied.ensures.given
-
-pub returns-clause-done : goal.returns-clause-done
-returns-clause-done g c = λ z. holds_of_done _ c.copy-copied.result (c.print_copied.ensures.migrated z).0 c.copy-copied.ensures.done
+pub returns-clause-performed : goal.returns-clause-performed
+returns-clause-performed g c =
+    let it = c.print_copied.ensures in
+    (it.0, it.1, either_way _ _ _ _ c.copy-copied.result c.copy-copied.ensures.copied c.copy-copied.ensures.none it.2.0 it.2.1)

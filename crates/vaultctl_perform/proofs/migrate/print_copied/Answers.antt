@@ -1,10 +1,9 @@
-use Rattle.std.proofs.Common.{◌≡◌, sym, ◌∙◌}
-use Rattle.std.specs.Io.KnownBytes.{Appends}
-use Rattle.vaultctl_commands.specs.declared.outcome.Outcome.TheVariants.{Done}
-use Rattle.vaultctl_perform.specs.Printed.{migrated_line}
-use Rattle.vaultctl_perform.proofs.StatusLemmas.{done_at_zero}
+use Rattle.std.proofs.Common.{Ok, refl}
+use Rattle.vaultctl_commands.specs.declared.outcome.Outcome.TheVariants.{Refused}
 use Rattle.vaultctl_perform.proofs.migrate.print_copied.Goals as goal
 
-pub returns-in-Ok-clause-migrated : goal.returns-in-Ok-clause-migrated
-returns-in-Ok-clause-migrated g c = λ z.
-    (c.in-Ok.is, (done_at_zero (λ stated. (stated ≡ Done) × Appends _ _ migrated_line) c.print_done.result c.print_done.ensures (sym c.status.ensures.outcome ∙ z)).1)
+pub returns-in-Ok : goal.returns-in-Ok
+returns-in-Ok g c = rw c.in-Ok.is (c.print_done.result, c.status.ensures.outcome, (c.print_done.ensures, tt))
+
+pub returns-in-Err : goal.returns-in-Err
+returns-in-Err g c = rw c.in-Err.is (Ok Refused, c.print_cause.ensures, (tt, (refl, refl)))

@@ -1,18 +1,23 @@
-use Rattle.std.proofs.Common.{subst}
-use Rattle.std.proofs.lemmas.Result.{on_ok_weaker}
+use Rattle.std.proofs.Common.{inl, inr, refl, subst}
 use Rattle.vault_core_model.specs.Sound.{Sound}
 use Rattle.vault_core_model.specs.Vault.{Vault}
-use Rattle.vaultctl_replay.specs.Runs.{AnswersAll}
-use Rattle.vaultctl_work.proofs.HonestLemmas.{all_of}
+use Rattle.vaultctl_work.proofs.HonestLemmas.{answered_by}
+use Rattle.vaultctl_work.specs.Done.{IsScriptAnswered}
+use Rattle.vaultctl_work.specs.Outcomes.{replayed}
+use Rattle.vaultctl_work.specs.Scene.{scene}
 use Rattle.vaultctl_perform.proofs.replay.answer_all.Goals as goal
 
 pub returns : goal.returns
 returns g c =
+    let input = g.R.Read.remaining c.args.reader.now in
     let before = g.W.Write.contents c.args.out.now in
-    let after = g.W.Write.contents c.replay_observed.new.writer in
     let last = c.replay_observed.new.keeper in
-    on_ok_weaker c.replay_observed.result
-    (λ s.
-    let P : Vault → Type 0 = λ v. AnswersAll (Unit {0}) v 0 before s.0 last 0 after in
-    (s.0, s.1, s.2, (last, subst P c.in-Ok.ensures (all_of (Sound last) (subst Sound c.keeper.view_is c.keeper.invariant) _ last 0 0 before after s.0 s.3))))
-    c.replay_observed.ensures.ok
+    let new = scene last (g.R.Read.remaining c.replay_observed.new.reader) (g.W.Write.contents c.replay_observed.new.writer) in
+    let answered = c.replay_observed.ensures in
+    let P : Vault → Type 0 = λ v. IsScriptAnswered 0 0 (replayed c.replay_observed.result) (scene v input before) new in
+    inl (last, subst P c.in-Ok.ensures
+    (answered_by (Sound last) (subst Sound c.keeper.view_is c.keeper.invariant) (scene _ input before) new 0 0 c.replay_observed.result answered.ok answered.err answered.read))
+
+-- memory for the vault was refused
+pub returns-in_default : goal.returns-in_default
+returns-in_default g c = inr (refl, refl, refl)

@@ -1,10 +1,9 @@
-use Rattle.std.proofs.Common.{◌≡◌, sym, ◌∙◌}
-use Rattle.std.specs.Io.KnownBytes.{Appends}
-use Rattle.vaultctl_commands.specs.declared.outcome.Outcome.TheVariants.{Done}
-use Rattle.vaultctl_perform.specs.Printed.{sound_line}
-use Rattle.vaultctl_perform.proofs.StatusLemmas.{done_at_zero}
 use Rattle.vaultctl_perform.proofs.verify.print_opened.Goals as goal
 
-pub returns-in-Ok-clause-sound : goal.returns-in-Ok-clause-sound
-returns-in-Ok-clause-sound g c = λ z.
-    (c.in-Ok.is, (done_at_zero (λ stated. (stated ≡ Done) × Appends _ _ sound_line) c.print_sound.result c.print_sound.ensures (sym c.status.ensures.outcome ∙ z)).1)
+pub returns-in-Ok : goal.returns-in-Ok
+returns-in-Ok g c = rw c.in-Ok.is (c.print_sound.result, c.status.ensures.outcome, (c.print_sound.ensures, tt))
+
+pub returns-in-Err : goal.returns-in-Err
+returns-in-Err g c =
+    let it = c.print_refused.ensures in
+    rw c.in-Err.is (it.0, it.1, (tt, it.2))

@@ -13,4 +13,6 @@ pub returns-clause-printed : goal.returns-clause-printed
 returns-clause-printed g c = IfOk-weaker c.take_in_and_print-stated.result.0 _ _ (λ stated it. inl it) c.take_in_and_print-stated.ensures.printed
 
 pub returns-clause-done : goal.returns-clause-done
-returns-clause-done g c = λ h. IfOk-weaker c.take_in_and_print-stated.result.0 _ _ (λ stated it. (None, c.args.intake.list.now, it)) (c.take_in_and_print-stated.ensures.ok h)
+returns-clause-done g c = λ h.
+    let s = c.take_in_and_print-stated.ensures.leaves.steady in
+    (None, c.args.intake.list.now, s.0, s.1, s.2 h, s.3)

@@ -10,8 +10,7 @@ pub returns-in_default-clause-printed : goal.returns-in_default-clause-printed
 returns-in_default-clause-printed g c = IfOk-weaker c.print_refusal-refused.result _ _ (λ stated it. refusal_stated _ stated _ _ it) c.print_refusal-refused.ensures.ok
 
 pub returns-in_default-clause-done : goal.returns-in_default-clause-done
-returns-in_default-clause-done g c = λ h. IfOk-weaker c.print_refusal-refused.result _ _ (λ stated it. inr (it.0, refl)) c.print_refusal-refused.ensures.ok
+returns-in_default-clause-done g c = λ h. inr (IfOk-weaker c.print_refusal-refused.result _ _ (λ stated it. it.0) c.print_refusal-refused.ensures.ok, refl)
 
 pub returns-clause-done : goal.returns-clause-done
-returns-clause-done g c = λ h.
-    IfOk-weaker c.take_in_at.result _ _ (λ stated it. inl (taken_then c.args.asked.now stated _ _ _ _ c.args.asked.now.at c.in-Some.at c.in-Some.ensures it)) (c.take_in_at.ensures.done h)
+returns-clause-done g c = λ h. inl (taken_then c.args.asked.now c.take_in_at.result _ _ _ _ c.args.asked.now.at c.in-Some.at c.in-Some.ensures (c.take_in_at.ensures.done h))
