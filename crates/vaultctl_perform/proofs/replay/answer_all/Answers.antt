@@ -15,8 +15,11 @@ returns g c =
     let new = scene last (g.R.Read.remaining c.replay_observed.new.reader) (g.W.Write.contents c.replay_observed.new.writer) in
     let answered = c.replay_observed.ensures in
     let P : Vault → Type 0 = λ v. IsScriptAnswered 0 0 (replayed c.replay_observed.result) (scene v input before) new in
-    inl (last, subst P c.in-Ok.ensures
-    (answered_by (Sound last) (subst Sound c.keeper.view_is c.keeper.invariant) (scene _ input before) new 0 0 c.replay_observed.result answered.ok answered.err answered.read))
+    inl (
+      last,
+      subst P c.in-Ok.ensures
+          (answered_by (Sound last) (subst Sound c.keeper.view_is c.keeper.invariant) (scene _ input before) new 0 0 c.replay_observed.result answered.ok answered.err answered.read),
+    )
 
 -- memory for the vault was refused
 pub returns-in_default : goal.returns-in_default

@@ -7,8 +7,11 @@ pub returns-in-Ok : goal.returns-in-Ok
 returns-in-Ok g c =
     let done = c.with_vault-outcome.ensures in
     record {
-      performed = (c.with_vault-outcome.result, c.status-ended.ensures.outcome,
-      inr (done.printed, (done.given ∙ c.in-Ok.ensures.given, carries_from _ _ _ _ _ done.done (along c.in-Ok.ensures.closed (λ l. l.items)))));
+      performed = (
+        c.with_vault-outcome.result,
+        c.status-ended.ensures.outcome,
+        inr (done.printed, (done.given ∙ c.in-Ok.ensures.given, carries_from _ _ _ _ _ done.done (along c.in-Ok.ensures.closed (λ l. l.items)))),
+      );
     }
 
 pub returns-in-Err : goal.returns-in-Err
