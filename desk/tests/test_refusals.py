@@ -15,8 +15,9 @@ from vaultdesk.remedies import COMMANDS, DENIALS, FORMS, OPTIONS, WORDS
 from vaultdesk.s3.faults import of_refusal
 
 EXAMPLES = Path(__file__).resolve().parents[2] / "examples"
-# Refusals that no line of the desk can have: of a file that is opened, and of requests by HTTP.
-ELSEWHERE = {"Damaged", "MissingContentLength", "NotImplemented"}
+# Refusals that no line of the desk can have: of a file that is opened, and of requests by HTTP. And the first words of
+# rows that are no refusals by name: stopped runs, and words for lines of a script.
+ELSEWHERE = {"Damaged", "MissingContentLength", "NotImplemented", "line", "stopped"}
 INVALID = {"code": "InvalidArgument", "n": 10}
 # A command that is refused by a value, and what is said of it.
 MISTAKES = (
