@@ -8,16 +8,15 @@ pub returns-in-Ok : goal.returns-in-Ok
 returns-in-Ok g c =
     let it = c.in_vault.ensures.performed in
     record {
-      performed = (it.0, it.1, read_ok _ _ it.0 _ _ c.args.asked.now _ c.in-Ok.is (carried_as (image_at g.A.Start) _ _ it.0 _ _ _ _ _ _ (λ same. same.1) (λ printed. printed) (λ v w did. (_, _, did)) it.2));
+      performed = (
+        it.0,
+        it.1,
+        read_ok c.args.machine.now c.in_vault.new.machine it.0 _ _ c.args.asked.now _ c.in-Ok.is
+            (carried_as (image_at g.A.Start) c.args.machine.now c.in_vault.new.machine it.0 _ _ _ _ _ _ (λ same. same.1) (λ printed. printed) (λ v w did. (_, _, did)) it.2),
+      );
     }
 
 pub returns-in-Err-Memory : goal.returns-in-Err-Memory
 returns-in-Err-Memory g c =
     let e = rw c.in-Err-Memory.is at c.in-Err-Memory.field-0-is in
     record { performed = rw (c.in-Err-Memory.is, e) (Err Memory, c.print_fault.ensures.status, (refl, refl, refl)) }
-
-pub returns-in-Err-Refused : goal.returns-in-Err-Refused
-returns-in-Err-Refused g c =
-    let e = rw c.in-Err-Refused.is at c.in-Err-Refused.field-0-is in
-    let it = c.print_value.ensures in
-    record { performed = rw (c.in-Err-Refused.is, e) (it.0, it.1, (refl, it.2)) }
