@@ -44,34 +44,24 @@ pub returns-in-Events : goal.returns-in-Events
 returns-in-Events g c =
     let it = c.ask_read.ensures.performed in
     record {
-<<<<<<< HEAD
       performed = rw c.in-Events.is (
         it.0,
         it.1,
-        as_said _ _ it.0 _ _ (λ (x : AskedEvents). x) c.events.result _ _ _ c.events.ensures it.2
-            (λ x. carried_as (image_at g.A.Start) _ _ it.0 _ _ _ _ _ _ (λ same. same) (λ printed. printed) (λ v w did. did.2)),
+        as_said c.args.machine.now c.ask_read.new.machine it.0 _ _ (λ (x : AskedEvents). x) c.events.result _ _ _ c.events.ensures it.2
+            (λ x. carried_as (image_at g.A.Start) c.args.machine.now c.ask_read.new.machine it.0 _ _ _ _ _ _ (λ same. same) (λ printed. printed) (λ v w did. did.2)),
       );
-=======
-      performed = rw c.in-Events.is (it.0, it.1, as_said c.args.machine.now c.ask_read.new.machine it.0 _ _ (λ (x : AskedEvents). x) c.events.result _ _ _ c.events.ensures it.2
-      (λ x. carried_as (image_at g.A.Start) c.args.machine.now c.ask_read.new.machine it.0 _ _ _ _ _ _ (λ same. same) (λ printed. printed) (λ v w did. did.2)));
->>>>>>> b0934ce03457141670907decc871806c08215ce6
     }
 
 pub returns-in-Seal : goal.returns-in-Seal
 returns-in-Seal g c =
     let it = c.ask_read-in-Seal.ensures.performed in
     record {
-<<<<<<< HEAD
       performed = rw c.in-Seal.is (
         it.0,
         it.1,
-        as_said _ _ it.0 _ _ (λ (x : AskedSeal). x) c.seal.result _ _ _ c.seal.ensures it.2
-            (λ x. carried_as (image_at g.A.Start) _ _ it.0 _ _ _ _ _ _ (λ same. same) (λ printed. printed) (λ v w did. did.2)),
+        as_said c.args.machine.now c.ask_read-in-Seal.new.machine it.0 _ _ (λ (x : AskedSeal). x) c.seal.result _ _ _ c.seal.ensures it.2
+            (λ x. carried_as (image_at g.A.Start) c.args.machine.now c.ask_read-in-Seal.new.machine it.0 _ _ _ _ _ _ (λ same. same) (λ printed. printed) (λ v w did. did.2)),
       );
-=======
-      performed = rw c.in-Seal.is (it.0, it.1, as_said c.args.machine.now c.ask_read-in-Seal.new.machine it.0 _ _ (λ (x : AskedSeal). x) c.seal.result _ _ _ c.seal.ensures it.2
-      (λ x. carried_as (image_at g.A.Start) c.args.machine.now c.ask_read-in-Seal.new.machine it.0 _ _ _ _ _ _ (λ same. same) (λ printed. printed) (λ v w did. did.2)));
->>>>>>> b0934ce03457141670907decc871806c08215ce6
     }
 
 pub returns-in-Lawful : goal.returns-in-Lawful

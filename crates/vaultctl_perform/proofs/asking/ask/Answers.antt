@@ -7,15 +7,10 @@ pub returns : goal.returns
 returns g c =
     let it = c.ask_read.ensures.performed in
     record {
-<<<<<<< HEAD
       performed = λ said gives. (
         it.0,
         it.1,
-        as_said _ _ it.0 _ _ (λ (x : AskedCommand). x) c.args.asked said _ _ gives it.2
-            (λ x. carried_as (image_at g.A.Start) _ _ it.0 _ _ _ _ _ _ (λ same. same) (λ printed. printed.0) (λ v w did. did.2)),
+        as_said c.args.machine.now c.ask_read.new.machine it.0 _ _ (λ (x : AskedCommand). x) c.args.asked said _ _ gives it.2
+            (λ x. carried_as (image_at g.A.Start) c.args.machine.now c.ask_read.new.machine it.0 _ _ _ _ _ _ (λ same. same) (λ printed. printed.0) (λ v w did. did.2)),
       );
-=======
-      performed = λ said gives. (it.0, it.1, as_said c.args.machine.now c.ask_read.new.machine it.0 _ _ (λ (x : AskedCommand). x) c.args.asked said _ _ gives it.2
-      (λ x. carried_as (image_at g.A.Start) c.args.machine.now c.ask_read.new.machine it.0 _ _ _ _ _ _ (λ same. same) (λ printed. printed.0) (λ v w did. did.2)));
->>>>>>> b0934ce03457141670907decc871806c08215ce6
     }
