@@ -1,4 +1,4 @@
-use Rattle.std.proofs.Common.{◌≡◌, ◌∙◌, inl, inr, refl, sym}
+use Rattle.std.proofs.Common.{◌≡◌, ◌∙◌, inl, sym}
 use Rattle.vaultctl_perform.proofs.StatusLemmas.{never_two}
 use Rattle.vaultctl_perform.proofs.answer_words.Goals as goal
 

@@ -1,4 +1,4 @@
-use Rattle.std.proofs.Common.{◌∙◌, ap, inl, inr}
+use Rattle.std.proofs.Common.{◌∙◌, inl, inr}
 use Rattle.std.proofs.lemmas.Result.{IfOk-weaker, on_err_weaker}
 use Rattle.vaultctl_perform.proofs.DoneLemmas.{along, carries_from, found_still}
 use Rattle.vaultctl_perform.proofs.vaults.open_watched.Goals as goal
