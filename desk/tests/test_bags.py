@@ -263,7 +263,7 @@ class Delivered(BagTest):
         self.done("export", "docs", str(self.bag), "--bagit", "--names")
         rows = self.listed()
         self.assertEqual({key: (self.bag / "data" / it["file"]).read_text() for key, it in rows.items()}, MANY)
-        # Those that every system tells apart are named by their keys.
+        # A key that every file system keeps apart from the others is the name of its file.
         self.assertEqual(sorted(key for key, it in rows.items() if it["file"] != key), ["\u00e4.txt"])
         if shutil.which("sha256sum"):
             words = ["sha256sum", "--check", "--strict", "--quiet", "manifest-sha256.txt", "tagmanifest-sha256.txt"]

@@ -150,7 +150,7 @@ BREAKS: list[tuple[str, Callable[[ET.Element], object], str]] = [
 
 
 def below(it: ET.Element, name: str) -> str:
-    """The text of the first element of PREMIS of that name below another one; empty where there is none."""
+    """The text of the first PREMIS element of that name in an element, or the empty text."""
     return it.findtext(f".//{of_premis(name)}") or ""
 
 

@@ -27,7 +27,7 @@ in front of it speaks TLS then, without which browsers send no cookie back, but 
 the set-up."""
 THREADS = 144  # requests at once, of which logins take COMING at most
 CONNECTIONS = 1_000
-DESCRIPTORS = 4_096  # which so many connections take, where each is handed on
+DESCRIPTORS = 4_096  # open files: enough for CONNECTIONS, each of which TLS hands on to another
 
 
 def _door(desk: config.Desk) -> str:
