@@ -54,8 +54,8 @@ def exchange(one: Path, other: Path) -> None:
 
 
 def overwrite(path: Path) -> None:
-    """Overwrites a file with zeros, on the disk, and removes it. Of a link, and of a file that has another name too, the
-    name alone is removed. `OSError` where that fails."""
+    """Overwrites a file with zeros, on the disk, and removes it. Of a link, and of a file that has another name too,
+    the name alone is removed. `OSError` where that fails."""
     if not path.is_symlink():
         descriptor = os.open(path, os.O_WRONLY | os.O_NOFOLLOW)
         try:

@@ -46,7 +46,8 @@ def is_taken(file: Path) -> bool:
 
 @contextmanager
 def kept_still(file: Path) -> Iterator[None]:
-    """No program opens the vault, but for SQLite's readers, until the `with` block ends. `EngineError` where one has it."""
+    """No engine opens the vault within the `with` block, while SQLite may read it. `EngineError` where a program has
+    it."""
     asked = struct.pack(LOCK, fcntl.F_RDLCK, os.SEEK_SET, *READERS, 0)
     with file.open("rb") as opened:
         try:

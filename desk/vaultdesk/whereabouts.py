@@ -26,7 +26,8 @@ UNREAD = ": it can't be read: "
 ELSEWHERE = "Not looked at: what was exported, printed, mailed or copied otherwise, as no vault knows of that."
 ABOUT = """Says which files have the bytes of a version, by its digest, so under whichever key: the vault's, its copies
 in BACKUP and in each --folder, and what restores, journals and a standby keep beside it. What holds the content in a
-version has them. Where such a version was removed they may be in parts of the file that nothing uses, until it is wiped. Of a second machine nothing is known here: ask there, with --vault."""
+version has them. Where such a version was removed they may be in parts of the file that nothing uses, until it is
+wiped. Of a second machine nothing is known here: ask there, with --vault."""
 Row = dict[str, Any]
 
 
@@ -102,6 +103,11 @@ def places(file: Path, folders: Sequence[Path]) -> Iterator[Place]:
     for it in _within(beside / f"{name}.journals", file.name, "journal"):
         yield Place("journal" if it.name == "journal" else "copy of a journal", it)
     yield from (Place("standby", it) for it in _within(beside / f"{name}.standby", file.name))
+
+
+def on_other(machine: str, file: Path) -> str:
+    """Where a second machine has the copies with which it follows a vault."""
+    return f"{machine}: {conf.vaults_folder()}/{file.name.removesuffix('.vault')}.standby: ask there"
 
 
 def configured(file: Path) -> conf.Configuration | None:
@@ -182,8 +188,7 @@ def _rows(engine: Engine, there: Sequence[Place], digest: str, machine: str) -> 
     for it in counted_off(there, "files were looked at"):
         yield _row(it, digest, vault)
     if machine:
-        where = f"{machine}: {conf.vaults_folder()}/{vault.name.removesuffix('.vault')}.standby"
-        yield _line(UNKNOWN, "standby", [], f"{where}: ask there")
+        yield _line(UNKNOWN, "standby", [], on_other(machine, vault))
 
 
 def _print(answers: Sequence[tuple[Sequence[Version], Sequence[Row]]]) -> None:

@@ -1,8 +1,9 @@
 """A vault's file that is written anew without the bytes of what was removed, and its old files overwritten: wipe.
 
-SQLite writes what the tables have into a new file, which the engine audits and seals, and whose rows are compared with
-the vault's. Then the vault's log is copied into its file and moved away, and the two files exchange their names at once.
-So whenever it ends, the vault is there as a whole, as it was or wiped; what is left beside it the next wipe overwrites.
+SQLite copies the vault's log into its file, and writes what its tables have into a new one. The engine audits and seals
+that, and its rows are compared with the vault's. Then the log is moved away, and both files exchange their names at
+once. So whenever it ends, the vault is there as a whole, as it was or wiped; what is left beside it the next wipe
+overwrites.
 """
 
 from __future__ import annotations
@@ -26,9 +27,10 @@ from vaultdesk.wiped import Wipe, Wipes
 
 ABOUT = """Writes the vault's file anew without the bytes of what was removed, overwrites the old file and its log with
 zeros, and notes in NAME.wiped when that was done. The new file is audited, sealed and compared before it takes the old
-one's place, so it takes room for it; however it ends, the vault is there as a whole. No server may have the vault. It
-lists the copies and journals that still have such bytes. Out of its reach is what no file has any more: free parts of
-the disk, as a log leaves them, snapshots, older blocks of a file system that copies on write or of an SSD."""
+one's place, so it takes room for it; however it ends, the vault is there as a whole. While a server has the vault it
+does nothing: vaultdesk offline NAME vaultdesk wipe NAME stops that one meanwhile. It lists the copies and journals that
+still have such bytes. Out of its reach is what no file has any more: free parts of the disk, as a log leaves them,
+snapshots, older blocks of a file system that copies on write or of an SSD."""
 BEYOND = (
     "Not reached: free parts of the disk, snapshots, older blocks of a copy-on-write file system or an SSD, and copies "
     "that the desk doesn't know."
@@ -165,6 +167,9 @@ class Gone:
         folders = [configured.backup()] if configured and configured.backup().is_dir() else []
         places = list(whereabouts.places(self.file, folders))
         rows = [self._row(it) for it in counted_off(places, "copies were looked at")]
+        if configured and configured.standby() and self.versions:
+            there = whereabouts.on_other(configured.standby(), self.file)
+            rows.append({"kind": "standby", "has": "?", "may have": "?", "place": there})
         return [it for it in rows if it["has"] or it["may have"]]
 
 
@@ -175,7 +180,8 @@ def _look_whether_taken(file: Path) -> None:
     """`DeskError` where a program has the vault."""
     if snapshot.is_taken(file):
         name = file.name.removesuffix(".vault")
-        how = f"vaultdesk offline {name} vaultdesk wipe {name} --yes" if whereabouts.configured(file) else "end it first"
+        offline = f"vaultdesk offline {name} vaultdesk wipe {name} --yes"
+        how = offline if whereabouts.configured(file) else "end it first"
         raise DeskError(f"{file}: a server or another program has the vault, and nothing was wiped: {how}")
 
 
@@ -232,7 +238,7 @@ def wipe(words: argparse.Namespace) -> int:
 def add(commands: argparse._SubParsersAction[argparse.ArgumentParser], common: argparse.ArgumentParser) -> None:
     """Adds the subcommand to the desk's words."""
     what = "write a vault's file anew without the bytes of what was removed"
-    example = "Example: vaultdesk offline records vaultdesk wipe records --yes"
+    example = "Example: vaultdesk wipe records.vault"
     it = commands.add_parser("wipe", parents=[common], help=what, description=ABOUT, epilog=example)
     it.add_argument("vault", metavar="VAULT", help="the vault's file, or its name in the settings")
     add_yes(it)

@@ -1,7 +1,7 @@
 """When a vault's file was wiped: in `NAME.wiped` beside `NAME.vault`, a JSON list of wipes.
 
-Each wipe raises a number that the file has, SQLite's `user_version`, and that copies of it have too. So a wipe counts for
-the file that it made and for its later copies; a file of a lower number is older, or was put back.
+Each wipe raises a number that the file has, SQLite's `user_version`, and that copies of it have too. So a wipe counts
+for the file that it made and for its later copies; a file of a lower number is older, or was put back.
 """
 
 from __future__ import annotations
@@ -13,7 +13,7 @@ from pathlib import Path
 
 from vaultdesk.replacing import write_anew
 
-LEFT = "No command reads it again, but its bytes stay readable in the vault's file until vaultdesk wipe, and in older copies"
+LEFT = "The bytes stay readable in the vault's file until vaultdesk wipe, and in older copies."
 NUMBER = slice(60, 64)  # where the head of a file of SQLite has `user_version`
 
 
