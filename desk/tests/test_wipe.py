@@ -87,14 +87,18 @@ class Wiped(WipeTest):
         self.assertEqual(found["documents"], 1)
         self.assertLess(found["bytes"], found["before"])
         self.assertEqual((self.left(), self.unfinished()), ({}, []))
+        self.assertFalse(Path(f"{self.file}-shm").exists())
         self.assertGreater(self.left(KEPT)["records.vault"], 150)
 
     def test_those_in_the_log_are_gone_too(self) -> None:
         words = [PROGRAM, "replay", str(self.file)]
         with subprocess.Popen(words, stdin=subprocess.PIPE, stdout=subprocess.PIPE, text=True) as program:
             assert program.stdin and program.stdout
-            for line in ({"do": "put", "key": "d", "text": "".join(marks("Logged alone "))},
-                         {"do": "delete-version", "key": "d", "id": 4}, {"do": "put", "key": "e", "text": "last"}):
+            lines: list[dict[str, Any]] = [
+                {"do": "put", "key": "d", "text": "".join(marks("Logged alone "))},
+                {"do": "delete-version", "key": "d", "id": 4}, {"do": "put", "key": "e", "text": "last"},
+            ]  # fmt: skip
+            for line in lines:
                 program.stdin.write(json.dumps({"at": LATER, "as": "ann", "bucket": "docs", **line}) + "\n")
                 program.stdin.flush()
                 self.assertIn("ok", program.stdout.readline())
@@ -105,13 +109,15 @@ class Wiped(WipeTest):
         self.assertEqual(self.done("get", "docs", "e", at="2024-01-18"), "last")
 
     def test_all_else_stays(self) -> None:
-        before, mode = self.printed(), self.file.stat().st_mode
+        self.file.chmod(0o640)
+        before = self.printed()
         tables = self.folder / "before.vault"
         shutil.copyfile(self.file, tables)
         self.wipe()
         self.assertEqual(self.printed(), before)
         self.assertEqual((before["verify"], before["lawful"].split()[0]), ("sound\n", "lawful"))
-        self.assertEqual(self.file.stat().st_mode, mode)
+        self.assertEqual(self.file.stat().st_mode & 0o777, 0o640)
+        self.assertEqual([it.read_bytes()[16:20] for it in (self.file, tables)], [b"\4\0\2\2"] * 2)  # pages, and a log
         self.assertEqual(reading.differing(self.file, tables), "")
         self.assertEqual(self.done("get", "docs", "b", at=LATER), "".join(marks(KEPT)))
         self.assertIn("legal-hold", self.desk("delete", "docs", "b", "--version", "2", "--yes", at=LATER).out)

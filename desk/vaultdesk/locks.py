@@ -252,7 +252,8 @@ def delete(engine: Engine, words: argparse.Namespace) -> None:
         if any(it.version is None for it in found):
             why = "what is removed for good is named by its number"
             raise UsageError(f"{why}: give --version N, or a list with versions")
-        noting, contents = reasons.begun(engine, words), list[Target]()
+        noting = reasons.begun(engine, words)
+        contents = list[Target]()
         if not words.dry_run:
             confirm(words, f"{len(found)} versions are removed for good")
 
