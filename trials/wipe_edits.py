@@ -24,7 +24,8 @@ EDITS = [
      WIPED + "test_it_is_asked_first"),
     ("wipe", "named.resolve(), config.program()", "named, config.program()", WIPED + "test_one_by_a_link"),
     # the exchange, and what is overwritten
-    ("wipe", "        if log.exists():\n", "        if False:\n", WIPED + "test_those_in_the_log_are_gone_too"),
+    ("wipe", "        if log.exists():\n", "        if False:\n",
+     KILLED + "test_each_leaves_the_vault_and_the_next_one_wipes_it"),
     ("wipe", "log.rename(self.old_log)", "log.unlink()",
      KILLED + "test_nothing_is_overwritten_before_its_successor_is_on_the_disk"),
     ("wipe", "Path(f\"{self.file}-shm\").unlink(missing_ok=True)", "pass",

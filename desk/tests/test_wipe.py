@@ -24,6 +24,7 @@ from vaultdesk import disk, reading, wiped
 from vaultdesk.cli import main
 from vaultdesk.owner import Owner
 from vaultdesk.units import Served
+from vaultdesk.wipe import Wiping
 
 # The calls that change names or contents of files, or have them on the disk.
 CALLS = ("rename", "replace", "unlink", "fsync", "write", "chmod", "chown")
@@ -268,17 +269,33 @@ class Killed(WipeTest):
         self.vault = self.printed()
 
     def put_back(self) -> None:
+        """Has the vault be as it was before any wipe: its last change is in the log alone."""
         for it in self.folder.glob("records.*"):
             it.unlink()
+        self.write_files()
+
+    def write_files(self) -> None:
         for end, content in self.before.items():
             Path(f"{self.file}{end}").write_bytes(content)
+
+    def changed_after_the_audit(self) -> Any:
+        """Has the vault be so after the audit too, which copies the log into the file: as if a change came then."""
+        audited = Wiping.audited_seal
+
+        def then_changed(wiping: Wiping, file: Path) -> str:
+            seal = audited(wiping, file)
+            if file == wiping.file:
+                self.write_files()
+            return seal
+
+        return mock.patch.object(Wiping, "audited_seal", then_changed)
 
     def killed_before(self, number: int) -> bool:
         """Whether a wipe in a process of its own was ended before such a call of that number."""
         child = os.fork()
         if child == 0:
             try:
-                with redirect_stdout(StringIO()), redirect_stderr(StringIO()):
+                with redirect_stdout(StringIO()), redirect_stderr(StringIO()), self.changed_after_the_audit():
                     left = list(range(number))
                     for module, name in (*((os, it) for it in CALLS), (disk, "exchange")):
                         setattr(module, name, counted(getattr(module, name), left))
@@ -318,7 +335,8 @@ class Killed(WipeTest):
                     left.pop()
                     return call(*words, **how)
 
-                with mock.patch.object(module, name, failing), self.subTest(call=name, number=count):
+                failed = mock.patch.object(module, name, failing)
+                with failed, self.changed_after_the_audit(), self.subTest(call=name, number=count):
                     done = self.desk("wipe", "records", "--yes", at=None)
                 self.assertEqual(self.printed(), self.vault)
                 count = count + 1 if done.status else -1
