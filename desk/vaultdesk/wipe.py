@@ -161,11 +161,11 @@ class Gone:
             return {**row, "has": "?", "may have": "?", "place": f"{place.path}{whereabouts.UNREAD}{error}"}
         return {**row, "has": has, "may have": may}
 
-    def left(self) -> list[Row]:
-        """The copies and journals that have bytes of what was removed, or may have them."""
+    def left(self, folders: Sequence[str]) -> list[Row]:
+        """The copies and journals that have bytes of what was removed, or may have them, also in these folders."""
         configured = whereabouts.configured(self.file)
-        folders = [configured.backup()] if configured and configured.backup().is_dir() else []
-        places = list(whereabouts.places(self.file, folders))
+        of_conf = [configured.backup()] if configured and configured.backup().is_dir() else []
+        places = list(whereabouts.places(self.file, [*map(Path, folders), *of_conf]))
         rows = [self._row(it) for it in counted_off(places, "copies were looked at")]
         if configured and configured.standby() and self.versions:
             there = whereabouts.on_other(configured.standby(), self.file)
@@ -200,8 +200,7 @@ def _text(found: Row, is_dry: bool) -> str:
     count, one = found["documents"], "1 removed document"
     what = one if count == 1 else f"{count:,} removed documents"
     would = "would be" if is_dry else "are"
-    sizes = "" if is_dry else f": it has {found['bytes']:,} bytes, and had {found['before']:,}"
-    return f"the bytes of {what} {would} wiped from {found['vault']}{sizes}"
+    return f"the bytes of {what} {would} wiped from {found['vault']}"
 
 
 def _print(found: Row, left: Sequence[Row], words: argparse.Namespace) -> None:
@@ -226,12 +225,12 @@ def wipe(words: argparse.Namespace) -> int:
         _look_whether_taken(file)
         gone = Gone(file)
         count = gone.unwiped(gone.versions, wiped.of(file))
-        found: Row = {"vault": str(file), "documents": count, "done": None, "before": file.stat().st_size}
+        found: Row = {"vault": str(named), "documents": count, "done": None, "before": file.stat().st_size}
         if not words.dry_run:
             confirm(words, f"the bytes of {count:,} removed documents can't be read any more")
             found["done"] = owner_of(file).do(lambda: _carried_out(file, program))
         found["bytes"] = file.stat().st_size
-        _print(found, gone.left(), words)
+        _print(found, gone.left(words.folder or []), words)
     return 0
 
 
@@ -241,5 +240,6 @@ def add(commands: argparse._SubParsersAction[argparse.ArgumentParser], common: a
     example = "Example: vaultdesk wipe records.vault"
     it = commands.add_parser("wipe", parents=[common], help=what, description=ABOUT, epilog=example)
     it.add_argument("vault", metavar="VAULT", help="the vault's file, or its name in the settings")
+    it.add_argument("--folder", action="append", metavar="FOLDER", help="list the copies of the vault that lie there too")
     add_yes(it)
     it.set_defaults(do=wipe)
