@@ -52,6 +52,10 @@ EDITS = [
     ("wipe", "    if snapshot.is_taken(file):\n", "    if False:\n", REFUSED + "test_while_a_server_has_it"),
     ("snapshot", "fcntl.fcntl(opened, fcntl.F_OFD_SETLK, asked)", "pass",
      REFUSED + "test_no_engine_comes_in_between"),
+    ("disk", "fcntl.flock(descriptor, fcntl.LOCK_EX | fcntl.LOCK_NB)", "pass",
+     REFUSED + "test_while_another_wipe_is_under_way"),
+    ("wipe", "                if not os.path.samestat(os.fstat(held.fileno()), self.file.stat()):\n",
+     "                if False:\n", REFUSED + "test_a_vault_that_is_put_back_meanwhile"),
     ("wipe", "with Served(file.name.removesuffix(\".vault\")).locked(patience=0):", "with contextlib.nullcontext():",
      REFUSED + "test_while_another_job_works_on_it"),
     # what still has the bytes

@@ -8,6 +8,7 @@ import os
 import shutil
 import sqlite3
 import subprocess
+import sys
 import time
 from collections.abc import Callable
 from contextlib import ExitStack, closing, redirect_stderr, redirect_stdout
@@ -29,6 +30,7 @@ from vaultdesk.wipe import Wiping
 # The calls that change names or contents of files, or have them on the disk.
 CALLS = ("rename", "replace", "unlink", "fsync", "write", "chmod", "chown")
 REMOVED_AT, LATER = "2024-01-16T10:00:00Z", "2024-01-17T10:00:00Z"
+DESK = Path(__file__).resolve().parents[1]
 SECRET, KEPT = "Dear Sir or Madam, ", "We thank you for "
 
 
@@ -229,6 +231,25 @@ class Refused(ServedTest, WipeTest):
 
         with mock.patch("vaultdesk.reading.write_out", altered):
             self.assertIn("isn't the same vault (callers): nothing was wiped", self.unchanged())
+
+    def test_while_another_wipe_is_under_way(self) -> None:
+        seen = list[str]()
+
+        def tried(*_: Path) -> str:
+            words = [sys.executable, "-m", "vaultdesk", "wipe", str(self.file), "--yes"]
+            seen.append(subprocess.run(words, cwd=DESK, stderr=subprocess.PIPE, text=True, check=False).stderr)
+            return ""
+
+        with mock.patch("vaultdesk.reading.differing", tried):
+            self.wipe()
+        self.assertEqual(seen, [f"vaultdesk wipe: another wipe is under way in {self.folder}\n"])
+        self.assertEqual((self.desk("verify", at=None).out, self.left()), ("sound\n", {}))
+
+    def test_a_vault_that_is_put_back_meanwhile(self) -> None:
+        other = self.folder / "other"
+        shutil.copyfile(self.file, other)
+        with mock.patch("vaultdesk.reading.differing", lambda file, _: str(other.replace(file))[:0]):
+            self.assertIn(f"{self.file} was replaced meanwhile: nothing was wiped", self.unchanged())
 
     def test_another_seal(self) -> None:
         with mock.patch("vaultdesk.wipe.Wiping.audited_seal", lambda _, file: str(file)):

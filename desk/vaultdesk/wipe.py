@@ -106,8 +106,10 @@ class Wiping:
         self.clear()
         seal = self.audited_seal(self.file)
         try:
-            with snapshot.kept_still(self.file):
+            with snapshot.kept_still(self.file) as held:
                 wipe = self.make(seal)
+                if not os.path.samestat(os.fstat(held.fileno()), self.file.stat()):
+                    raise DeskError(f"{self.file} was replaced meanwhile: nothing was wiped")
                 self.exchange()
         finally:
             self.clear()
@@ -118,7 +120,10 @@ class Wiping:
 
 def _carried_out(file: Path, program: str) -> str:
     try:
-        return Wiping(file, program).carry_out()
+        with disk.locked(file.parent):  # another wipe would overwrite what this one makes
+            return Wiping(file, program).carry_out()
+    except BlockingIOError as error:
+        raise DeskError(f"another wipe is under way in {file.parent}") from error
     except OSError as error:
         raise DeskError(f"{error.filename}: {error.strerror}") from error
 
@@ -240,6 +245,6 @@ def add(commands: argparse._SubParsersAction[argparse.ArgumentParser], common: a
     example = "Example: vaultdesk wipe records.vault"
     it = commands.add_parser("wipe", parents=[common], help=what, description=ABOUT, epilog=example)
     it.add_argument("vault", metavar="VAULT", help="the vault's file, or its name in the settings")
-    it.add_argument("--folder", action="append", metavar="FOLDER", help="list the copies of the vault that lie there too")
+    it.add_argument("--folder", action="append", metavar="FOLDER", help="list the vault's copies that lie there too")
     add_yes(it)
     it.set_defaults(do=wipe)
