@@ -31,10 +31,7 @@ one's place, so it takes room for it; however it ends, the vault is there as a w
 does nothing: vaultdesk offline NAME vaultdesk wipe NAME stops that one meanwhile. It lists the copies and journals that
 still have such bytes. Out of its reach is what no file has any more: free parts of the disk, as a log leaves them,
 snapshots, older blocks of a file system that copies on write or of an SSD."""
-BEYOND = (
-    "Not reached: free parts of the disk, snapshots, older blocks of a copy-on-write file system or an SSD, and copies "
-    "that the desk doesn't know."
-)
+BEYOND = "Not reached: free parts of the disk, snapshots, older blocks (copy-on-write, SSDs), and other copies."
 SCHEMA = 3  # whose contents are in the tables
 MADE = (".log", "", "-wal", "-shm", "-journal")  # the ends of the names of what is beside the vault meanwhile
 COLUMNS = ("kind", "has", "may have", "place")
@@ -214,7 +211,7 @@ def _print(found: Row, left: Sequence[Row], words: argparse.Namespace) -> None:
         return
     print(_text(found, words.dry_run))
     if left:
-        print("Bytes of removed documents are left in these, which are older: remove them, or guard them as the vault")
+        print("Still with bytes of removed documents: remove these, or guard them as the vault")
         print_rows(left, COLUMNS)
     print(BEYOND)
 
