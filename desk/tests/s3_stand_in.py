@@ -47,6 +47,9 @@ class StandIn(http.server.ThreadingHTTPServer):
         self.fails = 0
         threading.Thread(target=self.serve_forever, args=(0.01,), daemon=True).start()
 
+    def handle_error(self, *_: Any) -> None:
+        """A client that goes away is none."""
+
     @property
     def endpoint(self) -> str:
         """Its address."""

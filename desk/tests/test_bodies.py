@@ -4,6 +4,7 @@ from __future__ import annotations
 
 import contextlib
 import csv
+import fcntl
 import io
 import multiprocessing
 import os
@@ -23,15 +24,21 @@ from typing import Any
 from unittest import mock
 
 from tests.bodies_office import IS_LONG, BodiesTest, Stop, Watched, body_of
+from tests.office import MEMORY
 from vaultdesk.bodies import files, looks, records, store
 from vaultdesk.bodies.body import Altered, Body, Missing, places_of
 from vaultdesk.bodies.in_folder import FolderBodies
+from vaultdesk.bodies.lock import flocked
 from vaultdesk.bodies.looks import Part
 from vaultdesk.errors import DeskError
 
 DAMAGES = 400
+SMALL = 134_217_728  # bytes of what is tried in memory, where a sync takes no time
 SEED = 20_261_201
-KINDS = ("bit", "cut", "longer", "zeros", "other", "link", "folder", "gone", "empty", "pipe", "linked")
+KINDS = (
+    "bit", "cut", "longer", "zeros", "other", "link", "folder", "gone", "empty", "pipe", "linked", "misplaced",
+)  # fmt: skip
+READ_ALONE = ("bit", "zeros", "other")  # of these, which only who reads the bytes can find
 DESK = Path(__file__).resolve().parents[1]
 
 
@@ -148,6 +155,8 @@ def damaged(path: Path, content: bytes, chance: random.Random) -> str:
     elif kind == "linked":  # the folder above is a link to one that has the body
         path.parent.rename(path.parents[2] / "elsewhere")
         path.parent.symlink_to("../elsewhere")
+    elif kind == "misplaced":
+        path.rename(path.parents[2] / path.name)
     else:
         away = path.with_name("away")
         path.rename(away)
@@ -163,13 +172,13 @@ def damaged(path: Path, content: bytes, chance: random.Random) -> str:
 class Damages(BodiesTest):
     def look_at(self, it: Body, kind: str) -> None:
         """Fails unless each way to the body finds that it is damaged."""
-        wrong = Missing if kind == "gone" else Altered
+        wrong = Missing if kind in ("gone", "misplaced") else Altered
         target, handed = self.folder / "target", b""
         target.write_bytes(b"before")
         with self.assertRaises(wrong), self.bodies.open(it) as reader:
             while piece := reader.read(50_000):
                 handed += piece
-        self.assertLess(len(handed), it.size)
+        self.assertLess(len(handed), it.size if kind in READ_ALONE else 1)
         with self.assertRaises(wrong):
             self.bodies.copy_to(it, target)
         self.assertEqual((target.read_bytes(), sorted(os.listdir(self.folder))), (b"before", self.there))
@@ -177,7 +186,7 @@ class Damages(BodiesTest):
         self.assertEqual((list(found.missing), list(found.altered)), ([it], []) if wrong is Missing else ([], [it]))
         self.assertEqual((found.look.looked_at, found.is_sound), (len(self.named), False))
         by_name = looks.check(self.bodies, self.held, self.places.fixity)
-        self.assertEqual(by_name.is_sound, kind in ("bit", "zeros", "other"))  # which only reading finds
+        self.assertEqual(by_name.is_sound, kind in READ_ALONE)
 
     def test_each_of_hundreds_is_found_by_each_who_reads(self) -> None:
         chance = random.Random(SEED)
@@ -206,8 +215,8 @@ class Damages(BodiesTest):
             (path.parents[2] / "elsewhere").rename(path.parent)
         if path.is_dir() and not path.is_symlink():
             path.rmdir()
-        path.unlink(missing_ok=True)
-        path.with_name("away").unlink(missing_ok=True)
+        for left in (path, path.with_name("away"), path.parents[2] / path.name):
+            left.unlink(missing_ok=True)
         path.write_bytes(content)
         path.chmod(0o400)
 
@@ -555,7 +564,7 @@ class Looking(BodiesTest):
         self.assertEqual([it[1:] for it in rows[1:]], wanted)
         self.assertEqual(records.last_look(self.places.fixity), found.look)
         with self.places.fixity.open("a") as file:
-            file.write("2026-12-01T00:00:00Z,names,29,0")  # the power failed
+            file.write("2026-12-01T00:00:00Z,names,29,0,0,1")  # of 12, as the power failed
         self.assertEqual(records.last_look(self.places.fixity), found.look)
         again = looks.check(self.bodies, self.held, self.places.fixity)
         self.assertEqual(records.last_look(self.places.fixity), again.look)
@@ -606,13 +615,16 @@ class Looking(BodiesTest):
             found = looks.check(self.bodies, self.held, self.places.fixity)
         self.assertEqual((found.spare, len(self.all_whole())), ([], 2))
 
-    def test_lines_of_many_at_once_are_whole(self) -> None:
+    def test_lines_of_many_at_once_come_one_after_another(self) -> None:
         self.added(b"kept")
         threads = [threading.Thread(target=lambda: [
             looks.check(self.again(), self.held, self.places.fixity) for _ in range(20)
         ]) for _ in range(4)]
-        for it in threads:
-            it.start()
+        with flocked(self.places.fixity, fcntl.LOCK_EX):  # somebody writes it just now
+            for it in threads:
+                it.start()
+            time.sleep(0.3)
+            self.assertEqual(self.places.fixity.read_bytes(), b"")
         for it in threads:
             it.join()
         rows = list(csv.reader(self.places.fixity.read_text().splitlines()))
@@ -668,19 +680,21 @@ class AtOnce(BodiesTest):
         self.assertEqual((order, len(self.all_whole())), (["swept", "added"], 1))
 
     def test_a_thread_that_shares_the_lock_erases_nothing(self) -> None:
-        with self.bodies.lock.shared(), self.bodies.lock.shared():
-            self.assertRaises(RuntimeError, looks.sweep, self.bodies, self.held, self.versions)
+        with self.bodies.lock.shared():
+            with self.bodies.lock.shared():
+                self.assertRaises(RuntimeError, looks.sweep, self.bodies, self.held, self.versions)
+            self.assertTrue(self.bodies.lock.is_shared)
         self.assertFalse(self.bodies.lock.is_shared)
         looks.sweep(self.bodies, self.held, self.versions)
 
     def test_wiping_keeps_nobody_waiting(self) -> None:
         gone = self.added(b"gone")
         self.named = set()
-        wiping, goes_on, real = threading.Event(), threading.Event(), files.wipe
+        wiping, goes_on, real, went_on = threading.Event(), threading.Event(), files.wipe, list[bool]()
 
         def wipe(name: str, at: int) -> None:
             wiping.set()
-            goes_on.wait(10)
+            went_on.append(goes_on.wait(5))
             real(name, at)
 
         with mock.patch.object(files, "wipe", wipe):
@@ -690,7 +704,7 @@ class AtOnce(BodiesTest):
             self.assertEqual(self.added(b"gone"), gone)  # the same body comes again meanwhile
             goes_on.set()
             thread.join()
-        self.assertEqual(self.all_whole(), {gone.digest: gone.size})
+        self.assertEqual((went_on, self.all_whole()), ([True], {gone.digest: gone.size}))
 
     def test_two_who_add_and_one_who_sweeps(self) -> None:
         ledger, ends = self.folder / "ledger", time.time() + (20 if IS_LONG else 3)
@@ -750,6 +764,7 @@ MEASURE = """
 import resource, sys
 from pathlib import Path
 from vaultdesk.bodies.in_folder import FolderBodies
+from vaultdesk.bodies.lock import flocked
 place, stream, target = map(Path, sys.argv[1:])
 bodies = FolderBodies.make(place, place.with_suffix(".erased"))
 with bodies.lock.shared(), stream.open("rb") as source:
@@ -765,7 +780,7 @@ print(body.digest, body.size, resource.getrusage(resource.RUSAGE_SELF).ru_maxrss
 class Large(unittest.TestCase):
     def measured(self, size: int) -> list[str]:
         """What a process prints that adds, reads, copies and erases a sparse stream of that size."""
-        with tempfile.TemporaryDirectory() as folder:
+        with tempfile.TemporaryDirectory(dir=None if size > SMALL else MEMORY) as folder:
             stream = Path(folder) / "stream"
             with stream.open("wb") as file:
                 file.truncate(size)
@@ -784,7 +799,7 @@ class Large(unittest.TestCase):
         self.look_at(0, "e3b0c44298fc1c149afbf4c8996fb92427ae41e4649b934ca495991b7852b855")
 
     def test_a_stream_of_128_mebibytes(self) -> None:
-        self.look_at(134_217_728, "254bcc3fc4f27172636df4bf32de9f107f620d559b20d760197e452b97453917")
+        self.look_at(SMALL, "254bcc3fc4f27172636df4bf32de9f107f620d559b20d760197e452b97453917")
 
     @unittest.skipUnless(IS_LONG, "it takes half a minute: TRIALS_LONG=1 has it tried")
     def test_a_stream_of_3_gibibytes(self) -> None:
@@ -797,7 +812,7 @@ class Full(BodiesTest):
         with bodies.lock.shared():
             kept = bodies.add(io.BytesIO(bytes(100_000))).body
             with self.assertRaisesRegex(DeskError, "No space left|File too large"):
-                bodies.add(io.BytesIO(bytes(3_000_000)))
+                bodies.add(io.BytesIO(bytes(2_097_152)))
             self.assertEqual([it.body for it in bodies.walk()], [kept])
             self.assertEqual(os.listdir(bodies.folder / "incoming"), [])
             self.assertEqual(bodies.add(io.BytesIO(b"small")).was, "new")

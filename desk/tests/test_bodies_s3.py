@@ -277,7 +277,7 @@ print(body.size, before, resource.getrusage(resource.RUSAGE_SELF).ru_maxrss)
 class Large(unittest.TestCase):
     def test_memory_doesnt_grow_with_a_body(self) -> None:
         size = 3_221_225_472 if IS_LONG else 134_217_728
-        with tempfile.TemporaryDirectory() as folder:
+        with tempfile.TemporaryDirectory(dir=None if IS_LONG else MEMORY) as folder:
             stream = Path(folder) / "stream"
             with stream.open("wb") as file:
                 file.truncate(size)
