@@ -765,28 +765,30 @@ import resource, sys
 from pathlib import Path
 from vaultdesk.bodies.in_folder import FolderBodies
 from vaultdesk.bodies.lock import flocked
-place, stream, target = map(Path, sys.argv[1:])
+place, stream, target = map(Path, sys.argv[1:4])
 bodies = FolderBodies.make(place, place.with_suffix(".erased"))
 with bodies.lock.shared(), stream.open("rb") as source:
     body = bodies.add(source).body
 with bodies.open(body) as reader:
     reader.look()
-bodies.copy_to(body, target)
-bodies.erase(lambda: [body], lambda _: [])
+if sys.argv[4:]:
+    bodies.copy_to(body, target)
+    bodies.erase(lambda: [body], lambda _: [])
 print(body.digest, body.size, resource.getrusage(resource.RUSAGE_SELF).ru_maxrss)
 """
 
 
 class Large(unittest.TestCase):
     def measured(self, size: int) -> list[str]:
-        """What a process prints that adds, reads, copies and erases a sparse stream of that size."""
+        """What a process prints that adds and reads a sparse stream of that size, and copies and erases a small one."""
         with tempfile.TemporaryDirectory(dir=None if size > SMALL else MEMORY) as folder:
             stream = Path(folder) / "stream"
             with stream.open("wb") as file:
                 file.truncate(size)
             words = [sys.executable, "-c", MEASURE, f"{folder}/records.bodies", str(stream), f"{folder}/target"]
+            words += ["all"] if size <= SMALL else []
             done = subprocess.run(words, cwd=DESK, capture_output=True, encoding="utf-8", check=True)
-            self.assertEqual((Path(folder) / "target").stat().st_size, size)
+            self.assertTrue(size > SMALL or (Path(folder) / "target").stat().st_size == size)
             return done.stdout.split()
 
     def look_at(self, size: int, digest: str) -> None:
@@ -801,7 +803,7 @@ class Large(unittest.TestCase):
     def test_a_stream_of_128_mebibytes(self) -> None:
         self.look_at(SMALL, "254bcc3fc4f27172636df4bf32de9f107f620d559b20d760197e452b97453917")
 
-    @unittest.skipUnless(IS_LONG, "it takes half a minute: TRIALS_LONG=1 has it tried")
+    @unittest.skipUnless(IS_LONG, "it writes 3 GiB: TRIALS_LONG=1 has it tried")
     def test_a_stream_of_3_gibibytes(self) -> None:
         self.look_at(3_221_225_472, "305b66a59d15b252092fbda9d09711230c429f351897cbd430e7b55a35fd3b97")
 
