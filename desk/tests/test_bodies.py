@@ -88,6 +88,7 @@ class Adding(BodiesTest):
         with self.bodies.lock.shared(), self.assertRaisesRegex(Altered, "a folder is in its place"):
             self.bodies.add(io.BytesIO(b"a deed"))
         self.assertTrue((self.path(it) / "of somebody").exists())
+        self.assertEqual(self.inside("incoming"), [])
 
     def test_what_isnt_wanted_or_is_too_long_or_cant_be_read_leaves_nothing(self) -> None:
         broken = mock.Mock(read=mock.Mock(side_effect=[b"a d", OSError(5, "Input/output error")]))
@@ -97,7 +98,7 @@ class Adding(BodiesTest):
             with mock.patch.object(store, "MOST", 5), self.assertRaisesRegex(DeskError, "at most 5 bytes"):
                 self.bodies.add(io.BytesIO(b"a deed"))
             with self.assertRaises(OSError):  # as the caller knows which file it is
-                self.bodies.add(broken)
+                self.bodies.add_all([io.BytesIO(b"a deed"), broken])
             with mock.patch.object(store, "MOST", 6):
                 self.bodies.add(io.BytesIO(b"a deed"), wanted=body_of(b"a deed"))
         self.assertEqual((self.inside("incoming"), [it.body for it in self.bodies.walk()]), ([], [body_of(b"a deed")]))

@@ -90,11 +90,11 @@ class Bodies(abc.ABC):
 
         `Altered` where it isn't the body that is wanted; `DeskError` where it has more than 5 GiB, or can't be
         written: then nothing is added."""
-        return self.settle([self.receive(source, wanted, until)])[0]
+        return self._added(self.receive(it, wanted, until) for it in (source,))[0]
 
     def add_all(self, sources: Iterable[Source]) -> list[Added]:
         """Adds all of them, each as `add` does: first all bodies are synced at once, and then all folders."""
-        return self.settle([self.receive(it) for it in sources])
+        return self._added(map(self.receive, sources))
 
     def erase(self, choose: Callable[[], Iterable[Body]], versions: Versions) -> Erasure:
         """Erases what is chosen, and what a stop left of an earlier call, with a record of each.
@@ -139,6 +139,19 @@ class Bodies(abc.ABC):
         with self._failing(self.folder / INCOMING):
             os.fchmod(descriptor, 0o400)
         return Body(digest.hexdigest(), size)
+
+    def _added(self, coming: Iterable[Received]) -> list[Added]:
+        """Settles what comes. Where that fails, nothing is left of it in `incoming`, as the disk may be full."""
+        received = list[Received]()
+        try:
+            for it in coming:
+                received.append(it)
+            return self.settle(received)
+        except BaseException:
+            for it in received:
+                with contextlib.suppress(DeskError):  # it is in its place
+                    self.drop(it)
+            raise
 
     @abc.abstractmethod
     def settle(self, received: Sequence[Received]) -> list[Added]:
