@@ -1,11 +1,11 @@
-"""Desk: its tests on mutants. Each row of the six tables has to make the test fail that is beside it.
+"""Desk: its tests on mutants. Each row of the seven tables has to make the test fail that is beside it.
 
 The tables are desk_edits.py, records_edits.py (for records officers), door_edits.py (a vault that is served),
-handover_edits.py (what is handed over, on paper too), wipe_edits.py (bytes of what was removed) and s3_edits.py (the
-gateway for clients of S3). A row of each has
-a module of the desk, a text in it, the text that takes its place, and a test of `desk/tests`. An edit is made in a copy
-of `desk`, which runs over the program. A body that names what isn't there says nothing of the test: it is no edit of
-these. The gate looks only whether each can be made, and its test is there (`CanBeMade`).
+handover_edits.py (what is handed over, on paper too), wipe_edits.py (bytes of what was removed), s3_edits.py (the
+gateway for clients of S3) and bodies_edits.py (documents' bytes outside the vault). A row of each has a module of the
+desk, a text in it, the text that takes its place, and a test of `desk/tests`. An edit is made in a copy of `desk`, which
+runs over the program. A body that names what isn't there says nothing of the test: it is no edit of these. The gate looks
+only whether each can be made, and its test is there (`CanBeMade`).
 """
 
 import os
@@ -16,13 +16,14 @@ import sys
 from collections.abc import Iterator
 from typing import NamedTuple
 
-from trials import desk_edits, door_edits, handover_edits, records_edits, s3_edits, wipe_edits
+from trials import bodies_edits, desk_edits, door_edits, handover_edits, records_edits, s3_edits, wipe_edits
 from trials.program import PROGRAM, TOP, Case, a_test_each, check, ran_words
 
 TAKES_LONG = True
 # Each table, and the folder of the modules that its rows name.
 OF_DESK = (desk_edits, records_edits, door_edits, handover_edits, wipe_edits)
-TABLES = (*((it, "desk/vaultdesk") for it in OF_DESK), (s3_edits, "desk/vaultdesk/s3"))
+OF_PARTS = ((s3_edits, "desk/vaultdesk/s3"), (bodies_edits, "desk/vaultdesk/bodies"))
+TABLES = (*((it, "desk/vaultdesk") for it in OF_DESK), *OF_PARTS)
 
 
 # Errors of a body that isn't one, with which each test fails.
