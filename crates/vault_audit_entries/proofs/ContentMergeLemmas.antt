@@ -2,11 +2,13 @@
 use Rattle.std.proofs.Common.{◌≡◌, ◌⊎◌, inl, inr, ℕ, ◌+◌, ◌≤◌, ◌<◌, List, [], ◌∷◌, ◌++◌, length, filter, flat_map, find, Bool, true, false, not, ◌&&◌, ◌==◌, is_none, cond, Option, Some, None, IsSome, refl, sym, ap, subst, ◌∙◌, true≢false, arith}
 use Rattle.std.specs.List.{AllByRecursion}
 use Rattle.sha2.specs.Sha256.{sha256}
+use Rattle.vault_base.specs.declared.content.Content.{Content}
+use Rattle.vault_base.specs.declared.content.Content.TheVariants.{Inside, External}
 use Rattle.vault_base.specs.Limits.{most_content}
 use Rattle.vault_core_model.specs.declared.records.Entry.{Entry}
 use Rattle.vault_core_model.specs.declared.records.History.{History}
 use Rattle.vault_core_model.specs.declared.records.Removal.{Removal}
-use Rattle.vault_core_model.specs.Sound.{HasItsBytes}
+use Rattle.vault_core_model.specs.Sound.{HasItsContent, HasPlace}
 use Rattle.vault_audit_model.specs.declared.rows.ContentRow.{ContentRow}
 use Rattle.vault_audit_model.specs.Limits.{IsEntry, IsSizedAs, IsContentRow}
 use Rattle.vault_audit_model.specs.Relations.{AreNumbered, HasContent, HasContentAs}
@@ -56,7 +58,7 @@ some_digest size (Some d) h = refl
 bare : (marker : Bool) (removal : Option Removal) (e : Entry) → e.removal ≡ removal → IsSizedAs marker e.size e.digest → (not marker && is_none removal) ≡ false → HasContentAs marker (record { entry = e; content = None; settings = []; tenures = [] })
 bare true removal e same sized free = refl
 bare false None e same sized free = absurd (true≢false free)
-bare false (Some r) e same sized free = subst (λ x. HasItsBytes x None e) (sym same) (some_digest e.size e.digest sized)
+bare false (Some r) e same sized free = (tt, subst (λ x. HasItsContent x None e) (sym same) (some_digest e.size e.digest sized))
 
 -- one with a digest is a version
 no_marker : (marker : Bool) (size : ℕ) (digest : Option (List ℕ)) (d : List ℕ) → IsSizedAs marker size digest → digest ≡ Some d → marker ≡ false
@@ -64,7 +66,7 @@ no_marker true size digest d sized is = absurd (let none : None ≡ Some d = sym
 no_marker false size digest d sized is = refl
 
 abbrev with_bytes : Entry → List ℕ → History
-with_bytes e bytes = record { entry = e; content = Some bytes; settings = []; tenures = [] }
+with_bytes e bytes = record { entry = e; content = Some (Inside bytes); settings = []; tenures = [] }
 
 abbrev without_bytes : Entry → History
 without_bytes e = record { entry = e; content = None; settings = []; tenures = [] }
@@ -77,7 +79,7 @@ held_if e c is h =
 has_bytes : (e : Entry) (c : ContentRow) → IsEntry e → IsContentOf (Some e) c → HasContent (with_bytes e c.content)
 has_bytes e c is h =
     let marker = no_marker e.marker e.size e.digest (sha256 c.content) is.sized h.2 in
-    let its : HasContentAs false (with_bytes e c.content) = subst (λ x. HasItsBytes x (Some c.content) e) (sym h.0) (h.1, h.2) in
+    let its : HasContentAs false (with_bytes e c.content) = (refl, subst (λ x. HasItsContent x (Some (Inside c.content)) e) (sym h.0) (h.1, h.2)) in
     subst (λ m. HasContentAs m (with_bytes e c.content)) (sym marker) its
 
 -- ---- all entries
@@ -151,20 +153,21 @@ given next low (e ∷ es) are (c ∷ cs) rise all = of (e.id == c.id) refl (λ d
 -- A history has the bytes of a held version, or none, and then it isn't held.
 abbrev HasOrNot : History → Type 0
 HasOrNot h =
-    ((bytes : List ℕ) × (h.content ≡ Some bytes) × (is_held_version h.entry ≡ true) × (h.entry.marker ≡ false) × (h.entry.removal ≡ None) × (length bytes ≡ h.entry.size) × (h.entry.digest ≡ Some (sha256 bytes)))
+    ((bytes : List ℕ) × (h.content ≡ Some (Inside bytes)) × (is_held_version h.entry ≡ true) × (h.entry.marker ≡ false) × (h.entry.removal ≡ None) × (length bytes ≡ h.entry.size) × (h.entry.digest ≡ Some (sha256 bytes)))
     ⊎ ((h.content ≡ None) × (is_held_version h.entry ≡ false))
 
 unheld : (h : History) (m : Bool) (o : Option Removal) → h.entry.marker ≡ m → h.entry.removal ≡ o → is_held_version h.entry ≡ (not m && is_none o)
 unheld h m o p q = rw (p, q) refl
 
-has_or_not : (marker : Bool) (removal : Option Removal) (content : Option (List ℕ)) (h : History) → h.entry.marker ≡ marker → h.entry.removal ≡ removal → h.content ≡ content → HasContentAs marker h → HasOrNot h
+has_or_not : (marker : Bool) (removal : Option Removal) (content : Option Content) (h : History) → h.entry.marker ≡ marker → h.entry.removal ≡ removal → h.content ≡ content → HasContentAs marker h → HasOrNot h
 has_or_not true removal content h m r c has = inr (has, unheld h true removal m r)
-has_or_not false None None h m r c has = absurd (subst (λ o. HasItsBytes None o h.entry) c (subst (λ o. HasItsBytes o h.content h.entry) r has))
-has_or_not false None (Some bytes) h m r c has =
-    let its : HasItsBytes None (Some bytes) h.entry = subst (λ o. HasItsBytes None o h.entry) c (subst (λ o. HasItsBytes o h.content h.entry) r has) in
+has_or_not false None None h m r c has = absurd (subst (λ o. HasItsContent None o h.entry) c (subst (λ o. HasItsContent o h.content h.entry) r has.1))
+has_or_not false None (Some (External x)) h m r c has = absurd (true≢false (sym (subst (HasPlace false) c has.0)))
+has_or_not false None (Some (Inside bytes)) h m r c has =
+    let its : HasItsContent None (Some (Inside bytes)) h.entry = subst (λ o. HasItsContent None o h.entry) c (subst (λ o. HasItsContent o h.content h.entry) r has.1) in
     inl (bytes, c, unheld h false None m r, m, r, its.0, its.1)
 has_or_not false (Some x) None h m r c has = inr (c, unheld h false (Some x) m r)
-has_or_not false (Some x) (Some bytes) h m r c has = absurd (subst (λ o. HasItsBytes (Some x) o h.entry) c (subst (λ o. HasItsBytes o h.content h.entry) r has))
+has_or_not false (Some x) (Some content) h m r c has = absurd (subst (λ o. HasItsContent (Some x) o h.entry) c (subst (λ o. HasItsContent o h.content h.entry) r has.1))
 
 pub record IsGiven (next : ℕ) (es : List Entry) (cs : List ContentRow) : Type 0 where
   pub rising : AreRisingFrom next cs

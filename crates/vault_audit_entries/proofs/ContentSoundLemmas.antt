@@ -34,16 +34,17 @@ sound_entries n db v it =
       numbers_of 1 0 v.last v.histories kept.sound.ids kept.sound.order kept.limits.histories,
     )
 
-whole_content : (marker : Bool) (h : History) → IsWholeAs marker h.entry h.content h.settings → HasContentAs marker h
+whole_content : (marker : Bool) (h : History) → IsWholeAs marker false h.entry h.content h.settings → HasContentAs marker h
 whole_content true h whole = whole.2
-whole_content false h whole = whole.1
+whole_content false h whole = (whole.0.1, whole.1)
 
-contents_whole : (hs : List History) → AllByRecursion IsWhole hs → AllByRecursion HasContent hs
+contents_whole : (hs : List History) → AllByRecursion (IsWhole false) hs → AllByRecursion HasContent hs
 contents_whole [] all = tt
 contents_whole (h ∷ hs) all = (whole_content h.entry.marker h all.0, contents_whole hs all.1)
 
 pub sound_contents : (n : SchemaVersion) → (db : Database) (v : Vault) → AreSoundAs n db v → AreContents db (entries_in v.histories) v.histories
-sound_contents n db v it = (refl, it.spells.contents, contents_whole v.histories it.spells.kept.sound.whole)
+sound_contents n db v it =
+    let kept = it.spells.kept in (refl, it.spells.contents, contents_whole v.histories (subst (λ external. AllByRecursion (IsWhole external) v.histories) kept.inside kept.sound.whole))
 
 pub unsound : (n : SchemaVersion) → (db : Database) → ((es : List Entry) → AreEntries db es → DecidesContents db es false) → (v : Vault) → ¬ AreSoundAs n db v
 unsound n db stated v it = stated (entries_in v.histories) ((sound_entries n) db v it) v.histories ((sound_contents n) db v it)

@@ -64,13 +64,13 @@ module _ (db : Database) (es : List Entry) (are : AreEntries db es) where
 
 -- ---- the vault of sound tables
 
-whole_as : (marker : Bool) (h : History) → IsWholeAs marker h.entry h.content h.settings → HasSettingsAs marker h
-whole_as true h is = is.3
-whole_as false h is = (is.2, is.3)
+whole_as : (marker external : Bool) (h : History) → IsWholeAs marker external h.entry h.content h.settings → HasSettingsAs marker h
+whole_as true external h is = is.3
+whole_as false external h is = (is.2, is.3)
 
-have : (hs : List History) → AllByRecursion IsHistory hs → AllByRecursion IsWhole hs → AllByRecursion HasSettings hs
-have [] are whole = tt
-have (h ∷ hs) are whole = ((whole_as h.entry.marker h whole.0, are.0.settings), have hs are.1 whole.1)
+have : (external : Bool) (hs : List History) → AllByRecursion IsHistory hs → AllByRecursion (IsWhole external) hs → AllByRecursion HasSettings hs
+have external [] are whole = tt
+have external (h ∷ hs) are whole = ((whole_as h.entry.marker external h whole.0, are.0.settings), have external hs are.1 whole.1)
 
 module _ (n : SchemaVersion) (db : Database) (v : Vault) (it : AreSoundAs n db v) where
   pub its_entries : AreEntries db (map (λ h. h.entry) v.histories)
@@ -80,7 +80,7 @@ module _ (n : SchemaVersion) (db : Database) (v : Vault) (it : AreSoundAs n db v
   )
 
   its_settings : AreSettings db (map (λ h. h.entry) v.histories) v.histories
-  its_settings = (refl, it.spells.settings, have v.histories it.spells.kept.limits.histories it.spells.kept.sound.whole)
+  its_settings = (refl, it.spells.settings, have v.external v.histories it.spells.kept.limits.histories it.spells.kept.sound.whole)
 
 -- so where they are not, the tables are sound for no vault
 pub unsound : (n : SchemaVersion) → (db : Database) → ((es : List Entry) → AreEntries db es → DecidesSettings db es false) → (v : Vault) → ¬ AreSoundAs n db v

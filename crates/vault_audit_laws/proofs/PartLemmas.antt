@@ -11,6 +11,8 @@ use Rattle.vault_lock.specs.Retention.{is_period}
 use Rattle.vault_rules.specs.Rules.{is_rule_set, passes_if_given}
 use Rattle.vault_rules.specs.declared.rule.Rule.{Rule}
 use Rattle.vault_tally.specs.Row.{Item, admitted_size, received_size, quota}
+use Rattle.vault_base.specs.declared.content.Content.{Content}
+use Rattle.vault_base.specs.declared.content.Content.TheVariants.{Inside, External}
 use Rattle.vault_core_model.specs.declared.records.Bucket.{Bucket}
 use Rattle.vault_core_model.specs.declared.records.Caller.{Caller}
 use Rattle.vault_core_model.specs.declared.records.Entry.{Entry}
@@ -20,7 +22,7 @@ use Rattle.vault_core_model.specs.declared.records.Setting.{Setting}
 use Rattle.vault_core_model.specs.declared.records.Tenure.{Tenure}
 use Rattle.vault_core_model.specs.Checks.{has_period}
 use Rattle.vault_core_model.specs.IntakeOutcome.{is_line}
-use Rattle.vault_core_model.specs.Sound.{Sound, AreIdsFrom, AreInOrder, IsInTime, IsWhole, IsWholeAs, IsPlaced, IsNoted, NamesItsVersion, IsInNameOrder, LiesBetween}
+use Rattle.vault_core_model.specs.Sound.{HasPlace, HasRoom, Sound, AreIdsFrom, AreInOrder, IsInTime, IsWhole, IsWholeAs, IsPlaced, IsNoted, NamesItsVersion, IsInNameOrder, LiesBetween}
 use Rattle.vault_core_model.specs.Totals.{items_in}
 use Rattle.vault_core_model.specs.Vault.{next_id, Vault, config_in}
 use Rattle.vault_audit_model.specs.declared.schema.SchemaVersion.{SchemaVersion}
@@ -70,11 +72,17 @@ sized : (e : Entry) (size : ℕ) (digest : Option (List ℕ)) → IsSizedAs fals
 sized e size None is = elim is [ ]
 sized e size (Some d) is = is.0
 
-whole_as : (marker : Bool) (e : Entry) (content : Option (List ℕ)) (settings : List Setting) (tenures : List Tenure) → IsSizedAs marker e.size e.digest → HasContentAs marker (record { entry = e; content = content; settings = settings; tenures = tenures }) → HasSettingsAs marker (record { entry = e; content = content; settings = settings; tenures = tenures }) → IsWholeAs marker e content settings
-whole_as true e content settings tenures is has sets = (is.0, is.1, has, sets)
-whole_as false e content settings tenures is has sets = (sized e e.size e.digest is, has, sets.0, sets.1)
+-- a content that the tables have is no longer than they may have it
+room : (content : Option Content) (size : ℕ) → size ≤ most_content → HasPlace false content → HasRoom false content size
+room None size small place = (small, place)
+room (Some (Inside bytes)) size small place = (small, place)
+room (Some (External r)) size small place = absurd (cc place)
 
-whole : (h : History) → (IsEntry h.entry × HasContent h) × HasSettings h → IsWhole h
+whole_as : (marker : Bool) (e : Entry) (content : Option Content) (settings : List Setting) (tenures : List Tenure) → IsSizedAs marker e.size e.digest → HasContentAs marker (record { entry = e; content = content; settings = settings; tenures = tenures }) → HasSettingsAs marker (record { entry = e; content = content; settings = settings; tenures = tenures }) → IsWholeAs marker false e content settings
+whole_as true e content settings tenures is has sets = (is.0, is.1, has, sets)
+whole_as false e content settings tenures is has sets = (room content e.size (sized e e.size e.digest is) has.0, has.1, sets.0, sets.1)
+
+whole : (h : History) → (IsEntry h.entry × HasContent h) × HasSettings h → IsWhole false h
 whole h ((is, has), sets) = whole_as h.entry.marker h.entry h.content h.settings h.tenures is.sized has sets.0
 
 limited : (h : History) → (IsEntry h.entry × HasContent h) × HasSettings h → IsHistory h
@@ -203,5 +211,5 @@ module _ (ed : SchemaVersion) (db : Database) (m : MetaRow) (departments : List 
     settings = subst (λ rows. IsPermutation (map setting_row rows) (map setting_columns (db.trees settings_tree))) (sym (joined_settings contents settings tenures same_entries tenured_entries)) are.settings_are.1;
     intake = are.notes_are.0;
     tenures = subst (λ rows. IsPermutation rows (tenure_rows_in ed db)) (joined_rows m v contents settings tenures same_entries tenured_entries ed) are.tenures_are.1.rows;
-    kept = record { limits = limits; sound = sound; unmoved = joined_unmoved m v contents settings tenures same_entries tenured_entries ed are.tenures_are.1.unmoved };
+    kept = record { inside = refl; limits = limits; sound = sound; unmoved = joined_unmoved m v contents settings tenures same_entries tenured_entries ed are.tenures_are.1.unmoved };
   }

@@ -9,6 +9,8 @@ use Rattle.sqlite.specs.Effect.{Database}
 use Rattle.sqlite_rules.specs.Lists.{Has}
 use Rattle.sqlite_rules.proofs.ListLemmas.{all_has}
 use Rattle.sqlite_rules.proofs.ProbeLemmas.{has_mapped, mapped_has}
+use Rattle.vault_base.specs.declared.content.Content.{Content}
+use Rattle.vault_base.specs.declared.content.Content.TheVariants.{Inside, External}
 use Rattle.vault_rules.specs.Rules.{is_rule_set, passes_if_given}
 use Rattle.vault_rules.specs.declared.rule.Rule.{Rule}
 use Rattle.vault_core_model.specs.declared.records.Bucket.{Bucket}
@@ -17,7 +19,7 @@ use Rattle.vault_core_model.specs.declared.records.History.{History}
 use Rattle.vault_core_model.specs.declared.records.Setting.{Setting}
 use Rattle.vault_core_model.specs.declared.records.Tenure.{Tenure}
 use Rattle.vault_core_model.specs.Order.{IsAscending, name_cmp, caller_cmp, bucket_cmp, note_cmp}
-use Rattle.vault_core_model.specs.Sound.{AreIdsFrom, HasRuleSet, FollowOn, end_of, AreTenures, HasTenuresAs, HasTenures}
+use Rattle.vault_core_model.specs.Sound.{AreIdsFrom, HasPlace, IsWhole, IsWholeAs, HasRuleSet, FollowOn, end_of, AreTenures, HasTenuresAs, HasTenures}
 use Rattle.vault_core_model.specs.Vault.{Vault}
 use Rattle.vault_audit_model.specs.declared.rows.ContentRow.{ContentRow}
 use Rattle.vault_audit_model.specs.declared.rows.MetaRow.{MetaRow}
@@ -28,7 +30,7 @@ use Rattle.vault_audit_model.specs.declared.schema.SchemaVersion.{SchemaVersion}
 use Rattle.vault_audit_model.specs.declared.schema.SchemaVersion.TheVariants.{First, Second, Third}
 use Rattle.vault_audit_model.specs.SchemaVersions.{newest}
 use Rattle.vault_audit_model.specs.Rows.{meta_row, caller_row, bucket_row, rule_row, entry_row, content_row, setting_row, note_row, tenure_row, meta_columns_as, caller_columns, bucket_columns, rule_columns_as, entry_columns, content_columns, setting_columns, note_columns, tenure_columns}
-use Rattle.vault_audit_model.specs.Spells.{SpellsAs, meta_stated, bucket_of, rules_from, rules_if_given, rules_in, content_if_given, contents_in, settings_from, settings_in, tenure_at, tenures_in}
+use Rattle.vault_audit_model.specs.Spells.{IsKeptAs, SpellsAs, meta_stated, bucket_of, rules_from, rules_if_given, rules_in, content_if_given, contents_in, settings_from, settings_in, tenure_at, tenures_in}
 use Rattle.vault_audit_model.specs.Tables.{meta_tree, departments_tree, callers_tree, buckets_tree, rules_tree, entries_tree, contents_tree, settings_tree, intake_tree, tenures_tree}
 use Rattle.vault_audit_model.specs.Tenures.{HasFirstTenures, IsUnmoved, first_tenures_in}
 use Rattle.vault_audit_model.proofs.SameRows.{text_same, same_meta, same_caller, same_bucket, same_rule, same_entry, same_content, same_setting, same_note, same_tenure}
@@ -64,14 +66,27 @@ same_rules_given bucket None (Some ss) first second there back = absurd (no_rule
 same_rules_given bucket (Some rs) None first second there back = absurd (no_rules_apart bucket rs first there)
 same_rules_given bucket (Some rs) (Some ss) first second there back = ap Some (same_rules bucket 1 rs ss there back)
 
-same_contents_given : (id : ℕ) (o p : Option (List ℕ)) → IsWithin (content_if_given id o) (content_if_given id p) → IsWithin (content_if_given id p) (content_if_given id o) → o ≡ p
-same_contents_given id None None there back = refl
-same_contents_given id None (Some b) there back = elim (back (record { id = id; content = b }) (inl refl)) [ ]
-same_contents_given id (Some a) None there back = elim (there (record { id = id; content = a }) (inl refl)) [ ]
-same_contents_given id (Some a) (Some b) there back = elim (there (record { id = id; content = a }) (inl refl)) [
-  | inl e ↦ ap Some (ap (λ (c : ContentRow). c.content) e)
+-- a history's content is in the tables
+inside_as : (marker : Bool) (h : History) → IsWholeAs marker false h.entry h.content h.settings → HasPlace false h.content
+inside_as true h whole = subst (λ (o : Option Content). HasPlace false o) (sym whole.2) tt
+inside_as false h whole = whole.0.1
+
+inside : (n : SchemaVersion) (v : Vault) → IsKeptAs n v → (h : History) → Has v.histories h → HasPlace false h.content
+inside n v kept h there =
+    let P : Bool → Type 0 = λ external. AllByRecursion (IsWhole external) v.histories in
+    inside_as h.entry.marker h (all_has (IsWhole false) v.histories h (subst P kept.inside kept.sound.whole) there)
+
+same_contents_given : (id : ℕ) (o p : Option Content) → HasPlace false o → HasPlace false p → IsWithin (content_if_given id o) (content_if_given id p) → IsWithin (content_if_given id p) (content_if_given id o) → o ≡ p
+same_contents_given id None None first second there back = refl
+same_contents_given id None (Some (Inside b)) first second there back = elim (back (record { id = id; content = b }) (inl refl)) [ ]
+same_contents_given id (Some (Inside a)) None first second there back = elim (there (record { id = id; content = a }) (inl refl)) [ ]
+same_contents_given id (Some (Inside a)) (Some (Inside b)) first second there back = elim (there (record { id = id; content = a }) (inl refl)) [
+  | inl e ↦ ap (λ (bytes : List ℕ). Some (Inside bytes)) (ap (λ (c : ContentRow). c.content) e)
   | inr none ↦ absurd none
 ]
+same_contents_given id (Some (External a)) p first second there back = absurd (cc first)
+same_contents_given id None (Some (External b)) first second there back = absurd (cc second)
+same_contents_given id (Some (Inside a)) (Some (External b)) first second there back = absurd (cc second)
 
 settings_numbered : (id place : ℕ) (settings : List Setting) → AreNumberedFrom (λ (s : SettingRow). s.place) place (settings_from id place settings)
 settings_numbered id place [] = tt
@@ -127,10 +142,11 @@ rules_given_name : (name : List ℕ) (rules : Option (List Rule)) (r : RuleRow) 
 rules_given_name name None r h = elim h [ ]
 rules_given_name name (Some rules) r h = rules_of_name name 1 rules r h
 
-content_of_id : (id : ℕ) (content : Option (List ℕ)) (c : ContentRow) → Has (content_if_given id content) c → c.id ≡ id
+content_of_id : (id : ℕ) (content : Option Content) (c : ContentRow) → Has (content_if_given id content) c → c.id ≡ id
 content_of_id id None c h = elim h [ ]
-content_of_id id (Some bytes) c (inl e) = ap (λ (x : ContentRow). x.id) e
-content_of_id id (Some bytes) c (inr h) = elim h [ ]
+content_of_id id (Some (Inside bytes)) c (inl e) = ap (λ (x : ContentRow). x.id) e
+content_of_id id (Some (Inside bytes)) c (inr h) = elim h [ ]
+content_of_id id (Some (External r)) c h = elim h [ ]
 
 settings_of_id : (id place : ℕ) (settings : List Setting) (s : SettingRow) → Has (settings_from id place settings) s → s.id ≡ id
 settings_of_id id place [] s h = elim h [ ]
@@ -250,7 +266,7 @@ module _ (n : SchemaVersion) (db : Database) where
   same_history_there v w it is g h in_v in_w same =
       let id : g.entry.id ≡ h.entry.id = ap (λ e. e.id) same in
       let content : g.content ≡ h.content =
-      same_contents_given g.entry.id g.content h.content (subst (λ i. IsWithin (contents_in g) (content_if_given i h.content)) (sym id) (history_content n db v w it is g h in_v in_w id))
+      same_contents_given g.entry.id g.content h.content (inside n v it.kept g in_v) (inside n w is.kept h in_w) (subst (λ i. IsWithin (contents_in g) (content_if_given i h.content)) (sym id) (history_content n db v w it is g h in_v in_w id))
       (subst (λ i. IsWithin (content_if_given i h.content) (contents_in g)) (sym id) (history_content n db w v is it h g in_w in_v (sym id))) in
       let settings : g.settings ≡ h.settings =
       same_settings g.entry.id 1 g.settings h.settings (subst (λ i. IsWithin (settings_in g) (settings_from i 1 h.settings)) (sym id) (history_settings n db v w it is g h in_v in_w id))
@@ -283,7 +299,7 @@ same_vault_as n db v w it is =
     let notes = same_ascending note_cmp notes_total v.notes w.notes first.notes second.notes (notes_within n db v w it is) (notes_within n db w v is it) in
     let histories =
     same_ascending (on id_of nat_cmp) (by_number_total id_of) v.histories w.histories (ordered_ids n db v it) (ordered_ids n db w is) (histories_within n db v w it is) (histories_within n db w v is it) in
-    rw (last, departments, callers, same_buckets n db v w it is, notes, histories, moves) refl
+    rw (it.kept.inside ∙ sym is.kept.inside, last, departments, callers, same_buckets n db v w it is, notes, histories, moves) refl
 
 pub same_vault : (db : Database) (v w : Vault) → SpellsAs newest db v → SpellsAs newest db w → v ≡ w
 same_vault db v w it is = same_vault_as newest db v w it is

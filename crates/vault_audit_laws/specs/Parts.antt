@@ -1,5 +1,5 @@
 -- What the tables say, each by itself, and the vault that this makes.
-use Rattle.std.specs.Prelude.{◌≡◌, ℕ, ◌+◌, List, [], ◌∷◌, length, map, IsSome, IsTrue, IsPermutation}
+use Rattle.std.specs.Prelude.{◌≡◌, ℕ, ◌+◌, false, List, [], ◌∷◌, length, map, IsSome, IsTrue, IsPermutation}
 use Rattle.std.specs.List.{AllByRecursion, list_any}
 use Rattle.std.specs.Str.{bytes_eq}
 use Rattle.sqlite_value.specs.declared.value.Value.TheVariants.{Text}
@@ -55,11 +55,12 @@ joined (c ∷ cs) (s ∷ ss) (t ∷ ts) = put_together c s t ∷ joined cs ss ts
 -- these histories in these buckets, at the moment and with the moves that meta states
 abbrev pub versions_at : MetaRow → List Bucket → List History → Vault
 versions_at m buckets hs =
-    record { last = m.last; departments = []; callers = []; buckets = buckets; notes = []; histories = hs; moves = m.moves }
+    record { external = false; last = m.last; departments = []; callers = []; buckets = buckets; notes = []; histories = hs; moves = m.moves }
 
 -- the vault of these parts
 abbrev pub vault_of : MetaRow → List (List ℕ) → List Caller → List Bucket → List Note → List History → List History → List History → Vault
 vault_of m departments callers buckets notes contents settings tenures = record {
+  external = false;
   last = m.last;
   departments = departments;
   callers = callers;

@@ -11,7 +11,7 @@ use Rattle.vault_core_model.specs.declared.records.Entry.{Entry}
 use Rattle.vault_core_model.specs.declared.records.History.{History}
 use Rattle.vault_core_model.specs.declared.records.Note.{Note}
 use Rattle.vault_core_model.specs.Order.{IsAscending, name_cmp, caller_cmp, bucket_cmp, note_cmp}
-use Rattle.vault_core_model.specs.Sound.{AreTenures, HasItsBytes, IsNoted, IsWithBucket, LiesBetween}
+use Rattle.vault_core_model.specs.Sound.{AreTenures, HasItsContent, HasPlace, IsNoted, IsWithBucket, LiesBetween}
 use Rattle.vault_core_model.specs.Totals.{items_in}
 use Rattle.vault_core_model.specs.Vault.{Vault}
 use Rattle.vault_audit_model.specs.declared.rows.DepartmentRow.{DepartmentRow}
@@ -52,10 +52,10 @@ AreEntries db es = IsPermutation (map entry_row es) (map entry_columns (db.trees
 
 -- ---- contents
 
--- a held version has its bytes; a removed one and a marker have none
+-- a held version has its content, all of it in the tables; a removed one and a marker have none
 abbrev pub HasContentAs : Bool → History → Type 0
 HasContentAs true h = h.content ≡ None
-HasContentAs false h = HasItsBytes h.entry.removal h.content h.entry
+HasContentAs false h = HasPlace false h.content × HasItsContent h.entry.removal h.content h.entry
 
 abbrev pub HasContent : History → Type 0
 HasContent h = HasContentAs h.entry.marker h

@@ -1,11 +1,13 @@
 -- The vault that the rows of a database spell, and when its tables are sound.
-use Rattle.std.specs.Prelude.{◌≡◌, ℕ, ◌+◌, List, [], ◌∷◌, length, map, filter, flat_map, sum_by, Option, Some, None, IsPermutation}
+use Rattle.std.specs.Prelude.{◌≡◌, ℕ, ◌+◌, false, List, [], ◌∷◌, length, map, filter, flat_map, sum_by, Option, Some, None, IsPermutation}
 use Rattle.sqlite_value.specs.declared.value.Value.TheVariants.{Text}
 use Rattle.sqlite_value.specs.Order.{Row, column}
 use Rattle.sqlite.specs.Effect.{Database}
 use Rattle.vault_tally.specs.Row.{Item, admitted_size, received_size, held_size, removed_size, handed_size, weight, closed_byte_days}
 use Rattle.vault_tally.specs.declared.row.Row.{Row as Sums}
 use Rattle.vault_rules.specs.declared.rule.Rule.{Rule}
+use Rattle.vault_base.specs.declared.content.Content.{Content}
+use Rattle.vault_base.specs.declared.content.Content.TheVariants.{Inside, External}
 use Rattle.vault_core_model.specs.declared.records.Bucket.{Bucket}
 use Rattle.vault_core_model.specs.declared.records.Entry.{Entry}
 use Rattle.vault_core_model.specs.declared.records.History.{History}
@@ -55,10 +57,11 @@ rules_if_given bucket (Some rules) = rules_from bucket 1 rules
 abbrev pub rules_in : Bucket → List RuleRow
 rules_in b = rules_if_given b.name b.rules
 
--- the bytes of a version, while it has them
-abbrev pub content_if_given : ℕ → Option (List ℕ) → List ContentRow
+-- the bytes of a version, while it has them in the tables
+abbrev pub content_if_given : ℕ → Option Content → List ContentRow
 content_if_given id None = []
-content_if_given id (Some bytes) = record { id = id; content = bytes } ∷ []
+content_if_given id (Some (Inside bytes)) = record { id = id; content = bytes } ∷ []
+content_if_given id (Some (External r)) = []
 
 abbrev pub contents_in : History → List ContentRow
 contents_in h = content_if_given h.entry.id h.content
@@ -124,8 +127,9 @@ heads_in v = map (head_in v) (filter (is_current v) v.histories)
 
 -- ---- what holds beyond the limits of values
 
--- a vault as tables of that schema version may keep it: in its limits, sound, and with no tenures but those that they can state
+-- a vault as tables of that schema version may keep it: with no content that is kept outside, in its limits, sound, and with no tenures but those that they can state
 pub record IsKeptAs (n : SchemaVersion) (v : Vault) : Type 0 where
+  pub inside : v.external ≡ false
   pub limits : IsInLimits v
   pub sound : Sound v
   pub unmoved : IsUnmovedIn n v

@@ -1,6 +1,6 @@
 //! What a row of a table says, where the machine has no record of its own for it.
 
-use vault_base::content::Content;
+use vault_base::content::Bytes;
 use vault_base::moment::Moment;
 use vault_base::name::{BucketName, DeptName, ObjectKey, VersionId};
 use vault_core_model::records::{BucketConfig, Head, Setting, Tenure};
@@ -46,7 +46,7 @@ pub struct RuleRow {
 #[derive(Drop)]
 pub struct ContentRow {
     pub id: VersionId,
-    pub content: Content,
+    pub content: Bytes,
 }
 
 /// A setting at its place, from 1, among those of a version.

@@ -4,11 +4,13 @@ use Rattle.std.specs.List.{AllByRecursion, list_any}
 use Rattle.std.specs.Str.{bytes_eq}
 use Rattle.std.proofs.lemmas.Bool.{or_cases}
 use Rattle.std.proofs.lemmas.Slice.Eq.{bytes_eq-Decides}
+use Rattle.vault_base.specs.declared.content.Content.{Content}
+use Rattle.vault_base.specs.declared.content.Content.TheVariants.{Inside, External}
 use Rattle.vault_base.specs.Days.{last_moment}
 use Rattle.vault_base.specs.Limits.{most_content, most_moves, most_settings}
 use Rattle.vault_base.specs.Name.{is_version_id}
 use Rattle.vault_rules.specs.declared.rule.Rule.{Rule}
-use Rattle.vault_core_model.specs.Sound.{LiesBetween, IsInTime, FollowOn, end_of, AreTenures, HasTenuresAs, HasTenures, HasItsBytes, IsWholeAs, IsWhole, AreIdsFrom, AreInOrder}
+use Rattle.vault_core_model.specs.Sound.{LiesBetween, IsInTime, FollowOn, end_of, AreTenures, HasTenuresAs, HasTenures, HasItsContent, IsWholeAs, IsWhole, AreIdsFrom, AreInOrder}
 use Rattle.vault_core_model.specs.Vault.{Vault, has_department}
 use Rattle.vault_core_model.specs.declared.records.Bucket.{Bucket}
 use Rattle.vault_core_model.specs.declared.records.Entry.{Entry}
@@ -59,36 +61,37 @@ given_rules bucket (Some rules) name are = let most = few rules are.0 in placed_
 
 -- ---- histories
 
-sized : (marker : Bool) (e : Entry) (removal : Option Removal) (bytes : List ℕ) (settings : List Setting) → e.removal ≡ removal → IsWholeAs marker e (Some bytes) settings → length bytes ≤ most_content
-sized true e removal bytes settings is h = absurd (let none = h.2 in cc)
-sized false e None bytes settings is h =
-    let its = subst (λ r. HasItsBytes r (Some bytes) e) is h.1 in
-    let small = h.0 in omega (arith, small, its.0)
-sized false e (Some r) bytes settings is h = elim (subst (λ r. HasItsBytes r (Some bytes) e) is h.1) [ ]
+sized : (marker external : Bool) (e : Entry) (removal : Option Removal) (bytes : List ℕ) (settings : List Setting) → e.removal ≡ removal → IsWholeAs marker external e (Some (Inside bytes)) settings → length bytes ≤ most_content
+sized true external e removal bytes settings is h = absurd (let none = h.2 in cc)
+sized false external e None bytes settings is h =
+    let its = subst (λ r. HasItsContent r (Some (Inside bytes)) e) is h.1 in
+    let small : e.size ≤ most_content = h.0.0 in omega (arith, small, its.0)
+sized false external e (Some r) bytes settings is h = elim (subst (λ r. HasItsContent r (Some (Inside bytes)) e) is h.1) [ ]
 
-given_content : (id : ℕ) (content : Option (List ℕ)) → IsTrue (is_version_id id) → ((bytes : List ℕ) → content ≡ Some bytes → length bytes ≤ most_content) → AllByRecursion IsContentRow (content_if_given id content)
+given_content : (id : ℕ) (content : Option Content) → IsTrue (is_version_id id) → ((bytes : List ℕ) → content ≡ Some (Inside bytes) → length bytes ≤ most_content) → AllByRecursion IsContentRow (content_if_given id content)
 given_content id None is small = tt
-given_content id (Some bytes) is small = (record { id = is; size = small bytes refl }, tt)
+given_content id (Some (Inside bytes)) is small = (record { id = is; size = small bytes refl }, tt)
+given_content id (Some (External r)) is small = tt
 
-content_rows : (h : History) → IsHistory h × IsWhole h → AllByRecursion IsContentRow (contents_in h)
-content_rows h (is, whole) =
-    given_content h.entry.id h.content is.entry.id (λ bytes same. sized h.entry.marker h.entry h.entry.removal bytes h.settings refl (subst (λ c. IsWholeAs h.entry.marker h.entry c h.settings) same whole))
+content_rows : (external : Bool) (h : History) → IsHistory h × IsWhole external h → AllByRecursion IsContentRow (contents_in h)
+content_rows external h (is, whole) =
+    given_content h.entry.id h.content is.entry.id (λ bytes same. sized h.entry.marker external h.entry h.entry.removal bytes h.settings refl (subst (λ c. IsWholeAs h.entry.marker external h.entry c h.settings) same whole))
 
-most : (marker : Bool) (e : Entry) (content : Option (List ℕ)) (settings : List Setting) → IsWholeAs marker e content settings → length settings ≤ most_settings
-most true e content settings h = subst (λ s. length s ≤ most_settings) (sym h.3) (omega arith)
-most false e content settings h = h.3
+most : (marker external : Bool) (e : Entry) (content : Option Content) (settings : List Setting) → IsWholeAs marker external e content settings → length settings ≤ most_settings
+most true external e content settings h = subst (λ s. length s ≤ most_settings) (sym h.3) (omega arith)
+most false external e content settings h = h.3
 
-pub most_of : (h : History) → IsWhole h → length h.settings ≤ most_settings
-most_of h whole = most h.entry.marker h.entry h.content h.settings whole
+pub most_of : (external : Bool) (h : History) → IsWhole external h → length h.settings ≤ most_settings
+most_of external h whole = most h.entry.marker external h.entry h.content h.settings whole
 
 placed_settings : (id place : ℕ) (settings : List Setting) → IsTrue (is_version_id id) → 1 ≤ place → place + length settings ≤ most_settings + 1 → AllByRecursion IsSetting settings → AllByRecursion IsSettingRow (settings_from id place settings)
 placed_settings id place [] is low high all = tt
 placed_settings id place (s ∷ ss) is low high all =
     (record { id = is; place = (low, omega (arith, high)); setting = all.0 }, placed_settings id (place + 1) ss is (omega (arith, low)) (omega (arith, high)) all.1)
 
-setting_rows : (h : History) → IsHistory h × IsWhole h → AllByRecursion IsSettingRow (settings_in h)
-setting_rows h (is, whole) =
-    let count = most_of h whole in
+setting_rows : (external : Bool) (h : History) → IsHistory h × IsWhole external h → AllByRecursion IsSettingRow (settings_in h)
+setting_rows external h (is, whole) =
+    let count = most_of external h whole in
     placed_settings h.entry.id 1 h.settings is.entry.id (omega arith) (omega (arith, count)) is.settings
 
 -- ---- tenures
@@ -136,8 +139,8 @@ numbers_of next low last (h ∷ hs) ids order all = ((all.0.entry, (ids.0, order
 -- ---- of a vault that tables keep
 
 module _ {n : SchemaVersion} (v : Vault) (kept : IsKeptAs n v) where
-  pub wholes : AllByRecursion (λ h. IsHistory h × IsWhole h) v.histories
-  wholes = all_both IsHistory IsWhole v.histories kept.limits.histories kept.sound.whole
+  pub wholes : AllByRecursion (λ h. IsHistory h × IsWhole v.external h) v.histories
+  wholes = all_both IsHistory (IsWhole v.external) v.histories kept.limits.histories kept.sound.whole
 
   pub tenured : AllByRecursion AreTenuresInLimits v.histories
   tenured =
@@ -146,10 +149,10 @@ module _ {n : SchemaVersion} (v : Vault) (kept : IsKeptAs n v) where
       v.histories (all_both (IsInTime v.last) (HasTenures v) v.histories kept.sound.in_time kept.sound.tenured)
 
   pub contents_limited : AllByRecursion IsContentRow (flat_map contents_in v.histories)
-  contents_limited = all_flat IsContentRow contents_in v.histories (all_as content_rows v.histories wholes)
+  contents_limited = all_flat IsContentRow contents_in v.histories (all_as (content_rows v.external) v.histories wholes)
 
   pub settings_limited : AllByRecursion (λ h. AllByRecursion IsSettingRow (settings_in h)) v.histories
-  settings_limited = all_as setting_rows v.histories wholes
+  settings_limited = all_as (setting_rows v.external) v.histories wholes
 
   pub tenures_limited : AllByRecursion (λ h. AllByRecursion IsTenureRow (tenures_in h)) v.histories
   tenures_limited = all_as tenure_rows v.histories (all_both IsHistory AreTenuresInLimits v.histories kept.limits.histories tenured)

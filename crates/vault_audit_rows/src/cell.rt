@@ -11,7 +11,7 @@ use crate::misread::Misread;
 use sqlite::Row;
 use sqlite::types::{FromSql, FromSqlError, ValueRef};
 use std::alloc::Global;
-use vault_base::content::{Content, Digest};
+use vault_base::content::{Bytes, Digest};
 use vault_base::moment::Moment;
 use vault_base::name::VersionId;
 
@@ -181,8 +181,8 @@ pub fn digest_or_null(row: &Row, at: usize) -> Option<Option<Digest>>
     Some(Some(d))
 }
 
-/// The content in a column.
-pub fn content(row: &Row, at: usize) -> Result<Content, Misread>
+/// The bytes of a content in a column.
+pub fn content(row: &Row, at: usize) -> Result<Bytes, Misread>
     ensures ok { IfOk result (λ c. column row.now at ≡ Blob c) }
     ensures wrong { IfErr result (λ e. e ≡ Misread.Wrong → (b : List ℕ) → column row.now at ≢ Blob b) }
 {
@@ -190,5 +190,5 @@ pub fn content(row: &Row, at: usize) -> Result<Content, Misread>
         return Err(Misread::Wrong);
     };
     let copy = Vec::from_slice(memory_of(row)?, bytes)?;
-    Ok(Content::new(copy))
+    Ok(Bytes::new(copy))
 }

@@ -1,9 +1,13 @@
 -- How much a vault takes, and how much of it is read or listed at once.
 use Rattle.std.specs.Prelude.{ℕ}
 
--- the bytes of one version at most
+-- the bytes of one version at most, where the vault keeps them
 abbrev pub most_content : ℕ
 most_content = 1048576
+
+-- the bytes of one version at most, where they are kept outside: as many as one put of S3 may have (API Reference, "PutObject")
+abbrev pub most_external : ℕ
+most_external = 5368709120
 
 -- the last number that a vault counts to: of its ids, its moves of buckets and the settings of one version
 abbrev pub last_number : ℕ

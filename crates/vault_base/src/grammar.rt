@@ -1,4 +1,4 @@
-//! The grammars of names: which texts are names of a kind, and why another is none.
+//! The grammars of names: which texts are names of a kind, and why another text is no name.
 ghost use Rattle.std.specs.Prelude.{◌≡◌, ℕ, List, Bool, IsTrue, false, Result, Ok, Err};
 ghost use Rattle.std.proofs.Common.{rules};
 ghost use Rattle.vault_base.specs.Name as spec;

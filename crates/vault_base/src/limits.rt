@@ -1,7 +1,10 @@
 //! How much a vault takes, and how much of it is read or listed at once.
 
-/// The bytes of one version at most.
+/// The bytes of one version at most, where the vault keeps them.
 pub const MOST_CONTENT: usize = 1_048_576;
+
+/// The bytes of one version at most, where they are kept outside: as many as one put of S3 may have (API Reference, "PutObject").
+pub const MOST_EXTERNAL: u64 = 5_368_709_120;
 
 /// The last number that a vault counts to: of its ids, its moves of buckets and the settings of one version.
 const LAST_NUMBER: u32 = 1_000_000_000;

@@ -72,7 +72,7 @@ pub record Spells (text : List ℕ) (p : Parts) : Type 0 where
   pub are : ArePartsOfMoment p
   pub same : text ≡ spelled p
 
--- that is what a text is read as: the moment that it names, or that it names a second that is none, or that it names no second
+-- that is what a text is read as: the moment that it names, or that it names a second that no clock shows, or that it names no second
 unfoldable pub Reads : List ℕ → Result ℕ MomentFault → Type 0
 Reads text (Ok t) = (p : Parts) × Spells text p × (second_named p ≡ pos t) × (t ≤ last_moment)
 Reads text (Err Range) = (p : Parts) × Spells text p × ((second_named p <ℤ pos 0) ⊎ (pos last_moment <ℤ second_named p))

@@ -1,11 +1,14 @@
 -- What commands leave that are carried out step by step.
-use Rattle.std.proofs.Common.{◌≡◌, List, [], ◌∷◌, ◌++◌, ◌∙◌, refl, ap, subst}
+use Rattle.std.proofs.Common.{◌≡◌, List, [], ◌∷◌, ◌++◌, ◌∙◌, refl, sym, ap, subst}
 use Rattle.vault_core_model.specs.declared.command.Timed.{Timed}
 use Rattle.vault_core_model.specs.declared.kept.Kept.{Ghosts}
 use Rattle.vault_core_model.specs.declared.reply.Reply.{Reply}
 use Rattle.vault_core_model.specs.Halts.{is_device_reply}
 use Rattle.vault_core_model.specs.Leaves.{Leaves, count_after_all}
-use Rattle.vault_core_model.specs.Step.{IsRun, IsStep}
+use Rattle.vault_core_model.specs.Step.{IsRun, IsStep, Reached}
+use Rattle.vault_core_model.specs.Vault.{Vault, opening_of}
+use Rattle.vault_core_laws.proofs.Runs.{IsRun-append}
+use Rattle.vault_core_run_laws.proofs.Reached.{reached-Sound, run-external}
 use Rattle.vault_core.specs.StepByStep.{StepByStep}
 
 module _ {K : Type 0} (g : Ghosts K) where
@@ -39,3 +42,12 @@ module _ {K : Type 0} (g : Ghosts K) where
   counted old new [] (r ∷ rs) t = absurd t
   counted old new (c ∷ cs) [] t = absurd t
   counted old new (c ∷ cs) (r ∷ rs) t = counted t.0 new cs rs t.3 ∙ ap (λ n. count_after_all n rs) t.2.counted
+
+-- ---- vaults that are reached
+
+-- the run to the vault before, and then this one
+pub run-reached : (v w : Vault) (cs : List Timed) (rs : List Reply) → Reached v → IsRun v cs rs w → Reached w
+run-reached v w cs rs before run =
+    let same : w.external ≡ v.external = run-external v w cs rs (reached-Sound v before) run in
+    let all = IsRun-append (opening_of v.external) v w before.0 cs before.1 rs before.2 run in
+    (before.0 ++ cs, before.1 ++ rs, subst (λ b. IsRun (opening_of b) (before.0 ++ cs) (before.1 ++ rs) w) (sym same) all)

@@ -1,15 +1,15 @@
 //! The arguments of commands.
-ghost use Rattle.std.specs.Prelude.{◌≡◌, ◌≤◌, IsTrue, IfErr, OnOk, false, length};
+ghost use Rattle.std.specs.Prelude.{◌≡◌, ◌≤◌, IsTrue, IfErr, OnOk, false, Some};
 ghost use Rattle.std.specs.Str.{bytes_eq};
-ghost use Rattle.vault_base.specs.Limits.{most_content};
+ghost use Rattle.vault_base.specs.Content.{size, most_size};
 ghost use Rattle.vault_core_model.specs.Leaves.{LeavesSame};
 ghost use Rattle.vault_core_model.specs.Halts.{ChecksAs, is_device, is_device_refusal};
 ghost use Rattle.vault_core_model.specs.Vault.{has_department};
+ghost use Rattle.vault_core_model.specs.Sound.{HasPlace};
 ghost use Rattle.vault_rules.specs.Rules.{passes_if_given};
-ghost use Rattle.vault_core_model.specs.Checks.{small_enough, ends_later_if_given, known_department, known_department_if_given, other_department, allowed_default, has_period};
+ghost use Rattle.vault_core_model.specs.Checks.{has_place, small_enough, ends_later_if_given, known_department, known_department_if_given, other_department, allowed_default, has_period};
 
 use vault_base::content::Content;
-use vault_base::limits::MOST_CONTENT;
 use vault_base::moment::Moment;
 use vault_base::name::DeptName;
 use vault_base::refusal::Refusal;
@@ -18,13 +18,27 @@ use vault_core_model::keeper::Keeper;
 use vault_core_model::records::BucketConfig;
 use vault_lock::retention::{Default, Retention};
 
-/// The content is within the limit of one version; else EntityTooLarge.
+/// A content that is kept outside is for a vault that registers such contents; else InvalidArgument.
+pub fn check_place<K: Keeper>(keeper: &mut K, content: &Content) -> Result<(), Halt>
+    ensures found { K.is_honest keeper.new → ChecksAs result (has_place (K.vault keeper.old) content.now) }
+    ensures there { K.is_honest keeper.new → OnOk result (HasPlace (K.vault keeper.old).external (Some content.now)) }
+    ensures leaves { LeavesSame K.Kept keeper.old keeper.new (is_device result) }
+{
+    if keeper.external()? || !content.is_external() {
+        Ok(())
+    } else {
+        Err(Halt::Refused(Refusal::InvalidArgument))
+    }
+}
+
+/// The content is within the limit of one version: 1,048,576 bytes that the vault keeps, or 5,368,709,120 that are kept
+/// outside; else EntityTooLarge.
 pub fn check_size(content: &Content) -> Result<(), Refusal>
     ensures exact { result ≡ small_enough content.now }
-    ensures small { OnOk result (length content.now ≤ most_content) }
+    ensures small { OnOk result (size content.now ≤ most_size content.now) }
     ensures device { IfErr result (λ refusal. is_device_refusal refusal ≡ false) }
 {
-    if content.len() <= MOST_CONTENT {
+    if content.is_in_limit() {
         Ok(())
     } else {
         Err(Refusal::EntityTooLarge)

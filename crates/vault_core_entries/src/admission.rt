@@ -1,9 +1,10 @@
 //! What a put and a line of an intake batch have in common.
-ghost use Rattle.std.specs.Prelude.{◌≡◌, ◌≤◌, length, [], ◌∷◌, IfOk, OnOk, Some, false};
-ghost use Rattle.vault_base.specs.Limits.{most_content};
+ghost use Rattle.std.specs.Prelude.{◌≡◌, ◌≤◌, [], ◌∷◌, IfOk, OnOk, Some, false};
+ghost use Rattle.vault_base.specs.Content.{size, most_size};
 ghost use Rattle.vault_core_model.specs.Leaves.{LeavesSame};
 ghost use Rattle.vault_core_model.specs.Halts.{ChecksAs, is_device};
 ghost use Rattle.vault_core_model.specs.EntryOutcomes as outcome;
+ghost use Rattle.vault_core_model.specs.Sound.{HasPlace};
 ghost use Rattle.vault_core_model.specs.Vault.{config_of};
 ghost use Rattle.vault_core_entries.specs.Entries.{Fits};
 
@@ -11,7 +12,7 @@ use std::alloc::{AllocError, Global};
 use vault_base::moment::Moment;
 use vault_base::name::{CallerName, DeptName, VersionId};
 use vault_base::right::Right;
-use vault_core_checks::argument::{check_end, check_size};
+use vault_core_checks::argument::{check_end, check_place, check_size};
 use vault_core_checks::caller::{check_right_if, find_access};
 use vault_core_checks::entry::find_first_lock;
 use vault_core_checks::limit::check_quota;
@@ -56,14 +57,16 @@ pub(crate) fn find_lock_to_admit<K: Keeper>(
     access: &Access,
 ) -> Result<Lock, Halt>
     ensures found { K.is_honest keeper.new → ChecksAs result (outcome.lock_to_admit (K.vault keeper.old) at command.now access.now) }
-    ensures small { OnOk result (length command.now.content ≤ most_content) }
-    ensures fits { K.is_honest keeper.new → OnOk result (Fits (K.vault keeper.old) access.now.bucket.dept (length command.now.content)) }
+    ensures there { K.is_honest keeper.new → OnOk result (HasPlace (K.vault keeper.old).external (Some command.now.content)) }
+    ensures small { OnOk result (size command.now.content ≤ most_size command.now.content) }
+    ensures fits { K.is_honest keeper.new → OnOk result (Fits (K.vault keeper.old) access.now.bucket.dept (size command.now.content)) }
     ensures leaves { LeavesSame K.Kept keeper.old keeper.new (is_device result) }
 {
+    check_place(keeper, &command.content)?;
     check_size(&command.content)?;
     check_end(at, command.retention)?;
     let lock = find_first_lock(&access.bucket, command.retention, command.hold, at)?;
-    check_quota(keeper, &access.bucket.dept, command.content.len() as u64)?;
+    check_quota(keeper, &access.bucket.dept, command.content.size())?;
     Ok(lock)
 }
 
@@ -95,7 +98,7 @@ pub(crate) fn new_version(
         bucket: command.bucket.clone()?,
         key: command.key.clone()?,
         marker: false,
-        size: command.content.len() as u64,
+        size: command.content.size(),
         digest: Some(command.content.digest()),
         admitted: at,
         by: Author::Caller(version.who.clone()?),

@@ -1,11 +1,11 @@
 //! A line of an intake batch.
-ghost use Rattle.std.specs.Prelude.{◌≡◌, ◌≤◌, length, IsTrue, IfOk, IfErr, OnOk, Some, None, false};
-ghost use Rattle.sha2.specs.Sha256.{sha256};
-ghost use Rattle.vault_base.specs.Limits.{most_content};
+ghost use Rattle.std.specs.Prelude.{◌≡◌, ◌≤◌, IsTrue, IfOk, IfErr, OnOk, Some, None, false};
+ghost use Rattle.vault_base.specs.Content as contents;
 ghost use Rattle.vault_core_model.specs.Leaves.{Leaves, LeavesSame};
 ghost use Rattle.vault_core_model.specs.Halts.{ChecksAs, AnswersAs, is_device, is_device_refusal};
 ghost use Rattle.vault_core_model.specs.EntryOutcomes.{new_version};
 ghost use Rattle.vault_core_model.specs.IntakeOutcome as outcome;
+ghost use Rattle.vault_core_model.specs.Sound.{HasPlace};
 ghost use Rattle.vault_core_model.specs.Vault.{config_of, note_of};
 ghost use Rattle.vault_core_entries.specs.Entries.{Fits, intake_as_noted};
 
@@ -128,8 +128,9 @@ fn find_lock_to_take_in<K: Keeper>(
 ) -> Result<Lock, Halt>
     ensures found { K.is_honest keeper.new → ChecksAs result (outcome.lock_to_take_in (K.vault keeper.old) at command.now access.now) }
     ensures line { OnOk result (IsTrue (outcome.is_line command.now.line)) }
-    ensures small { OnOk result (length command.now.put.content ≤ most_content) }
-    ensures fits { K.is_honest keeper.new → OnOk result (Fits (K.vault keeper.old) access.now.bucket.dept (length command.now.put.content)) }
+    ensures there { K.is_honest keeper.new → OnOk result (HasPlace (K.vault keeper.old).external (Some command.now.put.content)) }
+    ensures small { OnOk result (contents.size command.now.put.content ≤ contents.most_size command.now.put.content) }
+    ensures fits { K.is_honest keeper.new → OnOk result (Fits (K.vault keeper.old) access.now.bucket.dept (contents.size command.now.put.content)) }
     ensures leaves { LeavesSame K.Kept keeper.old keeper.new (is_device result) }
 {
     if command.line == 0 {
@@ -153,12 +154,12 @@ fn taken_before(put: &Put, note: &Note) -> Result<TakenIn, Refusal>
     }
 }
 
-/// Whether a note has the same key, bytes, retention and hold.
+/// Whether a note has the same key, size, digest, retention and hold.
 fn agrees(note: &Note, put: &Put) -> bool
     ensures { result ≡ outcome.agrees note.now put.now }
 {
     note.key == put.key
-        && note.size == put.content.len() as u64
+        && note.size == put.content.size()
         && note.digest == put.content.digest()
         && is_same_retention(note.retention, put.retention)
         && is_same_hold(note.hold, put.hold)
@@ -187,7 +188,7 @@ fn is_same_hold(one: Option<bool>, other: Option<bool>) -> bool
 
 /// The digest of an entry that has just these bytes, which aren't gone through again.
 fn digest_of(entry: &Entry, content: &Content) -> Digest
-    ensures { entry.now.digest ≡ Some (sha256 content.now) → result ≡ sha256 content.now }
+    ensures { entry.now.digest ≡ Some (contents.digest content.now) → result ≡ contents.digest content.now }
 {
     match entry.digest {
         Some(digest) => digest,
@@ -197,7 +198,7 @@ fn digest_of(entry: &Entry, content: &Content) -> Digest
 
 /// The note of an accepted line, whose content has that digest.
 fn new_note(id: VersionId, command: &Intake, digest: Digest) -> Result<Note, AllocError>
-    requires { digest ≡ sha256 command.now.put.content }
+    requires { digest ≡ contents.digest command.now.put.content }
     ensures { IfOk result (λ note. note ≡ outcome.new_note id command.now) }
 {
     let put = &command.put;
@@ -206,7 +207,7 @@ fn new_note(id: VersionId, command: &Intake, digest: Digest) -> Result<Note, All
         batch: command.batch.clone()?,
         line: command.line,
         key: put.key.clone()?,
-        size: put.content.len() as u64,
+        size: put.content.size(),
         digest,
         retention: put.retention,
         hold: put.hold,

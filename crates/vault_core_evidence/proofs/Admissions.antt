@@ -10,6 +10,7 @@ use Rattle.vault_base.specs.declared.refusal.Refusal.TheVariants.{AccessDenied, 
 use Rattle.vault_base.specs.declared.refusal.Reason.TheVariants as reason
 use Rattle.vault_base.specs.declared.right.Right.{Right}
 use Rattle.vault_base.specs.declared.right.Right.TheVariants as right
+use Rattle.vault_base.specs.Content.{size}
 use Rattle.vault_base.specs.Days.{is_moment}
 use Rattle.vault_base.specs.Limits.{most_ids}
 use Rattle.vault_lock.specs.declared.lock.Lock.{Lock}
@@ -63,7 +64,7 @@ use Rattle.vault_core_model.specs.declared.reply.Reply.{Reply}
 use Rattle.vault_core_model.specs.declared.reply.Reply.TheVariants.{Done, Refused, Stopped}
 use Rattle.vault_core_model.specs.declared.reply.Stop.TheVariants as stop
 use Rattle.vault_core_model.specs.Change.{changed, next_tenure, removed_by, removed_if, tenured_by, tenured_if, with_setting}
-use Rattle.vault_core_model.specs.Checks.{◌>>=◌, access, administrator, allowed_default, asking, check, ends_later_if_given, found, free_id, free_move, has_period, is_own, known_department, known_department_if_given, lock_at_admission, may_report, needs, needs_if, other_department, small_enough, version_meant, within_quota}
+use Rattle.vault_core_model.specs.Checks.{◌>>=◌, access, administrator, allowed_default, asking, check, ends_later_if_given, found, free_id, free_move, has_period, is_own, known_department, known_department_if_given, lock_at_admission, may_report, needs, needs_if, other_department, has_place, small_enough, version_meant, within_quota}
 use Rattle.vault_core_model.specs.Reads.{entry_of}
 use Rattle.vault_core_model.specs.Totals.{bucket_bytes}
 use Rattle.vault_core_model.specs.EntryOutcomes as entries
@@ -76,7 +77,7 @@ use Rattle.vault_core_model.specs.RecordOutcomes as records
 use Rattle.vault_core_model.specs.RunOutcome.{planned_run, AnswersRun, StopsByFault}
 use Rattle.vault_core_model.specs.Sound.{HasPeriod, Sound}
 use Rattle.vault_core_model.specs.Step.{Answers, IsRun, IsStep, Reached}
-use Rattle.vault_core_model.specs.Vault.{Vault, caller_of, config_in, config_of, has_department, next_id, note_of, opening, rules_of}
+use Rattle.vault_core_model.specs.Vault.{Vault, caller_of, config_in, config_of, has_department, next_id, note_of, opening_of, rules_of}
 use Rattle.vault_core_laws.proofs.Lists.{All-push, All-weaker}
 use Rattle.vault_core_run_laws.specs.Callers.{KeepsCallers}
 use Rattle.vault_core_run_laws.proofs.Checked.{bind_if, check-is, found-is, IsAsking, asking-is}
@@ -264,10 +265,11 @@ given-ends t (Some r) = if_later (nat_lt t r.until) refl
 
 lock_to_admit-ends : (v : Vault) (t : ℕ) (c : Put) (a : Access) → has_period a.bucket.default ≡ true → IfOk (entries.lock_to_admit v t c a) (LockEnds t)
 lock_to_admit-ends v t c a has =
-    passed (small_enough c.content) _ _
+    passed (has_place v c.content) _ _
+    (λ x. passed (small_enough c.content) _ _
     (λ u. bind_if (ends_later_if_given t c.retention) (λ w. EndsAfter t c.retention) _ _ (given-ends t c.retention)
     (λ w later. bind_if (lock_at_admission a.bucket c.retention c.hold t) (LockEnds t) _ _ (first_lock-ends a.bucket.default c.retention (unwrap_or c.hold false) t has later)
-    (λ lock ends. passed (within_quota v a.bucket.dept (length c.content)) _ _ (λ z. ends))))
+    (λ lock ends. passed (within_quota v a.bucket.dept (size c.content)) _ _ (λ z. ends)))))
 
 -- ---- the commands that admit
 
@@ -481,4 +483,4 @@ steps-go v w (c ∷ cs) (r ∷ rs) run sound all =
     (step-goes v run.0 c.at c.who c.command r sound run.1 (run-callers v run.0 (c ∷ []) (r ∷ []) sound one) all)
 
 pub reached-admitted : (v : Vault) → Reached v → AllByRecursion (IsAdmittedSo v) v.histories
-reached-admitted v reached = steps-go opening v reached.0 reached.1 reached.2 Sound-opening tt
+reached-admitted v reached = steps-go (opening_of v.external) v reached.0 reached.1 reached.2 (Sound-opening v.external) tt

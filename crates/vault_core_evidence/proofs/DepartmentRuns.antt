@@ -13,7 +13,7 @@ use Rattle.vault_core_model.specs.declared.records.Removal.{Removal}
 use Rattle.vault_core_model.specs.declared.records.Setting.{Setting}
 use Rattle.vault_core_model.specs.declared.records.Tenure.{Tenure}
 use Rattle.vault_core_model.specs.Places.{is_held, is_held_in, is_held_version_in}
-use Rattle.vault_core_model.specs.Vault.{Vault, config_of, opening, registrar, registrar_name}
+use Rattle.vault_core_model.specs.Vault.{Vault, config_of, opening_of, registrar, registrar_name}
 use Rattle.vault_core_model.specs.Change.{changed, next_tenure, removed_by, removed_if, tenured_by, tenured_if, with_setting}
 use Rattle.vault_core_model.specs.Sound.{AreTenures, FollowOn, HasTenures, HasTenuresAs, IsInTime, IsWithBucket, LiesBetween, Sound, end_of, last_tenure}
 use Rattle.vault_core_model.specs.Allowed.{HasFirstTenure, IsHeldId}
@@ -286,7 +286,7 @@ AreOf-changed v t who (Remove id r) sound are may = (
 
 pub reached-Departments : (v : Vault) → Reached v → DepartmentsAgree v
 reached-Departments v reached =
-    let are = (IsRun-keeps AreOf AreOf-changed opening v reached.0 reached.1 reached.2 (Sound-opening, ((λ bucket s. []), tt))).1 in
+    let are = (IsRun-keeps AreOf AreOf-changed (opening_of v.external) v reached.0 reached.1 reached.2 (Sound-opening v.external, ((λ bucket s. []), tt))).1 in
     all_agree are.0 v.histories are.1
 
 -- ---- the caller of a new vault
@@ -299,5 +299,5 @@ still_registrar closed = eq_itself (rights_number registrar.rights)
 
 pub reached-registrar : (v : Vault) → Reached v → has_registrar v ≡ true
 reached-registrar v reached =
-    let is = run-callers opening v reached.0 reached.1 Sound-opening reached.2 registrar_name registrar refl in
+    let is = run-callers (opening_of v.external) v reached.0 reached.1 (Sound-opening v.external) reached.2 registrar_name registrar refl in
     ap is_registrar is.there ∙ still_registrar is.closed

@@ -20,7 +20,7 @@ use Rattle.vault_core_model.specs.declared.records.Removal.{Removal}
 use Rattle.vault_core_model.specs.declared.records.Setting.{Setting}
 use Rattle.vault_core_model.specs.declared.records.Tenure.{Tenure}
 use Rattle.vault_core_model.specs.Places.{is_held_version_in}
-use Rattle.vault_core_model.specs.Vault.{Vault, caller_of, history_of, last_lock, opening}
+use Rattle.vault_core_model.specs.Vault.{Vault, caller_of, history_of, last_lock, opening_of}
 use Rattle.vault_core_model.specs.Reads.{lock_of}
 use Rattle.vault_core_model.specs.Change.{changed, next_tenure, removed_by, removed_if, tenured_by, tenured_if, with_setting}
 use Rattle.vault_core_model.specs.Sound.{IsWhole, IsWholeAs, Sound}
@@ -162,9 +162,9 @@ settings-push : (v : Vault) (admitted : ℕ) (author : Author) (ss : List Settin
 settings-push v admitted author [] n some le permitted by all = absurd (omega (arith, some))
 settings-push v admitted author (s ∷ ss) n some le permitted by all = (all.0, after-push v admitted s ss n le permitted by all.1)
 
-some_setting : (h : History) (marker : Bool) → marker ≡ false → IsWholeAs marker h.entry h.content h.settings → 1 ≤ length h.settings
-some_setting h true e whole = absurd (cc e)
-some_setting h false e whole = whole.2
+some_setting : (external : Bool) (h : History) (marker : Bool) → marker ≡ false → IsWholeAs marker external h.entry h.content h.settings → 1 ≤ length h.settings
+some_setting external h true e whole = absurd (cc e)
+some_setting external h false e whole = whole.2
 
 marker_of : (v : Vault) (id : ℕ) (h : History) (e : Entry) → history_of v id ≡ Some h → option_map (λ g. g.entry) (history_of v id) ≡ Some e → e.marker ≡ false → h.entry.marker ≡ false
 marker_of v id h e found there version =
@@ -172,7 +172,7 @@ marker_of v id h e found there version =
     let entry : h.entry ≡ e = cc same in
     ap (λ (x : Entry). x.marker) entry ∙ version
 
-pub setting_added : (v w : Vault) (t id : ℕ) (who : List ℕ) (s : Setting) (h : History) → KeepsEach v w → v.last ≤ t → w.last ≡ t → IsNextSetting v t id s → IsHeldId v id → IsPermittedSetting v t who (lock_of v id) s → IsSetByRight v t (lock_of v id) s → find (λ g. g.entry.id == h.entry.id) v.histories ≡ Some h → IsWhole h → KeepsRules v h → KeepsRules w (with_setting id s h)
+pub setting_added : (v w : Vault) (t id : ℕ) (who : List ℕ) (s : Setting) (h : History) → KeepsEach v w → v.last ≤ t → w.last ≡ t → IsNextSetting v t id s → IsHeldId v id → IsPermittedSetting v t who (lock_of v id) s → IsSetByRight v t (lock_of v id) s → find (λ g. g.entry.id == h.entry.id) v.histories ≡ Some h → IsWhole v.external h → KeepsRules v h → KeepsRules w (with_setting id s h)
 setting_added v w t id who s h keep le last next held permitted by own whole is = by_id (eqb h.entry.id id) refl
   where
     added : history_of v id ≡ Some h → KeepsRules w (record h { settings = h.settings ++ s ∷ [] })
@@ -192,7 +192,7 @@ setting_added v w t id who s h keep le last next held permitted by own whole is 
           admitter = admitter-on v w h.entry.marker h.entry.by keep is.admitter;
           settings = settings-on v w h.entry.admitted h.entry.by (h.settings ++ s ∷ []) keep
               (settings-push v h.entry.admitted h.entry.by h.settings s
-              (some_setting h h.entry.marker (marker_of v id h next.entry found next.there next.version) whole)
+              (some_setting v.external h h.entry.marker (marker_of v id h next.entry found next.there next.version) whole)
               (omega (arith, before, le, next.now)) may right_to is.settings);
           end = subst U (sym none) (omega (arith, last_at-push h.entry.admitted h.settings s, next.now, last));
         }
@@ -264,11 +264,11 @@ stay v w hs keep le all = All-weaker (KeepsRules v) (KeepsRules w) (λ h is. law
 
 -- a history is found by its own id, and is whole
 abbrev pub IsOwn : Vault → History → Type 0
-IsOwn v h = (find (λ g. g.entry.id == h.entry.id) v.histories ≡ Some h) × IsWhole h
+IsOwn v h = (find (λ g. g.entry.id == h.entry.id) v.histories ≡ Some h) × IsWhole v.external h
 
 pub own : (v : Vault) → Sound v → AllByRecursion (IsOwn v) v.histories
 own v sound =
-    All-both (λ h. find (λ g. g.entry.id == h.entry.id) v.histories ≡ Some h) IsWhole (IsOwn v) (λ h p q. (p, q)) v.histories (finds_itself 1 v.histories sound.ids) sound.whole
+    All-both (λ h. find (λ g. g.entry.id == h.entry.id) v.histories ≡ Some h) (IsWhole v.external) (IsOwn v) (λ h p q. (p, q)) v.histories (finds_itself 1 v.histories sound.ids) sound.whole
 
 each_kept : (v : Vault) (t : ℕ) (who : List ℕ) (c : Change) → Sound v → MayMake v t who c → KeepsEach v (changed v t c)
 each_kept v t who c sound may = keeps_each v (changed v t c) (Callers-changed v v t who c sound (keeps_itself v) may)
@@ -302,24 +302,24 @@ rules-changed v t who (Remove id r) sound lawful may =
     v.histories (own v sound) lawful
 
 reached-rules : (v : Vault) → Reached v → Sound v × RulesAreKept v
-reached-rules v reached = IsRun-keeps RulesAreKept rules-changed opening v reached.0 reached.1 reached.2 (Sound-opening, tt)
+reached-rules v reached = IsRun-keeps RulesAreKept rules-changed (opening_of v.external) v reached.0 reached.1 reached.2 (Sound-opening v.external, tt)
 
 -- ---- together
 
-bare : (h : History) (marker : Bool) → marker ≡ true → IsWholeAs marker h.entry h.content h.settings → h.settings ≡ []
-bare h true e whole = whole.3
-bare h false e whole = absurd (cc e)
+bare : (external : Bool) (h : History) (marker : Bool) → marker ≡ true → IsWholeAs marker external h.entry h.content h.settings → h.settings ≡ []
+bare external h true e whole = whole.3
+bare external h false e whole = absurd (cc e)
 
 versions_set : (v : Vault) (admitted : ℕ) (by : Author) (ss : List Setting) → HasEnd false admitted ss → AreSet v admitted by ss → AreLawful v admitted by ss
 versions_set v admitted by [] end all = tt
 versions_set v admitted by (s ∷ ss) end all = (record { now = all.0.now; free = all.0.free; first_by = all.0.first_by; later = end }, all.1)
 
-are_lawful : (v : Vault) (h : History) (marker : Bool) → h.entry.marker ≡ marker → IsWhole h → HasEnd marker h.entry.admitted h.settings → AreSet v h.entry.admitted h.entry.by h.settings → AreLawful v h.entry.admitted h.entry.by h.settings
+are_lawful : (v : Vault) (h : History) (marker : Bool) → h.entry.marker ≡ marker → IsWhole v.external h → HasEnd marker h.entry.admitted h.settings → AreSet v h.entry.admitted h.entry.by h.settings → AreLawful v h.entry.admitted h.entry.by h.settings
 are_lawful v h true is whole end all =
-    let P : List Setting → Type 0 = λ ss. AreLawful v h.entry.admitted h.entry.by ss in subst P (sym (bare h h.entry.marker is whole)) tt
+    let P : List Setting → Type 0 = λ ss. AreLawful v h.entry.admitted h.entry.by ss in subst P (sym (bare v.external h h.entry.marker is whole)) tt
 are_lawful v h false is whole end all = versions_set v h.entry.admitted h.entry.by h.settings end all
 
-pub lawful_one : (v : Vault) (h : History) → IsWhole h × IsAdmittedSo v h → KeepsRules v h → IsLawful v h
+pub lawful_one : (v : Vault) (h : History) → IsWhole v.external h × IsAdmittedSo v h → KeepsRules v h → IsLawful v h
 lawful_one v h is keeps = record {
   admitter = keeps.admitter;
   department = is.1.department;
@@ -330,6 +330,6 @@ lawful_one v h is keeps = record {
 pub reached-Lawful : (v : Vault) → Reached v → Lawful v
 reached-Lawful v reached =
     let kept = reached-rules v reached in
-    All-both (λ h. IsWhole h × IsAdmittedSo v h) (KeepsRules v) (IsLawful v) (λ h is keeps. lawful_one v h is keeps) v.histories
-    (All-both IsWhole (IsAdmittedSo v) (λ h. IsWhole h × IsAdmittedSo v h) (λ h whole is. (whole, is)) v.histories kept.0.whole (reached-admitted v reached))
+    All-both (λ h. IsWhole v.external h × IsAdmittedSo v h) (KeepsRules v) (IsLawful v) (λ h is keeps. lawful_one v h is keeps) v.histories
+    (All-both (IsWhole v.external) (IsAdmittedSo v) (λ h. IsWhole v.external h × IsAdmittedSo v h) (λ h whole is. (whole, is)) v.histories kept.0.whole (reached-admitted v reached))
     kept.1

@@ -131,12 +131,12 @@ are_set : (v : Vault) (admitted : ℕ) (by : Author) (ss : List Setting) → Are
 are_set v admitted by [] all = tt
 are_set v admitted by (s ∷ ss) all = (record { now = all.0.now; free = all.0.free; first_by = all.0.first_by }, all.1)
 
-has_end : (v : Vault) (h : History) (marker : Bool) (ss : List Setting) → IsWholeAs marker h.entry h.content ss → AreLawful v h.entry.admitted h.entry.by ss → HasEnd marker h.entry.admitted ss
+has_end : (v : Vault) (h : History) (marker : Bool) (ss : List Setting) → IsWholeAs marker v.external h.entry h.content ss → AreLawful v h.entry.admitted h.entry.by ss → HasEnd marker h.entry.admitted ss
 has_end v h true ss whole all = tt
 has_end v h false [] whole all = absurd (omega (arith, whole.2))
 has_end v h false (s ∷ ss) whole all = all.0.later
 
-both_of : (v : Vault) (h : History) → IsWhole h → IsLawful v h → IsBoth v h
+both_of : (v : Vault) (h : History) → IsWhole v.external h → IsLawful v h → IsBoth v h
 both_of v h whole is = (
   record { admitter = is.admitter; settings = are_set v h.entry.admitted h.entry.by h.settings is.settings; end = is.end },
   record { end = has_end v h h.entry.marker h.settings whole is.settings; department = is.department },
@@ -144,6 +144,6 @@ both_of v h whole is = (
 
 pub run-lawful : (v w : Vault) (cs : List Timed) (rs : List Reply) (after most : ℕ) → Sound v → IsRun v cs rs w → after + most ≤ length v.histories → AllByRecursion (IsLawful v) (range v after most) → AllByRecursion (IsLawful w) (range w after most)
 run-lawful v w cs rs after most sound run low all =
-    let both = All-both IsWhole (IsLawful v) (IsBoth v) (λ h whole is. both_of v h whole is) (range v after most) (all_some IsWhole after most v.histories sound.whole) all in
+    let both = All-both (IsWhole v.external) (IsLawful v) (IsBoth v) (λ h whole is. both_of v h whole is) (range v after most) (all_some (IsWhole v.external) after most v.histories sound.whole) all in
     let later = IsRun-keeps (AreBoth after most) (both-changed after most) v w cs rs run (sound, (low, both)) in
-    All-both IsWhole (IsBoth w) (IsLawful w) (λ h whole is. lawful_one w h (whole, is.1) is.0) (range w after most) (all_some IsWhole after most w.histories later.0.whole) later.1.1
+    All-both (IsWhole w.external) (IsBoth w) (IsLawful w) (λ h whole is. lawful_one w h (whole, is.1) is.0) (range w after most) (all_some (IsWhole w.external) after most w.histories later.0.whole) later.1.1

@@ -13,7 +13,7 @@ use Rattle.vault_core_model.specs.declared.records.Removal.{Removal}
 use Rattle.vault_core_model.specs.declared.records.Setting.{Setting}
 use Rattle.vault_core_model.specs.declared.records.Tenure.{Tenure}
 use Rattle.vault_core_model.specs.Places.{is_held, is_held_in, is_held_version_in}
-use Rattle.vault_core_model.specs.Vault.{Vault, opening}
+use Rattle.vault_core_model.specs.Vault.{Vault, opening_of}
 use Rattle.vault_core_model.specs.Change.{changed, next_tenure, removed_by, removed_if, tenured_by, tenured_if, with_setting}
 use Rattle.vault_core_model.specs.Sound.{AreTenures, FollowOn, HasTenures, HasTenuresAs, Sound, end_of}
 use Rattle.vault_core_model.specs.Allowed.{HasFirstTenure}
@@ -120,4 +120,4 @@ none = record { bucket = []; dept = []; from = 0 }
 
 pub reached-MovesAgree : (v : Vault) → Reached v → MovesAgree v
 reached-MovesAgree v reached =
-    (IsRun-keeps MovesAgree MovesAgree-changed opening v reached.0 reached.1 reached.2 (Sound-opening, ((λ n. none), tt))).1
+    (IsRun-keeps MovesAgree MovesAgree-changed (opening_of v.external) v reached.0 reached.1 reached.2 (Sound-opening v.external, ((λ n. none), tt))).1

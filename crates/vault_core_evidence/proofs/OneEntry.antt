@@ -34,9 +34,9 @@ All-found P id [] h all is = absurd (cc is)
 All-found P id (g ∷ gs) h all is =
     if_found P g h (g.entry.id == id) (find (λ g. g.entry.id == id) gs) all.0 (λ e. All-found P id gs h all.1 e) is
 
-whole_marker : (b : Bool) (h : History) → b ≡ true → IsWholeAs b h.entry h.content h.settings → h.settings ≡ []
-whole_marker true h e whole = whole.3
-whole_marker false h e whole = absurd (cc e)
+whole_marker : (b external : Bool) (h : History) → b ≡ true → IsWholeAs b external h.entry h.content h.settings → h.settings ≡ []
+whole_marker true external h e whole = whole.3
+whole_marker false external h e whole = absurd (cc e)
 
 tenured_marker : (b : Bool) (v : Vault) (h : History) → b ≡ true → HasTenuresAs b v h → h.tenures ≡ []
 tenured_marker true v h e has = has
@@ -55,7 +55,7 @@ marker_settings v id e sound its marker = by (history_of v id) refl
     by None is = ap (λ (o : Option History). unwrap_or (option_map (λ h. h.settings) o) []) is
     by (Some h) is =
         ap (λ (o : Option History). unwrap_or (option_map (λ h. h.settings) o) []) is
-        ∙ whole_marker h.entry.marker h (its_marker v id e h is its marker) (All-found IsWhole id v.histories h sound.whole is)
+        ∙ whole_marker h.entry.marker v.external h (its_marker v id e h is its marker) (All-found (IsWhole v.external) id v.histories h sound.whole is)
 
 pub marker_tenures : (v : Vault) (id : ℕ) (e : Entry) → Sound v → entry_of v id ≡ Some e → e.marker ≡ true → tenures_of v id ≡ []
 marker_tenures v id e sound its marker = by (history_of v id) refl

@@ -16,7 +16,7 @@ later_moments e settings tenures = map (λ s. s.at) settings ++ (map (λ t. t.fr
 abbrev pub shown_by : Entry → List Setting → List Tenure → ℕ
 shown_by e settings tenures = fold max e.admitted (later_moments e settings tenures)
 
--- the last moment of all of these histories; 0 where there is none
+-- the last moment of all of these histories; or 0 if there are none
 abbrev pub shown_in : List History → ℕ
 shown_in hs = fold max 0 (map (λ h. shown_by h.entry h.settings h.tenures) hs)
 

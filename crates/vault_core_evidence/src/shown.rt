@@ -7,7 +7,7 @@ ghost use Rattle.vault_core_evidence.specs.Shown.{shown_by};
 use vault_base::moment::Moment;
 use vault_core_model::records::{Entry, Setting, Tenure};
 
-/// The moment before which there is none.
+/// The moment that is before all others.
 pub(crate) fn first_moment() -> Moment
     ensures { result ≡ 0 }
 {

@@ -6,6 +6,8 @@ use Rattle.std.specs.Ordering.{Ordering-set}
 use Rattle.std.specs.Prelude.{IsSome, IsTrue}
 use mathlib.Core.HLevel.{⊥_prop}
 use Rattle.vault_base.specs.Limits.{most_ids, most_moves}
+use Rattle.vault_base.specs.declared.content.Content.{Content}
+use Rattle.vault_base.specs.contracts.content.Content as contents
 use Rattle.vault_tally.specs.Row.{Item, IsRowOf, admitted_size, received_size, held_size, removed_size, handed_size, weight, closed_byte_days, quota}
 use Rattle.vault_tally.specs.declared.row.Row.{Row}
 use Rattle.vault_core_model.specs.declared.records.Entry.{Entry}
@@ -18,7 +20,7 @@ use Rattle.vault_core_model.specs.contracts.records.Setting as setting
 use Rattle.vault_core_model.specs.contracts.records.Tenure as tenure
 use Rattle.vault_core_model.specs.Order.{IsAscending, name_cmp, caller_cmp, bucket_cmp, note_cmp}
 use Rattle.vault_core_model.specs.Reads.{entry_of}
-use Rattle.vault_core_model.specs.Sound.{Sound, AreIdsFrom, AreInOrder, LiesBetween, IsInTime, HasItsBytes, IsWholeAs, IsWhole, IsPlaced, FollowOn, AreTenures, IsWithBucket, HasTenuresAs, HasTenures, end_of, IsNoted, NamesItsVersion, HasLine, IsEmployed, IsOwned, HasPeriod, HasRuleSet, IsInNameOrder}
+use Rattle.vault_core_model.specs.Sound.{HasPlace, Sound, AreIdsFrom, AreInOrder, LiesBetween, IsInTime, HasItsContent, IsWholeAs, IsWhole, IsPlaced, FollowOn, AreTenures, IsWithBucket, HasTenuresAs, HasTenures, end_of, IsNoted, NamesItsVersion, HasLine, IsEmployed, IsOwned, HasPeriod, HasRuleSet, IsInNameOrder}
 use Rattle.vault_core_model.specs.Totals.{admitted_bytes, received_bytes}
 use Rattle.vault_core_model.specs.Vault.{Vault, has_department}
 
@@ -50,11 +52,15 @@ between_prop : (admitted last : ℕ) (r : Option Removal) → IsProp (LiesBetwee
 between_prop admitted last None = Unit-prop
 between_prop admitted last (Some r) = ×_prop le_prop le_prop
 
-bytes_prop : (r : Option Removal) (content : Option (List ℕ)) (e : Entry) → IsProp (HasItsBytes r content e)
-bytes_prop None None e = ⊥_prop
-bytes_prop None (Some bytes) e = ×_prop (number_eq _ _) (digest_eq _ _)
-bytes_prop (Some r) None e = some_prop e.digest
-bytes_prop (Some r) (Some bytes) e = ⊥_prop
+content_prop : (r : Option Removal) (content : Option Content) (e : Entry) → IsProp (HasItsContent r content e)
+content_prop None None e = ⊥_prop
+content_prop None (Some content) e = ×_prop (number_eq _ _) (digest_eq _ _)
+content_prop (Some r) None e = some_prop e.digest
+content_prop (Some r) (Some content) e = ⊥_prop
+
+place_prop : (external : Bool) (content : Option Content) → IsProp (HasPlace external content)
+place_prop external None = Unit-prop
+place_prop external (Some content) = bool_eq _ _
 
 settings_prop : (ss : List Setting) → IsProp (ss ≡ [])
 settings_prop ss = Coded-set (coded_list setting.the_row.coded) ss []
@@ -75,9 +81,10 @@ five_prop {A} {B} {C} {D} {E} a b c d e x y =
     let all : IsProp (A × (B × (C × (D × E)))) = ×_prop a (×_prop b (×_prop c (×_prop d e))) in
     ap (λ (p : A × (B × (C × (D × E)))). (p.0, p.1.0, p.1.1.0, p.1.1.1.0, p.1.1.1.1)) (all (x.0, (x.1, (x.2, (x.3, x.4)))) (y.0, (y.1, (y.2, (y.3, y.4)))))
 
-whole_prop : (marker : Bool) (e : Entry) (content : Option (List ℕ)) (ss : List Setting) → IsProp (IsWholeAs marker e content ss)
-whole_prop false e content ss = four_prop le_prop (bytes_prop e.removal content e) le_prop le_prop
-whole_prop true e content ss = four_prop (number_eq _ _) (digest_eq _ _) (digest_eq _ _) (settings_prop ss)
+whole_prop : (marker external : Bool) (e : Entry) (content : Option Content) (ss : List Setting) → IsProp (IsWholeAs marker external e content ss)
+whole_prop false external e content ss = four_prop (×_prop le_prop (place_prop external content)) (content_prop e.removal content e) le_prop le_prop
+whole_prop true external e content ss =
+    four_prop (number_eq _ _) (digest_eq _ _) (Coded-set (coded_option contents.the_row.coded) content None) (settings_prop ss)
 
 follow_prop : (moves end : ℕ) (t : Tenure) (ts : List Tenure) → IsProp (FollowOn moves end t ts)
 follow_prop moves end t [] = le_prop
@@ -126,7 +133,7 @@ module _ (v : Vault) where
   abbrev Parts : Type 0
   Parts =
       AreIdsFrom 1 v.histories × ((length v.histories ≤ most_ids) × (AreInOrder 0 v.last v.histories × (AllByRecursion (IsInTime v.last) v.histories
-      × (AllByRecursion IsWhole v.histories × (AllByRecursion (IsPlaced v) v.histories × (((dept : List ℕ) → admitted_bytes v dept + received_bytes v dept ≤ quota)
+      × (AllByRecursion (IsWhole v.external) v.histories × (AllByRecursion (IsPlaced v) v.histories × (((dept : List ℕ) → admitted_bytes v dept + received_bytes v dept ≤ quota)
       × (AllByRecursion (HasTenures v) v.histories × ((v.moves ≤ most_moves) × (IsInNameOrder v
       × (AllByRecursion (IsEmployed v) v.callers × (AllByRecursion (IsOwned v) v.buckets × (AllByRecursion HasPeriod v.buckets × (AllByRecursion HasRuleSet v.buckets
       × (AllByRecursion HasLine v.notes × AllByRecursion (NamesItsVersion v) v.notes))))))))))))))
@@ -163,7 +170,7 @@ module _ (v : Vault) where
   parts_prop =
       ×_prop (ids_prop 1 v.histories) (×_prop le_prop (×_prop (order_prop 0 v.last v.histories)
       (×_prop (AllByRecursion-prop (IsInTime v.last) (λ h. between_prop h.entry.admitted v.last h.entry.removal) v.histories)
-      (×_prop (AllByRecursion-prop IsWhole (λ h. whole_prop h.entry.marker h.entry h.content h.settings) v.histories)
+      (×_prop (AllByRecursion-prop (IsWhole v.external) (λ h. whole_prop h.entry.marker v.external h.entry h.content h.settings) v.histories)
       (×_prop (AllByRecursion-prop (IsPlaced v) (λ h. some_prop _) v.histories)
       (×_prop (Π_prop (λ dept. le_prop)) (×_prop (AllByRecursion-prop (HasTenures v) (λ h. tenured_prop v h.entry.marker h) v.histories) (×_prop le_prop (×_prop in_order_prop
       (×_prop (AllByRecursion-prop (IsEmployed v) (λ c. bool_eq _ _) v.callers) (×_prop (AllByRecursion-prop (IsOwned v) (λ b. bool_eq _ _) v.buckets)

@@ -6,6 +6,8 @@ use Rattle.std.specs.List.{AllByRecursion}
 use Rattle.std.specs.Str.{bytes_eq}
 use Rattle.std.proofs.lemmas.Bool.{eqb-true}
 use Rattle.std.proofs.lemmas.List.{length-map, length-append}
+use Rattle.vault_base.specs.declared.content.Content.{Content}
+use Rattle.vault_base.specs.declared.content.Content.TheVariants.{Inside, External}
 use Rattle.vault_base.specs.Limits.{most_ids, most_settings}
 use Rattle.vault_lock.specs.declared.retention.Default.{Default}
 use Rattle.vault_rules.specs.declared.rule.Rule.{Rule}
@@ -27,7 +29,7 @@ use Rattle.vault_core_model.specs.Places.{is_held_version_in}
 use Rattle.vault_core_model.specs.Order.{placed, placed_if_given, bucket_cmp, note_cmp}
 use Rattle.vault_core_model.specs.Vault.{Vault, config_of, has_department}
 use Rattle.vault_core_model.specs.Change.{changed, next_tenure, removed_by, removed_if, new_bucket, tenured_by, tenured_if, with_default, with_department, with_rules, with_setting}
-use Rattle.vault_core_model.specs.Sound.{AreIdsFrom, AreInOrder, IsInTime, LiesBetween, HasItsBytes, IsWhole, IsWholeAs, IsPlaced, IsNoted, NamesItsVersion, IsEmployed, IsOwned, HasPeriod, HasLine, HasRuleSet, IsInNameOrder, HasTenures, Sound}
+use Rattle.vault_core_model.specs.Sound.{HasRoom, AreIdsFrom, AreInOrder, IsInTime, LiesBetween, HasItsContent, IsWhole, IsWholeAs, IsPlaced, IsNoted, NamesItsVersion, IsEmployed, IsOwned, HasPeriod, HasLine, HasRuleSet, IsInNameOrder, HasTenures, Sound}
 use Rattle.vault_core_model.specs.Allowed.{Allows, IsNextSetting, IsFirstNote}
 use Rattle.vault_core_model.specs.Totals.{admitted_bytes, received_bytes, items_of}
 use Rattle.vault_core_laws.proofs.Lists.{All-push, All-last, All-placed, All-weaker, All-both, All-map}
@@ -93,20 +95,28 @@ IsInTime-removed last t id r h le now early in_time =
 
 -- ---- entries
 
-digest_is : (e : Entry) (o : Option Removal) (content : Option (List ℕ)) → HasItsBytes o content e → IsSome e.digest
+digest_is : (e : Entry) (o : Option Removal) (content : Option Content) → HasItsContent o content e → IsSome e.digest
 digest_is e None None has = absurd has
-digest_is e None (Some bytes) has = rw has.1 refl
+digest_is e None (Some content) has = rw has.1 refl
 digest_is e (Some r) None has = has
-digest_is e (Some r) (Some bytes) has = absurd has
+digest_is e (Some r) (Some content) has = absurd has
 
-whole_removed : (r : Removal) (e : Entry) (marker : Bool) (content : Option (List ℕ)) (settings : List Setting) → IsWholeAs marker e content settings → IsWholeAs marker (record e { removal = Some r }) None settings
-whole_removed r e true content settings whole = (whole.0, whole.1, refl, whole.3)
-whole_removed r e false content settings whole = (whole.0, digest_is e e.removal content whole.1, whole.2, whole.3)
+room_removed : (external : Bool) (content : Option Content) (bytes : ℕ) → HasRoom external content bytes → HasRoom external None bytes
+room_removed external None bytes room = room
+room_removed true (Some (Inside x)) bytes room = (omega (arith, room.0), tt)
+room_removed true (Some (External x)) bytes room = (room.0, tt)
+room_removed false (Some (Inside x)) bytes room = (room.0, tt)
+room_removed false (Some (External x)) bytes room = absurd (cc room.1)
 
-IsWhole-removed : (id : ℕ) (r : Removal) (h : History) → IsWhole h → IsWhole (removed_if id r h)
-IsWhole-removed id r h whole =
-    elim (eqb h.entry.id id) as (λ b. IsWhole (if b then removed_by r h else h))
-    [ true ↦ whole_removed r h.entry h.entry.marker h.content h.settings whole | false ↦ whole ]
+whole_removed : (external : Bool) (r : Removal) (e : Entry) (marker : Bool) (content : Option Content) (settings : List Setting) → IsWholeAs marker external e content settings → IsWholeAs marker external (record e { removal = Some r }) None settings
+whole_removed external r e true content settings whole = (whole.0, whole.1, refl, whole.3)
+whole_removed external r e false content settings whole =
+    (room_removed external content e.size whole.0, digest_is e e.removal content whole.1, whole.2, whole.3)
+
+IsWhole-removed : (external : Bool) (id : ℕ) (r : Removal) (h : History) → IsWhole external h → IsWhole external (removed_if id r h)
+IsWhole-removed external id r h whole =
+    elim (eqb h.entry.id id) as (λ b. IsWhole external (if b then removed_by r h else h))
+    [ true ↦ whole_removed external r h.entry h.entry.marker h.content h.settings whole | false ↦ whole ]
 
 IsPlaced-removed : (v : Vault) (id : ℕ) (r : Removal) (h : History) → IsPlaced v h → IsPlaced v (removed_if id r h)
 IsPlaced-removed v id r h placed =
@@ -263,8 +273,8 @@ IsPlaced-kept v f same hs all =
 
 -- ---- one tenure more
 
-IsWhole-tenured : (name : List ℕ) (x : Tenure) (h : History) → IsWhole h → IsWhole (tenured_if name x h)
-IsWhole-tenured name x h whole = elim (is_held_version_in name h.entry) as (λ b. IsWhole (if b then tenured_by x h else h)) [ true ↦ whole | false ↦ whole ]
+IsWhole-tenured : (external : Bool) (name : List ℕ) (x : Tenure) (h : History) → IsWhole external h → IsWhole external (tenured_if name x h)
+IsWhole-tenured external name x h whole = elim (is_held_version_in name h.entry) as (λ b. IsWhole external (if b then tenured_by x h else h)) [ true ↦ whole | false ↦ whole ]
 
 HasRuleSet-department : (name dept : List ℕ) (b : Bucket) → HasRuleSet b → HasRuleSet (with_department name dept b)
 HasRuleSet-department name dept b has =
@@ -279,27 +289,27 @@ pub setting_count : (ss : List Setting) → count_of_settings (last_setting ss) 
 setting_count [] = refl
 setting_count (s ∷ ss) = refl
 
-whole_with_setting : (marker : Bool) (e : Entry) (content : Option (List ℕ)) (settings : List Setting) (s : Setting) → marker ≡ false → length settings < most_settings → IsWholeAs marker e content settings → IsWholeAs marker e content (settings ++ s ∷ [])
-whole_with_setting true e content settings s version fits whole = absurd (cc version)
-whole_with_setting false e content settings s version fits whole =
+whole_with_setting : (marker external : Bool) (e : Entry) (content : Option Content) (settings : List Setting) (s : Setting) → marker ≡ false → length settings < most_settings → IsWholeAs marker external e content settings → IsWholeAs marker external e content (settings ++ s ∷ [])
+whole_with_setting true external e content settings s version fits whole = absurd (cc version)
+whole_with_setting false external e content settings s version fits whole =
     (whole.0, whole.1, omega (arith, length-append settings (s ∷ [])), omega (arith, length-append settings (s ∷ [])))
 
 -- the entry that was found by its id is the one that gets the setting
-IsWhole-setting : (v : Vault) (t id : ℕ) (s : Setting) (h : History) → IsNextSetting v t id s → find (λ g. g.entry.id == h.entry.id) v.histories ≡ Some h → IsWhole h → IsWhole (with_setting id s h)
+IsWhole-setting : (v : Vault) (t id : ℕ) (s : Setting) (h : History) → IsNextSetting v t id s → find (λ g. g.entry.id == h.entry.id) v.histories ≡ Some h → IsWhole v.external h → IsWhole v.external (with_setting id s h)
 IsWhole-setting v t id s h allowed found whole = by_id (eqb h.entry.id id) refl
   where
     here : eqb h.entry.id id ≡ true → find (λ g. g.entry.id == id) v.histories ≡ Some h
     here e = let P : ℕ → Type 0 = λ i. find (λ g. g.entry.id == i) v.histories ≡ Some h in subst P (eqb-true h.entry.id id e) found
 
-    added : eqb h.entry.id id ≡ true → IsWhole (record h { settings = h.settings ++ s ∷ [] })
+    added : eqb h.entry.id id ≡ true → IsWhole v.external (record h { settings = h.settings ++ s ∷ [] })
     added e =
         let same : Some h.entry ≡ Some allowed.entry = sym (ap (λ (o : Option History). option_map (λ g. g.entry) o) (here e)) ∙ allowed.there in
         let entry : h.entry ≡ allowed.entry = cc same in
         let version : h.entry.marker ≡ false = ap (λ (x : Entry). x.marker) entry ∙ allowed.version in
         let count : count_of_settings (setting_of v id) ≡ length h.settings = ap (λ (o : Option History). count_of_settings (option_and_then (λ g. last_setting g.settings) o)) (here e) ∙ setting_count h.settings in
-        whole_with_setting h.entry.marker h.entry h.content h.settings s version (omega (arith, allowed.fits, count)) whole
+        whole_with_setting h.entry.marker v.external h.entry h.content h.settings s version (omega (arith, allowed.fits, count)) whole
 
-    by_id : (b : Bool) → eqb h.entry.id id ≡ b → IsWhole (if b then record h { settings = h.settings ++ s ∷ [] } else h)
+    by_id : (b : Bool) → eqb h.entry.id id ≡ b → IsWhole v.external (if b then record h { settings = h.settings ++ s ∷ [] } else h)
     by_id true e = added e
     by_id false e = whole
 
@@ -372,7 +382,7 @@ Sound-changed v t (AddSetting id s) sound le allowed =
       enough_ids = rw (length-map v.histories (with_setting id s)) sound.enough_ids;
       order = AreInOrder-kept (with_setting id s) (entry-setting id s) 0 t v.histories (AreInOrder-later 0 v.last t v.histories le sound.order);
       in_time = IsInTime-kept (with_setting id s) (entry-setting id s) t v.histories (IsInTime-later v.last t v.histories le sound.in_time);
-      whole = All-map (λ y. find (λ h. h.entry.id == y.entry.id) v.histories ≡ Some y) IsWhole IsWhole (with_setting id s) (λ h found whole. IsWhole-setting v t id s h allowed found whole) v.histories (finds_itself 1 v.histories sound.ids) sound.whole;
+      whole = All-map (λ y. find (λ h. h.entry.id == y.entry.id) v.histories ≡ Some y) (IsWhole v.external) (IsWhole v.external) (with_setting id s) (λ h found whole. IsWhole-setting v t id s h allowed found whole) v.histories (finds_itself 1 v.histories sound.ids) sound.whole;
       placed = IsPlaced-kept v (with_setting id s) (entry-setting id s) v.histories sound.placed;
       within = λ dept. within_more v (changed v t (AddSetting id s)) dept 0 (omega (arith, sizes-setting dept id s v.histories)) (omega (arith, sound.within dept));
       tenured = All-map (HasTenures (changed v t (AddSetting id s))) (HasTenures (changed v t (AddSetting id s))) (HasTenures (changed v t (AddSetting id s))) (with_setting id s) (λ h has same. tenured-setting (changed v t (AddSetting id s)) id s h has) v.histories tenured tenured;
@@ -415,7 +425,7 @@ Sound-changed v t (MoveBucket name dept) sound le allowed =
       enough_ids = rw (length-map v.histories more) sound.enough_ids;
       order = AreInOrder-kept more same 0 t v.histories (AreInOrder-later 0 v.last t v.histories le sound.order);
       in_time = IsInTime-kept more same t v.histories (IsInTime-later v.last t v.histories le sound.in_time);
-      whole = All-map IsWhole IsWhole IsWhole more (λ h whole again. IsWhole-tenured name (next_tenure v t dept) h whole) v.histories sound.whole sound.whole;
+      whole = All-map (IsWhole v.external) (IsWhole v.external) (IsWhole v.external) more (λ h whole again. IsWhole-tenured v.external name (next_tenure v t dept) h whole) v.histories sound.whole sound.whole;
       placed = IsPlaced-kept w more same v.histories there;
       within = within-moved v t name dept sound allowed;
       tenured = tenured-moved v t name dept sound le allowed;
@@ -434,7 +444,7 @@ Sound-changed v t (Admit a) sound le allowed =
       enough_ids = one_more v.histories a.history allowed.enough_ids;
       order = AreInOrder-push 0 v.last t v.histories a.history le allowed.now sound.order;
       in_time = All-push (IsInTime t) v.histories a.history (IsInTime-later v.last t v.histories le sound.in_time) (rw allowed.held tt);
-      whole = All-push IsWhole v.histories a.history sound.whole allowed.whole;
+      whole = All-push (IsWhole v.external) v.histories a.history sound.whole allowed.whole;
       placed = All-push (IsPlaced v) v.histories a.history sound.placed (rw allowed.placed refl);
       within = λ dept. within_more v (changed v t (Admit a)) dept (brought dept a.history) (sizes-push dept v.histories a.history) (first_fits a.history.entry.marker t allowed.bucket.dept dept a.history quota (λ d. admitted_bytes v d + received_bytes v d) allowed.tenured allowed.fits (sound.within dept));
       tenured = All-push (HasTenures (changed v t (Admit a))) v.histories a.history (all_tenured-later v (changed v t (Admit a)) (later v t (changed v t (Admit a)) le refl refl (λ dept there. there)) (λ bucket. refl) v.histories sound.tenured) (tenured-admitted (changed v t (Admit a)) a.history allowed.bucket allowed.now allowed.held allowed.placed recorded.owned allowed.tenured);
@@ -453,7 +463,7 @@ Sound-changed v t (Remove id r) sound le allowed =
       enough_ids = rw (length-map v.histories (removed_if id r)) sound.enough_ids;
       order = AreInOrder-removed id r 0 t v.histories (AreInOrder-later 0 v.last t v.histories le sound.order);
       in_time = All-map (λ h. h.entry.admitted ≤ v.last) (IsInTime v.last) (IsInTime t) (removed_if id r) (λ h early in_time. IsInTime-removed v.last t id r h le allowed.now early in_time) v.histories (admitted_by 0 v.last v.histories sound.order) sound.in_time;
-      whole = All-map IsWhole IsWhole IsWhole (removed_if id r) (λ h whole same. IsWhole-removed id r h whole) v.histories sound.whole sound.whole;
+      whole = All-map (IsWhole v.external) (IsWhole v.external) (IsWhole v.external) (removed_if id r) (λ h whole same. IsWhole-removed v.external id r h whole) v.histories sound.whole sound.whole;
       placed = All-map (IsPlaced v) (IsPlaced v) (IsPlaced v) (removed_if id r) (λ h placed same. IsPlaced-removed v id r h placed) v.histories sound.placed sound.placed;
       within = λ dept. within_more v (changed v t (Remove id r)) dept 0 (omega (arith, sizes-removed dept id r v.histories)) (omega (arith, sound.within dept));
       tenured = All-map (IsInTime v.last) (HasTenures v) (HasTenures (changed v t (Remove id r))) (removed_if id r) (λ h lies has. tenured-removed v (changed v t (Remove id r)) (later v t (changed v t (Remove id r)) le refl refl (λ dept there. there)) id r h allowed.now refl lies has) v.histories sound.in_time sound.tenured;

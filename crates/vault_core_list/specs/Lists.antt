@@ -8,6 +8,7 @@ use Rattle.vault_core_list.specs.declared.lists.Lists.{Lists}
 -- the vault that these lists are
 abbrev pub vault_of : Lists → Vault
 vault_of l = record {
+  external = l.external;
   last = l.last;
   departments = l.departments.items;
   callers = l.callers.items;

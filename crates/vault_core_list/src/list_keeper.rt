@@ -61,17 +61,25 @@ fn registrar(alloc: Global) -> Result<Caller, AllocError>
 
 impl ListKeeper {
     ghost use Rattle.std.specs.Prelude.{◌≡◌, IfOk};
-    ghost use Rattle.vault_core_model.specs.Vault.{opening};
+    ghost use Rattle.vault_core_model.specs.Vault.{opening, opening_of};
 
-    /// A new vault: its one caller is `registrar`, who may administer it.
+    /// A new vault, which keeps every content itself: its one caller is `registrar`, who may administer it.
     pub fn new(alloc: Global) -> Result<ListKeeper, AllocError>
         ensures { IfOk result (λ keeper. keeper ≡ opening) }
+    {
+        ListKeeper::new_as(alloc, false)
+    }
+
+    /// The same, which registers contents that are kept outside where `external` is true.
+    pub fn new_as(alloc: Global, external: bool) -> Result<ListKeeper, AllocError>
+        ensures { IfOk result (λ keeper. keeper ≡ opening_of external) }
     {
         let mut callers = Vec::new(alloc);
         callers.push(registrar(alloc)?)?;
         Ok(ListKeeper {
             alloc,
             lists: Lists {
+                external,
                 last: Moment::from_secs(0).unwrap(),
                 departments: Vec::new(alloc),
                 callers,
@@ -166,6 +174,13 @@ impl Keeper for ListKeeper {
 
     fn settings(&mut self, id: VersionId) -> Result<Settings, Fault> {
         Ok(find::settings(self.alloc, &self.lists.histories, id)?)
+    }
+
+    fn external(&mut self) -> Result<bool, Fault>
+        ensures value { result ≡ Ok self.old.external }
+        ensures same { self.new ≡ self.old }
+    {
+        Ok(self.lists.external)
     }
 
     fn content(&mut self, id: VersionId) -> Result<Option<Content>, Fault> {

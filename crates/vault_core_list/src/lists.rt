@@ -13,9 +13,11 @@ use vault_base::name::{BucketName, DeptName};
 use vault_core_model::change::Change;
 use vault_core_model::records::{Bucket, BucketConfig, Caller, History, Note, Tenure};
 
-/// The lists of a vault, with its last moment and how many moves of buckets were made.
+/// The lists of a vault, with its last moment, how many moves of buckets were made, and whether it registers contents that are
+/// kept outside.
 #[derive(Drop)]
 pub(crate) struct Lists {
+    pub(crate) external: bool,
     pub(crate) last: Moment,
     pub(crate) departments: Vec<DeptName>,
     pub(crate) callers: Vec<Caller>,

@@ -43,7 +43,7 @@ pub record IsAdmission (v : Vault) (t : ℕ) (a : Admission) : Type 0 where
   pub enough_ids : next_id v ≤ most_ids
   pub now : a.history.entry.admitted ≡ t
   pub held : a.history.entry.removal ≡ None
-  pub whole : IsWhole a.history
+  pub whole : IsWhole v.external a.history
   pub first : HasFirst a.history.entry.marker t a.history.settings
   pub bucket : BucketConfig
   pub placed : config_of v a.history.entry.bucket ≡ Some bucket

@@ -35,7 +35,7 @@ with_rules name rules b = if bytes_eq b.name name then record b { rules = rules 
 abbrev pub with_setting : ℕ → Setting → History → History
 with_setting id s h = if h.entry.id == id then record h { settings = h.settings ++ s ∷ [] } else h
 
--- the history removed and without its bytes
+-- the history removed and without its content
 abbrev pub removed_by : Removal → History → History
 removed_by r h = record { entry = record h.entry { removal = Some r }; content = None; settings = h.settings; tenures = h.tenures }
 

@@ -1,12 +1,14 @@
 -- The checks that commands share, in their order: the clock, the caller, the bucket, its department, the right, the arguments, the entry, the lock, the quota, the ids and numbers.
-use Rattle.std.specs.Prelude.{ℕ, ◌+◌, Bool, true, false, not, ◌||◌, nat_lt, nat_le, List, length, Option, Some, None, Result, Ok, Err, if◌then◌else◌, ⊤, unwrap_or}
+use Rattle.std.specs.Prelude.{ℕ, ◌+◌, Bool, true, false, not, ◌||◌, nat_lt, nat_le, List, Option, Some, None, Result, Ok, Err, if◌then◌else◌, ⊤, unwrap_or}
 use Rattle.std.specs.Str.{bytes_eq}
 use Rattle.vault_base.specs.declared.refusal.Refusal.{Refusal}
 use Rattle.vault_base.specs.declared.refusal.Refusal.TheVariants.{ClockBack, AccessDenied, NoSuchBucket, NoSuchKey, NoSuchVersion, MethodNotAllowed, InvalidArgument, RetentionOutOfRange, EntityTooLarge, QuotaExceeded, VaultFull}
 use Rattle.vault_base.specs.declared.refusal.Reason.TheVariants as reason
 use Rattle.vault_base.specs.declared.right.Right.{Right}
 use Rattle.vault_base.specs.declared.right.Right.TheVariants as right
-use Rattle.vault_base.specs.Limits.{most_content, most_ids, most_moves, most_settings}
+use Rattle.vault_base.specs.declared.content.Content.{Content}
+use Rattle.vault_base.specs.Content.{size, most_size, is_external}
+use Rattle.vault_base.specs.Limits.{most_ids, most_moves, most_settings}
 use Rattle.vault_lock.specs.declared.retention.Retention.{Retention}
 use Rattle.vault_lock.specs.declared.lock.Lock.{Lock}
 use Rattle.vault_lock.specs.declared.lock.Permit.{Permit}
@@ -91,8 +93,12 @@ access v t who bucket r = do
 
 -- ---- the arguments
 
-abbrev pub small_enough : List ℕ → Result ⊤ Refusal
-small_enough content = check (nat_le (length content) most_content) EntityTooLarge
+-- a content that is kept outside is only for a vault that registers such contents
+abbrev pub has_place : Vault → Content → Result ⊤ Refusal
+has_place v content = check (v.external || not (is_external content)) InvalidArgument
+
+abbrev pub small_enough : Content → Result ⊤ Refusal
+small_enough content = check (nat_le (size content) (most_size content)) EntityTooLarge
 
 -- a new retention ends after the reading
 abbrev pub ends_later : ℕ → Retention → Result ⊤ Refusal

@@ -1,8 +1,9 @@
 -- What the commands that admit, read and remove entries answer, and the vault after them.
-use Rattle.std.specs.Prelude.{ℕ, List, [], ◌∷◌, length, false, Some, None, is_some, unwrap_or, Result, Ok, true}
-use Rattle.sha2.specs.Sha256.{sha256}
+use Rattle.std.specs.Prelude.{ℕ, List, [], ◌∷◌, false, Some, None, is_some, unwrap_or, Result, Ok, true}
+use Rattle.vault_base.specs.declared.content.Content.TheVariants.{Inside}
 use Rattle.vault_base.specs.declared.refusal.Refusal.{Refusal}
 use Rattle.vault_base.specs.declared.right.Right.TheVariants as right
+use Rattle.vault_base.specs.Content.{size, digest}
 use Rattle.vault_lock.specs.declared.lock.Lock.{Lock}
 use Rattle.vault_lock.specs.declared.lock.Permit.{Permit}
 use Rattle.vault_lock.specs.declared.lock.Permit.TheVariants as permit
@@ -26,14 +27,14 @@ use Rattle.vault_core_model.specs.declared.access.Access.{Access}
 use Rattle.vault_core_model.specs.Vault.{Vault}
 use Rattle.vault_core_model.specs.Reads.{lock_of, content_of}
 use Rattle.vault_core_model.specs.Change.{changed}
-use Rattle.vault_core_model.specs.Checks.{◌>>=◌, needs_if, access, small_enough, ends_later_if_given, held_entry, version_meant, permitted, lock_at_admission, within_quota, free_id}
+use Rattle.vault_core_model.specs.Checks.{◌>>=◌, needs_if, access, has_place, small_enough, ends_later_if_given, held_entry, version_meant, permitted, lock_at_admission, within_quota, free_id}
 
 -- ---- admission
 
 -- the version that is admitted, with its first setting and the bucket's department
 abbrev pub new_version : ℕ → ℕ → List ℕ → List ℕ → Put → Lock → History
 new_version id t who dept c lock = record {
-  entry = record { id = id; bucket = c.bucket; key = c.key; marker = false; size = length c.content; digest = Some (sha256 c.content); admitted = t; by = author.Caller who; removal = None };
+  entry = record { id = id; bucket = c.bucket; key = c.key; marker = false; size = size c.content; digest = Some (digest c.content); admitted = t; by = author.Caller who; removal = None };
   content = Some c.content;
   settings = record { at = t; by = who; lock = lock; bypass = false } ∷ [];
   tenures = record { dept = dept; from = t; number = 0 } ∷ [];
@@ -50,10 +51,11 @@ access_to_put v t who c = do
 -- the lock that a Put gives: the arguments, the lock, the quota
 abbrev pub lock_to_admit : Vault → ℕ → Put → Access → Result Lock Refusal
 lock_to_admit v t c a = do
+  _ ← has_place v c.content
   _ ← small_enough c.content
   _ ← ends_later_if_given t c.retention
   lock ← lock_at_admission a.bucket c.retention c.hold t
-  _ ← within_quota v a.bucket.dept (length c.content)
+  _ ← within_quota v a.bucket.dept (size c.content)
   Ok lock
 
 -- the version that a Put admits, with the next id
@@ -72,14 +74,14 @@ put v t who c = do
 
 -- ---- reading
 
--- the bytes that stand, with the lock that counts (API Reference, "GetObject")
+-- the content that is held, with the lock that counts (API Reference, "GetObject")
 abbrev pub get : Vault → ℕ → List ℕ → Get → Result (Answer × Vault) Refusal
 get v t who c = do
   _ ← access v t who c.bucket right.Get
   e ← version_meant v c.bucket c.key c.id
-  Ok (answer.Version (record { entry = e; lock = lock_of v e.id }) (unwrap_or (content_of v e.id) []), v)
+  Ok (answer.Version (record { entry = e; lock = lock_of v e.id }) (unwrap_or (content_of v e.id) (Inside [])), v)
 
--- the same without the bytes (API Reference, "HeadObject")
+-- the same without the content (API Reference, "HeadObject")
 abbrev pub head : Vault → ℕ → List ℕ → Head → Result (Answer × Vault) Refusal
 head v t who c = do
   _ ← access v t who c.bucket right.Get

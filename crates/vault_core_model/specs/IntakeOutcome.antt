@@ -1,9 +1,9 @@
 -- What a line of an intake batch is answered, and the vault after it.
-use Rattle.std.specs.Prelude.{ℕ, Bool, true, false, not, ◌&&◌, ◌==◌, nat_le, List, length, Option, Some, None, Result, Ok, Err, if◌then◌else◌}
+use Rattle.std.specs.Prelude.{ℕ, Bool, true, false, not, ◌&&◌, ◌==◌, nat_le, List, Option, Some, None, Result, Ok, Err, if◌then◌else◌}
 use Rattle.std.specs.Str.{bytes_eq}
-use Rattle.sha2.specs.Sha256.{sha256}
 use Rattle.vault_base.specs.declared.refusal.Refusal.{Refusal}
 use Rattle.vault_base.specs.declared.refusal.Refusal.TheVariants.{InvalidArgument, IntakeConflict}
+use Rattle.vault_base.specs.Content.{size, digest}
 use Rattle.vault_lock.specs.declared.retention.Retention.{Retention}
 use Rattle.vault_lock.specs.declared.lock.Lock.{Lock}
 use Rattle.vault_lock.specs.Retention.{is_mode}
@@ -35,10 +35,10 @@ is_same_hold None None = true
 is_same_hold (Some a) (Some b) = is_same_switch a b
 is_same_hold _ _ = false
 
--- the note has the same key, bytes, retention and hold
+-- the note has the same key, size, digest, retention and hold: it doesn't matter whether one of the contents is kept outside
 abbrev pub agrees : Note → Put → Bool
 agrees n c =
-    bytes_eq n.key c.key && (n.size == length c.content && (bytes_eq n.digest (sha256 c.content)
+    bytes_eq n.key c.key && (n.size == size c.content && (bytes_eq n.digest (digest c.content)
     && (is_same_retention n.retention c.retention && is_same_hold n.hold c.hold)))
 
 -- a line number is 1 to 4,294,967,295
@@ -48,7 +48,7 @@ is_line n = nat_le 1 n && nat_le n 4294967295
 -- the note of an accepted line
 abbrev pub new_note : ℕ → Intake → Note
 new_note id c =
-    record { bucket = c.put.bucket; batch = c.batch; line = c.line; key = c.put.key; size = length c.put.content; digest = sha256 c.put.content; retention = c.put.retention; hold = c.put.hold; id = id }
+    record { bucket = c.put.bucket; batch = c.batch; line = c.line; key = c.put.key; size = size c.put.content; digest = digest c.put.content; retention = c.put.retention; hold = c.put.hold; id = id }
 
 -- the lock that a line's version gets: the line's number, then what a put checks
 abbrev pub lock_to_take_in : Vault → ℕ → Intake → Access → Result Lock Refusal

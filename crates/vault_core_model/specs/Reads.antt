@@ -1,6 +1,7 @@
 -- What a keeper reads of a vault.
 use Rattle.std.specs.Prelude.{ℕ, List, [], ◌∷◌, length, map, filter, take, reverse, Bool, true, nat_lt, Option, Some, None, option_map, option_and_then, unwrap_or, false, not}
 use Rattle.vault_lock.specs.declared.lock.Lock.{Lock}
+use Rattle.vault_base.specs.declared.content.Content.{Content}
 use Rattle.vault_rules.specs.declared.plan.Held.{Held}
 use Rattle.vault_core_model.specs.declared.records.Entry.{Entry}
 use Rattle.vault_core_model.specs.declared.records.Head.{Head}
@@ -45,8 +46,8 @@ settings_of v id = unwrap_or (option_map (λ h. h.settings) (history_of v id)) [
 abbrev pub tenures_of : Vault → ℕ → List Tenure
 tenures_of v id = unwrap_or (option_map (λ h. h.tenures) (history_of v id)) []
 
--- the bytes of a held version
-abbrev pub content_of : Vault → ℕ → Option (List ℕ)
+-- the content of a held version
+abbrev pub content_of : Vault → ℕ → Option Content
 content_of v id = option_and_then (λ h. h.content) (history_of v id)
 
 -- the newest of these entries, which come oldest first, and how many there are

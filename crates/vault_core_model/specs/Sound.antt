@@ -1,8 +1,9 @@
 -- What holds of every vault that a keeper has.
-use Rattle.std.specs.Prelude.{◌≡◌, ℕ, ◌+◌, ◌≤◌, Bool, true, false, List, [], ◌∷◌, length, Option, Some, None, IsSome, IsTrue, ◌<◌, option_map}
+use Rattle.std.specs.Prelude.{◌≡◌, ℕ, ◌+◌, ◌≤◌, Bool, true, false, not, ◌||◌, List, [], ◌∷◌, length, Option, Some, None, IsSome, IsTrue, ◌<◌, option_map}
 use Rattle.std.specs.List.{AllByRecursion, last_or}
-use Rattle.sha2.specs.Sha256.{sha256}
-use Rattle.vault_base.specs.Limits.{most_content, most_ids, most_moves, most_settings}
+use Rattle.vault_base.specs.declared.content.Content.{Content}
+use Rattle.vault_base.specs.Content.{size, digest, is_external, most_size}
+use Rattle.vault_base.specs.Limits.{most_content, most_external, most_ids, most_moves, most_settings}
 use Rattle.vault_tally.specs.Row.{quota}
 use Rattle.vault_rules.specs.Rules.{is_rule_set, passes_if_given}
 use Rattle.vault_core_model.specs.declared.records.Bucket.{Bucket}
@@ -39,21 +40,36 @@ LiesBetween admitted last (Some r) = (admitted ≤ r.at) × (r.at ≤ last)
 abbrev pub IsInTime : ℕ → History → Type 0
 IsInTime last h = LiesBetween h.entry.admitted last h.entry.removal
 
--- a held version has its bytes, of its size and digest; a removed one has none
-abbrev pub HasItsBytes : Option Removal → Option (List ℕ) → Entry → Type 0
-HasItsBytes None None e = ⊥
-HasItsBytes None (Some bytes) e = (length bytes ≡ e.size) × (e.digest ≡ Some (sha256 bytes))
-HasItsBytes (Some r) None e = IsSome e.digest
-HasItsBytes (Some r) (Some bytes) e = ⊥
+-- a held version has its content, of its size and digest; a removed one has none
+abbrev pub HasItsContent : Option Removal → Option Content → Entry → Type 0
+HasItsContent None None e = ⊥
+HasItsContent None (Some content) e = (size content ≡ e.size) × (e.digest ≡ Some (digest content))
+HasItsContent (Some r) None e = IsSome e.digest
+HasItsContent (Some r) (Some content) e = ⊥
 
--- a version has a size in its limit and at least one setting; a marker has no size, digest, bytes or setting
-abbrev pub IsWholeAs : Bool → Entry → Option (List ℕ) → List Setting → Type 0
-IsWholeAs false e content settings =
-    (e.size ≤ most_content) × HasItsBytes e.removal content e × (1 ≤ length settings) × (length settings ≤ most_settings)
-IsWholeAs true e content settings = (e.size ≡ 0) × (e.digest ≡ None) × (content ≡ None) × (settings ≡ [])
+-- the bytes of a version at most: where its content is gone, it may have been kept outside, if the vault registers such contents
+abbrev pub most_bytes : Bool → Option Content → ℕ
+most_bytes external (Some content) = most_size content
+most_bytes true None = most_external
+most_bytes false None = most_content
 
-abbrev pub IsWhole : History → Type 0
-IsWhole h = IsWholeAs h.entry.marker h.entry h.content h.settings
+-- a content that is kept outside is only in a vault that registers such contents
+abbrev pub HasPlace : Bool → Option Content → Type 0
+HasPlace external None = Unit {0}
+HasPlace external (Some content) = IsTrue (external || not (is_external content))
+
+-- a size is in its limit, and the content may be in the vault
+abbrev pub HasRoom : Bool → Option Content → ℕ → Type 0
+HasRoom external content bytes = (bytes ≤ most_bytes external content) × HasPlace external content
+
+-- a version has a size and a content that may be in the vault, and at least one setting; a marker has no size, digest, content or setting
+abbrev pub IsWholeAs : Bool → Bool → Entry → Option Content → List Setting → Type 0
+IsWholeAs false external e content settings =
+    HasRoom external content e.size × HasItsContent e.removal content e × (1 ≤ length settings) × (length settings ≤ most_settings)
+IsWholeAs true external e content settings = (e.size ≡ 0) × (e.digest ≡ None) × (content ≡ None) × (settings ≡ [])
+
+abbrev pub IsWhole : Bool → History → Type 0
+IsWhole external h = IsWholeAs h.entry.marker external h.entry h.content h.settings
 
 -- the tenures after this one: each by a later move, from no earlier moment, and of another department than the one before; none begins after the end
 abbrev pub FollowOn : ℕ → ℕ → Tenure → List Tenure → Type 0
@@ -133,7 +149,7 @@ pub record Sound (v : Vault) : Type 0 where
   pub enough_ids : length v.histories ≤ most_ids
   pub order : AreInOrder 0 v.last v.histories
   pub in_time : AllByRecursion (IsInTime v.last) v.histories
-  pub whole : AllByRecursion IsWhole v.histories
+  pub whole : AllByRecursion (IsWhole v.external) v.histories
   pub placed : AllByRecursion (IsPlaced v) v.histories
   pub within : (dept : List ℕ) → admitted_bytes v dept + received_bytes v dept ≤ quota
   pub tenured : AllByRecursion (HasTenures v) v.histories

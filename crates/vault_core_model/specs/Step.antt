@@ -10,7 +10,7 @@ use Rattle.vault_core_model.specs.declared.command.Timed.{Timed}
 use Rattle.vault_core_model.specs.declared.reply.Answer.{Answer}
 use Rattle.vault_core_model.specs.declared.reply.Reply.{Reply}
 use Rattle.vault_core_model.specs.declared.reply.Reply.TheVariants.{Done, Refused, Stopped}
-use Rattle.vault_core_model.specs.Vault.{Vault, opening}
+use Rattle.vault_core_model.specs.Vault.{Vault, opening_of}
 use Rattle.vault_core_model.specs.RecordOutcomes as records
 use Rattle.vault_core_model.specs.EntryOutcomes as entries
 use Rattle.vault_core_model.specs.LockOutcomes as locks
@@ -90,4 +90,4 @@ IsRun v (c ∷ cs) [] v' = ⊥
 
 -- some run leads there from a new vault
 abbrev pub Reached : Vault → Type 0
-Reached v = (cs : List Timed) × (rs : List Reply) × IsRun opening cs rs v
+Reached v = (cs : List Timed) × (rs : List Reply) × IsRun (opening_of v.external) cs rs v

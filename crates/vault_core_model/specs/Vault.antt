@@ -12,8 +12,9 @@ use Rattle.vault_core_model.specs.declared.records.History.{History}
 use Rattle.vault_core_model.specs.declared.records.Note.{Note}
 use Rattle.vault_core_model.specs.Rights.{no_rights}
 
--- The last moment is the reading of the last change. The history with id k stands at place k. The moves of buckets are counted.
+-- The last moment is the reading of the last change. The history with id k stands at place k. The moves of buckets are counted. Whether it registers contents that are kept outside is fixed as it is made.
 pub record Vault : Type 0 where
+  pub external : Bool
   pub last : ℕ
   pub departments : List (List ℕ)
   pub callers : List Caller
@@ -31,10 +32,14 @@ abbrev pub registrar : Caller
 registrar =
     record { name = registrar_name; dept = None; rights = record no_rights { admin = true }; closed = false }
 
--- a new vault
+-- a new vault, which registers contents that are kept outside, or doesn't
+abbrev pub opening_of : Bool → Vault
+opening_of external =
+    record { external = external; last = 0; departments = []; callers = registrar ∷ []; buckets = []; notes = []; histories = []; moves = 0 }
+
+-- a new vault that keeps every content itself
 abbrev pub opening : Vault
-opening =
-    record { last = 0; departments = []; callers = registrar ∷ []; buckets = []; notes = []; histories = []; moves = 0 }
+opening = opening_of false
 
 -- whether there is such a department
 abbrev pub has_department : Vault → List ℕ → Bool

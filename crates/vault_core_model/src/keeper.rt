@@ -97,7 +97,12 @@ pub trait Keeper: Kept {
         ensures value { Self.is_honest self.new → IfOk result (λ found. found ≡ settings_of (Self.vault self.old) id) }
         ensures leaves { ReadsAs Self.Kept self.old self.new result };
 
-    /// The bytes of a held version.
+    /// Whether it registers contents that are kept outside.
+    fn external(&mut self) -> Result<bool, Fault>
+        ensures value { Self.is_honest self.new → IfOk result (λ external. external ≡ (Self.vault self.old).external) }
+        ensures leaves { ReadsAs Self.Kept self.old self.new result };
+
+    /// The content of a held version.
     fn content(&mut self, id: VersionId) -> Result<Option<Content>, Fault>
         ensures value { Self.is_honest self.new → IfOk result (λ found. found ≡ content_of (Self.vault self.old) id) }
         ensures leaves { ReadsAs Self.Kept self.old self.new result };

@@ -296,7 +296,7 @@ impl Clone for Tenures {
     }
 }
 
-/// An entry with its bytes, while it is held, its settings and its tenures.
+/// An entry with its content, while it is held, its settings and its tenures.
 #[derive(Drop)]
 pub struct History {
     pub entry: Entry,

@@ -32,6 +32,7 @@ pub enum Read<'a> {
     Entry(VersionId),
     Setting(VersionId),
     Settings(VersionId),
+    External,
     Content(VersionId),
     Keys(&'a KeyPrefix, u32),
     Ids(&'a ObjectKey, Option<VersionId>, u32),
@@ -162,6 +163,11 @@ impl<W: Wrapper> Keeper for W {
     fn settings(&mut self, id: VersionId) -> Result<Settings, Fault> {
         self.before_read(&Read::Settings(id));
         self.below().settings(id)
+    }
+
+    fn external(&mut self) -> Result<bool, Fault> {
+        self.before_read(&Read::External);
+        self.below().external()
     }
 
     fn content(&mut self, id: VersionId) -> Result<Option<Content>, Fault> {

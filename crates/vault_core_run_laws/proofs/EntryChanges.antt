@@ -1,10 +1,11 @@
 -- What the commands that admit, read and remove entries change.
-use Rattle.std.proofs.Common.{◌≡◌, ◌∙◌, ℕ, ◌+◌, ◌≤◌, List, [], ◌∷◌, length, Bool, true, false, Option, Some, None, Ok, Err, refl, sym, subst, arith, lit≤}
-use Rattle.std.specs.Prelude.{IfOk, option_map, unwrap_or, is_some, nat_le, ◌&&◌, IsTrue, if◌then◌else◌}
+use Rattle.std.proofs.Common.{◌≡◌, ◌∙◌, ℕ, ◌+◌, ◌≤◌, List, [], ◌∷◌, Bool, true, false, Option, Some, None, Ok, Err, refl, sym, subst, arith, lit≤}
+use Rattle.std.specs.Prelude.{IfOk, option_map, unwrap_or, is_some, nat_le, ◌&&◌, ◌||◌, not, IsTrue, if◌then◌else◌}
 use Rattle.std.proofs.lemmas.Bool.{leb-true}
 use Rattle.vault_base.specs.declared.refusal.Refusal.TheVariants.{RetentionOutOfRange, InvalidArgument, MethodNotAllowed, EntityTooLarge, QuotaExceeded, VaultFull}
 use Rattle.vault_base.specs.declared.right.Right.TheVariants as right
-use Rattle.vault_base.specs.Limits.{most_content, most_ids}
+use Rattle.vault_base.specs.Content.{size, most_size, is_external}
+use Rattle.vault_base.specs.Limits.{most_ids}
 use Rattle.vault_lock.specs.declared.lock.Denial.{Denial}
 use Rattle.vault_lock.specs.declared.lock.Denial.TheVariants.{Hold, Compliance, Governance}
 use Rattle.vault_lock.specs.declared.lock.Lock.{Lock}
@@ -32,11 +33,11 @@ use Rattle.vault_core_model.specs.declared.records.History.{History}
 use Rattle.vault_core_model.specs.declared.reply.Removed.{Removed}
 use Rattle.vault_core_model.specs.Vault.{Vault, caller_of, config_of, next_id, note_of}
 use Rattle.vault_core_model.specs.Reads.{entry_of, lock_of}
-use Rattle.vault_core_model.specs.Sound.{Sound}
+use Rattle.vault_core_model.specs.Sound.{HasRoom, Sound}
 use Rattle.vault_core_model.specs.Totals.{admitted_bytes, received_bytes}
 use Rattle.vault_core_model.specs.Allowed.{IsFirstNote, IsHeldId}
 use Rattle.vault_core_model.specs.Rights.{has}
-use Rattle.vault_core_model.specs.Checks.{check, found, needs_if, access, small_enough, ends_later_if_given, held_entry, version_meant, permitted, lock_at_admission, within_quota, free_id}
+use Rattle.vault_core_model.specs.Checks.{check, found, needs_if, access, has_place, small_enough, ends_later_if_given, held_entry, version_meant, permitted, lock_at_admission, within_quota, free_id}
 use Rattle.vault_core_model.specs.Change.{changed}
 use Rattle.vault_core_model.specs.EntryOutcomes as entries
 use Rattle.vault_core_model.specs.IntakeOutcome as intakes
@@ -66,7 +67,7 @@ access_to_put-is v t who c =
 
 -- the content is in its limit, and fits the quota
 abbrev Fits : Vault → Put → Access → Type 0
-Fits v c a = (length c.content ≤ most_content) × (admitted_bytes v a.bucket.dept + received_bytes v a.bucket.dept + length c.content ≤ quota)
+Fits v c a = HasRoom v.external (Some c.content) (size c.content) × (admitted_bytes v a.bucket.dept + received_bytes v a.bucket.dept + size c.content ≤ quota)
 
 -- and the lock has the hold that was given
 abbrev FitsWith : Vault → Put → Access → Lock → Type 0
@@ -83,11 +84,12 @@ first_lock-is (Some d) None hold t = default_lock-is (default_retention d t) hol
 
 lock_to_admit-is : (v : Vault) (t : ℕ) (c : Put) (a : Access) → IfOk (entries.lock_to_admit v t c a) (FitsWith v c a)
 lock_to_admit-is v t c a =
-    bind_if (small_enough c.content) (λ u. nat_le (length c.content) most_content ≡ true) _ _ (check-is (nat_le (length c.content) most_content) EntityTooLarge)
-    (λ u small. bind_if (ends_later_if_given t c.retention) (λ u. Unit {0}) _ _ (any-is (ends_later_if_given t c.retention))
+    bind_if (has_place v c.content) (λ u. IsTrue (v.external || not (is_external c.content))) _ _ (check-is (v.external || not (is_external c.content)) InvalidArgument)
+    (λ u place. bind_if (small_enough c.content) (λ u. nat_le (size c.content) (most_size c.content) ≡ true) _ _ (check-is (nat_le (size c.content) (most_size c.content)) EntityTooLarge)
+    (λ x small. bind_if (ends_later_if_given t c.retention) (λ u. Unit {0}) _ _ (any-is (ends_later_if_given t c.retention))
     (λ w later. bind_if (lock_at_admission a.bucket c.retention c.hold t) (λ lock. lock.hold ≡ unwrap_or c.hold false) _ _ (first_lock-is a.bucket.default c.retention (unwrap_or c.hold false) t)
-    (λ lock first. bind_if (within_quota v a.bucket.dept (length c.content)) (λ u. nat_le (admitted_bytes v a.bucket.dept + received_bytes v a.bucket.dept + length c.content) quota ≡ true) _ _ (check-is (nat_le (admitted_bytes v a.bucket.dept + received_bytes v a.bucket.dept + length c.content) quota) QuotaExceeded)
-    (λ z fits. ((leb-true (length c.content) most_content small, leb-true (admitted_bytes v a.bucket.dept + received_bytes v a.bucket.dept + length c.content) quota fits), first)))))
+    (λ lock first. bind_if (within_quota v a.bucket.dept (size c.content)) (λ u. nat_le (admitted_bytes v a.bucket.dept + received_bytes v a.bucket.dept + size c.content) quota ≡ true) _ _ (check-is (nat_le (admitted_bytes v a.bucket.dept + received_bytes v a.bucket.dept + size c.content) quota) QuotaExceeded)
+    (λ z fits. (((leb-true (size c.content) (most_size c.content) small, place), leb-true (admitted_bytes v a.bucket.dept + received_bytes v a.bucket.dept + size c.content) quota fits), first))))))
 
 -- where the first hold is on, one was given
 hold_given : (o : Option Bool) (b : Bool) → b ≡ unwrap_or o false → b ≡ true → is_some o ≡ true

@@ -96,21 +96,21 @@ walk_free d t hs s ss e = cases (last_mark d hs) refl
 
 -- ---- in the vault
 
-bare : (h : History) (marker : Bool) → marker ≡ true → IsWholeAs marker h.entry h.content h.settings → h.settings ≡ []
-bare h true e whole = whole.3
-bare h false e whole = absurd (cc e)
+bare : (external : Bool) (h : History) (marker : Bool) → marker ≡ true → IsWholeAs marker external h.entry h.content h.settings → h.settings ≡ []
+bare external h true e whole = whole.3
+bare external h false e whole = absurd (cc e)
 
 -- a marker has no lock
-unlocked : (h : History) (t : ℕ) → IsWhole h → (is_locked (last_lock h.settings) t ≡ false) ⊎ (h.entry.marker ≡ true) → is_locked (last_lock h.settings) t ≡ false
-unlocked h t whole (inl free) = free
-unlocked h t whole (inr marker) =
-    let P : List Setting → Type 0 = λ ss. is_locked (last_lock ss) t ≡ false in subst P (sym (bare h h.entry.marker marker whole)) refl
+unlocked : (external : Bool) (h : History) (t : ℕ) → IsWhole external h → (is_locked (last_lock h.settings) t ≡ false) ⊎ (h.entry.marker ≡ true) → is_locked (last_lock h.settings) t ≡ false
+unlocked external h t whole (inl free) = free
+unlocked external h t whole (inr marker) =
+    let P : List Setting → Type 0 = λ ss. is_locked (last_lock ss) t ≡ false in subst P (sym (bare external h h.entry.marker marker whole)) refl
 
 module _ (v : Vault) (b k : List ℕ) (t : ℕ) (sound : Sound v) where
   abbrev d : Dues
   d = dues (rules_in v b) k t
 
-  free_in : (i : ℕ) (hs : List History) → AllByRecursion (λ y. find (λ h. h.entry.id == y.entry.id) v.histories ≡ Some y) hs → AllByRecursion IsWhole hs → FreeIn d i (entries_in b k hs) → IsFree v b k t i
+  free_in : (i : ℕ) (hs : List History) → AllByRecursion (λ y. find (λ h. h.entry.id == y.entry.id) v.histories ≡ Some y) hs → AllByRecursion (IsWhole v.external) hs → FreeIn d i (entries_in b k hs) → IsFree v b k t i
   free_in i [] own whole free = absurd free
   free_in i (h ∷ hs) own whole free = cases (is_held_at b k h.entry) refl (subst (FreeIn d i) (entries_in-cons b k h hs) free) (free_in i hs own.1 whole.1)
     where
@@ -119,7 +119,7 @@ module _ (v : Vault) (b k : List ℕ) (t : ℕ) (sound : Sound v) where
         history = h;
         there = subst (λ n. find (λ g. g.entry.id == n) v.histories ≡ Some h) here.0 own.0;
         held = held;
-        unlocked = unlocked h t whole.0 here.1;
+        unlocked = unlocked v.external h t whole.0 here.1;
       }
       cases true held (inr rest) later = later rest
       cases false held rest later = later rest

@@ -28,7 +28,7 @@ use Rattle.vault_core_model.specs.Checks.{access, ends_later, version_meant, per
 use Rattle.vault_core_model.specs.LockOutcomes as locks
 use Rattle.vault_core_run_laws.specs.Entitled.{HasRight, IsSetByRight}
 use Rattle.vault_core_run_laws.specs.Permits.{IsRetentionSetting, IsPermittedSetting}
-use Rattle.vault_core_run_laws.proofs.Checked.{bind_if, any-is, check-is, HasAccess, access-is, access-only}
+use Rattle.vault_core_run_laws.proofs.Checked.{bind_if, any-is, check-is, HasAccess, access-is}
 use Rattle.vault_core_run_laws.proofs.Meant.{IsHeldVersion, version_meant-is}
 use Rattle.vault_core_run_laws.proofs.EntryChanges.{may_bypass}
 use Rattle.vault_core_run_laws.proofs.RecordChanges.{Changes, unchanged, one_change}

@@ -1,46 +1,48 @@
 -- The bytes of each version stand in the held content, or it was removed.
-use Rattle.std.proofs.Common.{◌≡◌, ℕ, ◌+◌, ap, ◌∙◌, List, [], ◌∷◌, length, Bool, true, false, Option, Some, None, refl, sym, subst, arith, inl, inr}
-use Rattle.std.specs.Prelude.{◌⊎◌, IsSome, filter, sum_by, unwrap_or, not, ◌&&◌, option_map, if◌then◌else◌}
+use Rattle.std.proofs.Common.{◌≡◌, ℕ, ◌+◌, ap, ◌∙◌, List, [], ◌∷◌, Bool, true, false, Option, Some, None, refl, sym, subst, arith, inl, inr}
+use Rattle.std.specs.Prelude.{◌⊎◌, IsSome, filter, sum_by, not, ◌&&◌, option_map, if◌then◌else◌}
 use Rattle.std.specs.List.{AllByRecursion}
 use Rattle.std.specs.Str.{bytes_eq}
 use Rattle.std.proofs.lemmas.List.Sums.{sum_by-cons, sum_by-append}
 use Rattle.vault_base.specs.Days.{day}
 use Rattle.vault_tally.specs.Row.{held_size, if_held}
+use Rattle.vault_base.specs.declared.content.Content.{Content}
+use Rattle.vault_base.specs.Content.{size, digest}
 use Rattle.vault_core_model.specs.declared.records.Entry.{Entry}
 use Rattle.vault_core_model.specs.declared.records.History.{History}
 use Rattle.vault_core_model.specs.declared.records.Removal.{Removal}
 use Rattle.vault_core_model.specs.declared.records.Tenure.{Tenure}
 use Rattle.vault_core_model.specs.Checks.{is_own}
 use Rattle.vault_core_model.specs.Vault.{Vault}
-use Rattle.vault_core_model.specs.Sound.{AreTenures, HasItsBytes, HasTenures, HasTenuresAs, IsWhole, IsWholeAs, IsWithBucket, Sound, last_tenure}
+use Rattle.vault_core_model.specs.Sound.{AreTenures, HasItsContent, HasTenures, HasTenuresAs, IsWhole, IsWholeAs, IsWithBucket, Sound, last_tenure}
 use Rattle.vault_core_model.specs.Totals.{Share, share, shares_from, shares_of, removal_day, items_by, items_in, over_departments, admitted_bytes, received_bytes, held_bytes, removed_bytes, handed_bytes}
 use Rattle.vault_core_laws.proofs.Balance.{conserved, each, one_place, over}
 use Rattle.vault_core_laws.proofs.Items.{by-cons}
 use Rattle.vault_core_laws.proofs.Lists.{All-weaker}
 use Rattle.vault_core_laws.proofs.Tenures.{owner_of}
-use Rattle.vault_core_run_laws.specs.Stored.{StandsOnce, EachStandsOnce, content_size, all_stored_bytes, is_version_of, stored_bytes}
+use Rattle.vault_core_run_laws.specs.Stored.{StandsOnce, EachStandsOnce, content_size, size_if_given, all_stored_bytes, is_version_of, stored_bytes}
 
-held_or_gone : (e : Entry) (o : Option Removal) (content : Option (List ℕ)) → HasItsBytes o content e → ((o ≡ None) × ((bytes : List ℕ) × (content ≡ Some bytes) × (length bytes ≡ e.size))) ⊎ (IsSome o × (content ≡ None))
+held_or_gone : (e : Entry) (o : Option Removal) (content : Option Content) → HasItsContent o content e → ((o ≡ None) × ((held : Content) × (content ≡ Some held) × (size held ≡ e.size) × (e.digest ≡ Some (digest held)))) ⊎ (IsSome o × (content ≡ None))
 held_or_gone e None None has = absurd has
-held_or_gone e None (Some bytes) has = inl (refl, (bytes, refl, has.0))
+held_or_gone e None (Some held) has = inl (refl, (held, refl, has.0, has.1))
 held_or_gone e (Some r) None has = inr (refl, refl)
-held_or_gone e (Some r) (Some bytes) has = absurd has
+held_or_gone e (Some r) (Some held) has = absurd has
 
-stands_once : (h : History) (marker : Bool) → IsWholeAs marker h.entry h.content h.settings → StandsOnce marker h
-stands_once h true whole = whole.2
-stands_once h false whole = held_or_gone h.entry h.entry.removal h.content whole.1
+stands_once : (external : Bool) (h : History) (marker : Bool) → IsWholeAs marker external h.entry h.content h.settings → StandsOnce marker h
+stands_once external h true whole = whole.2
+stands_once external h false whole = held_or_gone h.entry h.entry.removal h.content whole.1
 
 pub Sound-stands_once : (v : Vault) → Sound v → EachStandsOnce v
-Sound-stands_once v sound = All-weaker IsWhole (λ h. StandsOnce h.entry.marker h) (λ h whole. stands_once h h.entry.marker whole) v.histories sound.whole
+Sound-stands_once v sound = All-weaker (IsWhole v.external) (λ h. StandsOnce h.entry.marker h) (λ h whole. stands_once v.external h h.entry.marker whole) v.histories sound.whole
 
 -- ---- the sums
 
 -- what is held of a size, where the version was removed or wasn't, is what stands of it
-sized : (e : Entry) (o : Option Removal) (content : Option (List ℕ)) → HasItsBytes o content e → if_held (removal_day o) e.size 0 ≡ length (unwrap_or content [])
+sized : (e : Entry) (o : Option Removal) (content : Option Content) → HasItsContent o content e → if_held (removal_day o) e.size 0 ≡ size_if_given content
 sized e None None has = absurd has
-sized e None (Some bytes) has = sym has.0
+sized e None (Some held) has = sym has.0
 sized e (Some r) None has = refl
-sized e (Some r) (Some bytes) has = absurd has
+sized e (Some r) (Some held) has = absurd has
 
 -- of a version's tenures the last one alone is held, where it wasn't removed
 held_in_all : (size : ℕ) (r : Option Removal) (first : Bool) (t : Tenure) (ts : List Tenure) → each held_size (shares_from size r first (t ∷ ts)) ≡ if_held (removal_day r) size 0
@@ -67,14 +69,14 @@ abbrev stands_if : Bool → History → ℕ
 stands_if b h = if b then content_size h else 0
 
 -- while it is held its last tenure is its bucket's department's; once it is removed nothing stands
-of_removal : (v : Vault) (dept : List ℕ) (h : History) (r : Option Removal) (content : Option (List ℕ)) → HasItsBytes r content h.entry → IsWithBucket v r h
-    → (if is_own (option_map (λ x. x.dept) (last_tenure h.tenures)) dept then if_held (removal_day r) h.entry.size 0 else 0) ≡ (if is_own (owner_of v h.entry.bucket) dept then length (unwrap_or content []) else 0)
+of_removal : (v : Vault) (dept : List ℕ) (h : History) (r : Option Removal) (content : Option Content) → HasItsContent r content h.entry → IsWithBucket v r h
+    → (if is_own (option_map (λ x. x.dept) (last_tenure h.tenures)) dept then if_held (removal_day r) h.entry.size 0 else 0) ≡ (if is_own (owner_of v h.entry.bucket) dept then size_if_given content else 0)
 of_removal v dept h None content has with =
     rw (with, sized h.entry None content has) refl
 of_removal v dept h (Some r) content has with =
     rw (sym (sized h.entry (Some r) content has)) (if_none (is_own (option_map (λ x. x.dept) (last_tenure h.tenures)) dept) ∙ sym (if_none (is_own (owner_of v h.entry.bucket) dept)))
 
-held_of : (v : Vault) (dept : List ℕ) (h : History) (ts : List Tenure) (marker : Bool) → h.tenures ≡ ts → IsWholeAs marker h.entry h.content h.settings → HasTenuresAs marker v h
+held_of : (v : Vault) (dept : List ℕ) (h : History) (ts : List Tenure) (marker : Bool) → h.tenures ≡ ts → IsWholeAs marker v.external h.entry h.content h.settings → HasTenuresAs marker v h
     → sum_by held_size (items_by dept (shares_of h)) ≡ stands_if (not marker && is_own (owner_of v h.entry.bucket) dept) h
 held_of v dept h ts true is whole has = let e = has in rw e refl
 held_of v dept h [] false is whole has = absurd (subst (λ xs. AreTenures v h.entry xs) is has.0)
@@ -86,7 +88,7 @@ kept : (h : History) (rest : List History) (b : Bool) → sum_by content_size (i
 kept h rest true = sum_by-cons content_size h rest
 kept h rest false = omega arith
 
-held_is_stored : (v : Vault) (dept : List ℕ) (hs : List History) → AllByRecursion IsWhole hs → AllByRecursion (HasTenures v) hs → sum_by held_size (items_in dept hs) ≡ sum_by content_size (filter (is_version_of v dept) hs)
+held_is_stored : (v : Vault) (dept : List ℕ) (hs : List History) → AllByRecursion (IsWhole v.external) hs → AllByRecursion (HasTenures v) hs → sum_by held_size (items_in dept hs) ≡ sum_by content_size (filter (is_version_of v dept) hs)
 held_is_stored v dept [] whole tenured = refl
 held_is_stored v dept (h ∷ hs) whole tenured = omega (
   arith,
@@ -104,14 +106,14 @@ Sound-conserved v dept sound = one_place v dept ∙ ap (λ n. n + (removed_bytes
 
 -- ---- of the whole vault
 
-held_whole : (v : Vault) (h : History) (ts : List Tenure) (marker : Bool) → h.tenures ≡ ts → IsWholeAs marker h.entry h.content h.settings → HasTenuresAs marker v h → each held_size (shares_of h) ≡ content_size h
+held_whole : (v : Vault) (h : History) (ts : List Tenure) (marker : Bool) → h.tenures ≡ ts → IsWholeAs marker v.external h.entry h.content h.settings → HasTenuresAs marker v h → each held_size (shares_of h) ≡ content_size h
 held_whole v h ts true is whole has = let e = has in let gone = whole.2 in rw (e, gone) refl
 held_whole v h [] false is whole has = absurd (subst (λ xs. AreTenures v h.entry xs) is has.0)
 held_whole v h (t ∷ ts) false is whole has =
     let P : List Tenure → Type 0 = λ xs. each held_size (shares_from h.entry.size h.entry.removal true xs) ≡ if_held (removal_day h.entry.removal) h.entry.size 0 in
     subst P (sym is) (held_in_all h.entry.size h.entry.removal true t ts) ∙ sized h.entry h.entry.removal h.content whole.1
 
-all_held : (v : Vault) (hs : List History) → AllByRecursion IsWhole hs → AllByRecursion (HasTenures v) hs → sum_by (λ h. each held_size (shares_of h)) hs ≡ sum_by content_size hs
+all_held : (v : Vault) (hs : List History) → AllByRecursion (IsWhole v.external) hs → AllByRecursion (HasTenures v) hs → sum_by (λ h. each held_size (shares_of h)) hs ≡ sum_by content_size hs
 all_held v [] whole tenured = refl
 all_held v (h ∷ hs) whole tenured = omega (
   arith,

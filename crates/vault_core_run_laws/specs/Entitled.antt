@@ -4,7 +4,7 @@ use Rattle.vault_base.specs.declared.right.Right.{Right}
 use Rattle.vault_base.specs.declared.right.Right.TheVariants as right
 use Rattle.vault_lock.specs.declared.lock.Lock.{Lock}
 use Rattle.vault_core_model.specs.declared.change.Change.{Change}
-use Rattle.vault_core_model.specs.declared.change.Change.TheVariants.{AddDept, AddCaller, CloseCaller, AddBucket, MoveBucket, SetDefault, SetRules, Admit, AddSetting, Remove}
+use Rattle.vault_core_model.specs.declared.change.Change.TheVariants.{Admit, AddSetting, Remove}
 use Rattle.vault_core_model.specs.declared.records.Author.{Author}
 use Rattle.vault_core_model.specs.declared.records.Author.TheVariants as author
 use Rattle.vault_core_model.specs.declared.records.Caller.{Caller}

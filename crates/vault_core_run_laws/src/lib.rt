@@ -102,8 +102,7 @@ pub fn retention_and_holds_are_kept()
     ensures { (v : Vault) → Reached v → Worm v }
 {}
 
-/// Of every sound vault, the bytes of each version stand in the held content or it was removed, never
-/// both; so the bytes that a department ever admitted and received are those that stand in its buckets,
+/// Of every sound vault, each version is held with its content or it was removed, never both; so the bytes that a department ever admitted and received are those that stand in its buckets,
 /// those removed, and those handed over. What the vault ever admitted stands there or was removed.
 pub fn bytes_are_conserved()
     ensures each { (v : Vault) → Sound v → EachStandsOnce v }
@@ -121,7 +120,7 @@ pub fn sums_stay_far_below()
 {}
 
 /// Over any run from a sound vault, each history stays at its place: its entry is never altered, but for
-/// one removal; its bytes stand as long as it is held; and settings and tenures are only added.
+/// one removal; its content stands as long as it is held; and settings and tenures are only added.
 pub fn histories_are_written_once()
     ensures { (v after : Vault) (commands : List Timed) (replies : List Reply) →
         Sound v → IsRun v commands replies after → Extends v.histories after.histories }

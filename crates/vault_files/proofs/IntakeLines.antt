@@ -1,10 +1,11 @@
 -- A line of an intake batch that is given again.
-use Rattle.std.proofs.Common.{◌≡◌, ℕ, ◌+◌, ◌≤◌, ◌⊎◌, List, ◌∙◌, length, Bool, true, false, Option, Some, None, Result, Ok, Err, refl, sym, ap, subst, arith, inl, inr}
+use Rattle.std.proofs.Common.{◌≡◌, ℕ, ◌+◌, ◌≤◌, ◌⊎◌, List, ◌∙◌, Bool, true, false, Option, Some, None, Result, Ok, Err, refl, sym, ap, subst, arith, inl, inr}
 use Rattle.std.proofs.lemmas.Bool.{eq-eqb, le-leb, leb-true, lt-ltb, ltb-true, and_from, false_from_ne_true}
 use Rattle.std.proofs.lemmas.Slice.Eq.{bytes_eq-Decides}
-use Rattle.std.specs.Prelude.{is_ok, is_some, nat_le, nat_lt, ◌==◌, unwrap_or, if◌then◌else◌}
+use Rattle.std.specs.Prelude.{◌||◌, not, is_ok, is_some, nat_le, nat_lt, ◌==◌, unwrap_or, if◌then◌else◌}
 use Rattle.std.specs.Str.{bytes_eq}
-use Rattle.sha2.specs.Sha256.{sha256}
+use Rattle.vault_base.specs.declared.content.Content.{Content}
+use Rattle.vault_base.specs.Content.{digest, is_external, size}
 use Rattle.vault_base.specs.Days.{last_moment}
 use Rattle.vault_base.specs.declared.refusal.Refusal.{Refusal}
 use Rattle.vault_base.specs.declared.refusal.Refusal.TheVariants.{ClockBack, VaultFull, RetentionOutOfRange, QuotaExceeded, InvalidArgument, IntakeConflict}
@@ -24,7 +25,7 @@ use Rattle.vault_core_model.specs.declared.reply.Answer.{Answer}
 use Rattle.vault_core_model.specs.declared.reply.Answer.TheVariants as answer
 use Rattle.vault_core_model.specs.declared.reply.TakenIn.{TakenIn}
 use Rattle.vault_core_model.specs.Change.{changed}
-use Rattle.vault_core_model.specs.Checks.{◌>>=◌, check, found, small_enough, ends_later_if_given, lock_at_admission, within_quota, free_id}
+use Rattle.vault_core_model.specs.Checks.{◌>>=◌, check, found, has_place, small_enough, ends_later_if_given, lock_at_admission, within_quota, free_id}
 use Rattle.vault_core_model.specs.EntryOutcomes.{access_to_put, new_version}
 use Rattle.vault_core_model.specs.IntakeOutcome.{is_same_retention, is_same_hold, agrees, is_line, new_note, lock_to_take_in, take_in, intake_by, intake}
 use Rattle.vault_core_model.specs.Totals.{admitted_bytes, received_bytes}
@@ -57,8 +58,8 @@ same_bytes a = (bytes_eq-Decides a a).1 refl
 new_note-agrees : (id : ℕ) (c : Intake) → agrees (new_note id c) c.put ≡ true
 new_note-agrees id c =
     and_from _ _ (same_bytes c.put.key)
-    (and_from _ _ (eq-eqb (length c.put.content) (length c.put.content) refl)
-    (and_from _ _ (same_bytes (sha256 c.put.content)) (and_from _ _ (same_retention c.put.retention) (same_hold c.put.hold))))
+    (and_from _ _ (eq-eqb (size c.put.content) (size c.put.content) refl)
+    (and_from _ _ (same_bytes (digest c.put.content)) (and_from _ _ (same_retention c.put.retention) (same_hold c.put.hold))))
 
 -- ---- who asks
 
@@ -264,15 +265,20 @@ id-was v w later h =
     let free = leb-true (next_id w) most_ids (sym (passes-id w (nat_le (next_id w) most_ids)) ∙ h) in
     passes-id v (nat_le (next_id v) most_ids) ∙ le-leb (next_id v) most_ids (omega (arith, later.entries))
 
+place-was : (v w : Vault) (content : Content) → w.external ≡ v.external → is_ok (has_place w content) ≡ true → is_ok (has_place v content) ≡ true
+place-was v w content same passes =
+    let P : Bool → Type 0 = λ external. is_ok (check (external || not (is_external content)) InvalidArgument) ≡ true in subst P same passes
+
 -- a line that can be admitted later could have been admitted before
 admitted-before : (v w : Vault) (t u : ℕ) (who : List ℕ) (c : Intake) (a : Access) → IsLater v w → t ≤ u → u ≤ last_moment → is_ok (take_in w u who c a) ≡ true → is_ok (take_in v t who c a) ≡ true
 admitted-before v w t u who c a later h top =
     bind_passes (lock_to_take_in w u c a) (lock_to_take_in v t c a) _ _
     (bind_passes (check (is_line c.line) InvalidArgument) (check (is_line c.line) InvalidArgument) _ _ (λ same. same)
+    (λ x y. bind_passes (has_place w c.put.content) (has_place v c.put.content) _ _ (place-was v w c.put.content later.external)
     (λ x y. bind_passes (small_enough c.put.content) (small_enough c.put.content) _ _ (λ same. same)
     (λ x y. bind_passes (ends_later_if_given u c.put.retention) (ends_later_if_given t c.put.retention) _ _ (ends-before c.put.retention t u h)
     (λ x y. bind_passes (lock_at_admission a.bucket c.put.retention c.put.hold u) (lock_at_admission a.bucket c.put.retention c.put.hold t) _ _ (lock-was a.bucket c.put.retention c.put.hold t u h top)
-    (λ x y. bind_passes (within_quota w a.bucket.dept (length c.put.content)) (within_quota v a.bucket.dept (length c.put.content)) _ _ (quota-was v w a.bucket.dept (length c.put.content) later) (λ x y passed. refl))))))
+    (λ x y. bind_passes (within_quota w a.bucket.dept (size c.put.content)) (within_quota v a.bucket.dept (size c.put.content)) _ _ (quota-was v w a.bucket.dept (size c.put.content) later) (λ x y passed. refl)))))))
     (λ x y. bind_passes (free_id w) (free_id v) _ _ (id-was v w later) (λ i j passed. refl))
 
 conflict-again : (v w : Vault) (c : Intake) (n : Note) (r : Refusal) (b : Bool) → agrees n c.put ≡ b

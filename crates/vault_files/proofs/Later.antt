@@ -22,6 +22,7 @@ use Rattle.vault_core_laws.proofs.Items.{sizes-push, sizes-removed}
 
 -- the same callers and buckets, each note that was there, and no fewer bytes ever admitted and received, nor entries
 pub record IsLater (v w : Vault) : Type 0 where
+  pub external : w.external ≡ v.external
   pub callers : w.callers ≡ v.callers
   pub buckets : w.buckets ≡ v.buckets
   pub notes : (bucket batch : List ℕ) (line : ℕ) (n : Note) → note_of v bucket batch line ≡ Some n → note_of w bucket batch line ≡ Some n
@@ -30,6 +31,7 @@ pub record IsLater (v w : Vault) : Type 0 where
 
 pub later-itself : (v : Vault) → IsLater v v
 later-itself v = record {
+  external = refl;
   callers = refl;
   buckets = refl;
   notes = λ bucket batch line n there. there;
@@ -39,6 +41,7 @@ later-itself v = record {
 
 pub later-on : (u v w : Vault) → IsLater u v → IsLater v w → IsLater u w
 later-on u v w a b = record {
+  external = b.external ∙ a.external;
   callers = b.callers ∙ a.callers;
   buckets = b.buckets ∙ a.buckets;
   notes = λ bucket batch line n there. b.notes bucket batch line n (a.notes bucket batch line n there);
@@ -112,6 +115,7 @@ got_more v w dept more = omega (arith, got (items_of v dept), got (items_of w de
 
 pub later-admitted : (v : Vault) (t : ℕ) (h : History) (n : Note) → note_of v n.bucket n.batch n.line ≡ None → IsLater v (changed v t (Admit (record { history = h; note = Some n })))
 later-admitted v t h n free = record {
+  external = refl;
   callers = refl;
   buckets = refl;
   notes = λ bucket batch line m there. find-placed note_cmp (is_line_of bucket batch line) n v.notes (is_other v n m bucket batch line free there) ∙ there;
@@ -121,6 +125,7 @@ later-admitted v t h n free = record {
 
 pub later-removed : (v : Vault) (t id : ℕ) (r : Removal) → IsLater v (changed v t (Remove id r))
 later-removed v t id r = record {
+  external = refl;
   callers = refl;
   buckets = refl;
   notes = λ bucket batch line n there. there;

@@ -4,6 +4,7 @@ use Rattle.std.specs.Prelude.{is_ok, IsTrue}
 use Rattle.vault_base.specs.Days.{last_moment}
 use Rattle.vault_base.specs.declared.refusal.Refusal.{Refusal}
 use Rattle.vault_base.specs.declared.refusal.Refusal.TheVariants.{ClockBack}
+use Rattle.vault_base.specs.declared.content.Content.{Content}
 use Rattle.vault_core_model.specs.declared.command.Intake.{Intake}
 use Rattle.vault_core_model.specs.declared.reply.Answer.{Answer}
 use Rattle.vault_core_model.specs.declared.reply.Answer.TheVariants as answer
@@ -30,7 +31,7 @@ abbrev pub asked_of : List File → List ℕ → List ℕ → ℕ → List (List
 asked_of files bucket batch line cells = command_of (file_in files) bucket batch line cells
 
 by_row : (files : List File) (folder : List ℕ → Option (List ℕ)) (bucket batch : List ℕ) (line : ℕ) (r : Result Row Refusal) → MayAnswer (Some files) folder
-    → (r >>= λ (row : Row). content_of (folder row.file) >>= λ (content : List ℕ). Ok (intake_of bucket batch line row content)) ≡ (r >>= λ (row : Row). content_of (file_in files row.file) >>= λ (content : List ℕ). Ok (intake_of bucket batch line row content))
+    → (r >>= λ (row : Row). content_of (folder row.file) >>= λ (content : Content). Ok (intake_of bucket batch line row content)) ≡ (r >>= λ (row : Row). content_of (file_in files row.file) >>= λ (content : Content). Ok (intake_of bucket batch line row content))
 by_row files folder bucket batch line (Err e) may = refl
 by_row files folder bucket batch line (Ok row) may = rw (may row.file) refl
 
@@ -49,16 +50,16 @@ record IsOfRow (bucket batch : List ℕ) (line : ℕ) (c : Intake) : Type 0 wher
   of_batch : c.batch ≡ batch
   at_line : c.line ≡ line
 
-of_same : (bucket batch : List ℕ) (line : ℕ) (row : Row) (content : List ℕ) (c : Intake) → intake_of bucket batch line row content ≡ c → IsOfRow bucket batch line c
+of_same : (bucket batch : List ℕ) (line : ℕ) (row : Row) (content : Content) (c : Intake) → intake_of bucket batch line row content ≡ c → IsOfRow bucket batch line c
 of_same bucket batch line row content c same =
     let P : Intake → Type 0 = λ d. IsOfRow bucket batch line d in
     subst P same (record { in_bucket = refl; of_batch = refl; at_line = refl })
 
-of_content : (bucket batch : List ℕ) (line : ℕ) (row : Row) (r : Result (List ℕ) Refusal) (c : Intake) → (r >>= λ (content : List ℕ). Ok (intake_of bucket batch line row content)) ≡ Ok c → IsOfRow bucket batch line c
+of_content : (bucket batch : List ℕ) (line : ℕ) (row : Row) (r : Result Content Refusal) (c : Intake) → (r >>= λ (content : Content). Ok (intake_of bucket batch line row content)) ≡ Ok c → IsOfRow bucket batch line c
 of_content bucket batch line row (Err e) c h = absurd (cc h)
 of_content bucket batch line row (Ok content) c h = of_same bucket batch line row content c (cc h)
 
-of_row : (files : List File) (bucket batch : List ℕ) (line : ℕ) (r : Result Row Refusal) (c : Intake) → (r >>= λ (row : Row). content_of (file_in files row.file) >>= λ (content : List ℕ). Ok (intake_of bucket batch line row content)) ≡ Ok c → IsOfRow bucket batch line c
+of_row : (files : List File) (bucket batch : List ℕ) (line : ℕ) (r : Result Row Refusal) (c : Intake) → (r >>= λ (row : Row). content_of (file_in files row.file) >>= λ (content : Content). Ok (intake_of bucket batch line row content)) ≡ Ok c → IsOfRow bucket batch line c
 of_row files bucket batch line (Err e) c h = absurd (cc h)
 of_row files bucket batch line (Ok row) c h = of_content bucket batch line row (content_of (file_in files row.file)) c h
 

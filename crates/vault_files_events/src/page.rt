@@ -12,7 +12,7 @@ use crate::past::{Past, read_past};
 use crate::rows::rows_of;
 use crate::walk::HEADER;
 use std::alloc::{AllocError, Global};
-use vault_base::content::Content;
+use vault_base::content::Bytes;
 use vault_base::moment::Moment;
 use vault_base::name::VersionId;
 use vault_base::refusal::Refusal;
@@ -23,7 +23,7 @@ use vault_core_model::keeper::Keeper;
 /// A part of a text, which has the records of some entries, and where the next one begins.
 #[derive(Drop)]
 pub struct TextPage {
-    pub text: Content,
+    pub text: Bytes,
     /// The id after which the next part begins; none after the last entry.
     pub next: Option<u32>,
 }
@@ -125,7 +125,7 @@ pub fn events_page<K: Keeper>(
     let most = most_of(entries, after);
     push_range(alloc, keeper, &mut text, &Some(before), after, most)?;
     Ok(TextPage {
-        text: Content::new(text),
+        text: Bytes::new(text),
         next: next_of(entries, after),
     })
 }

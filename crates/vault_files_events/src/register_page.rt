@@ -5,7 +5,7 @@ ghost use Rattle.vault_files_events.specs.RegisterPage as spec;
 
 use crate::page::{TextPage, header_if_first};
 use std::alloc::{AllocError, Global};
-use vault_base::content::Content;
+use vault_base::content::Bytes;
 use vault_base::name::VersionId;
 use vault_core_evidence::parts::{count_entries, most_of, next_of};
 use vault_core_model::halt::Fault;
@@ -72,7 +72,7 @@ pub fn register_page<K: Keeper>(
     let mut text = header_if_first(alloc, HEADER, after)?;
     push_range(alloc, keeper, &mut text, after, most_of(entries, after))?;
     Ok(TextPage {
-        text: Content::new(text),
+        text: Bytes::new(text),
         next: next_of(entries, after),
     })
 }

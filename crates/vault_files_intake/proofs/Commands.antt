@@ -1,6 +1,7 @@
 -- The command of a record, step by step.
 use Rattle.std.proofs.Common.{◌≡◌, ℕ, List, refl, sym}
 use Rattle.std.specs.Prelude.{false, Option, Some, None, Ok, Err}
+use Rattle.vault_base.specs.declared.content.Content.{Content}
 use Rattle.vault_core_model.specs.declared.command.Intake.{Intake}
 use Rattle.vault_core_model.specs.declared.halt.Halt.{Halt}
 use Rattle.vault_core_model.specs.declared.halt.Halt.TheVariants as halt
@@ -38,7 +39,7 @@ content_failed files bucket batch line cells row found (halt.Fault f) read held 
 content_failed files bucket batch line cells row found (halt.Refused r) read held h = let given = answers files row.file found held in (given.0, given.1, rw (read, given.2, h) refl)
 
 -- neither is
-pub command_made : (files : Option (List File)) (bucket batch : List ℕ) (line : ℕ) (cells : List (List ℕ)) (row : Row) (found : Option (List ℕ)) (content : List ℕ) (c : Intake) → row_of cells ≡ Ok row → Holds files row.file found → content_of found ≡ Ok content → c ≡ intake_of bucket batch line row content → Asks files bucket batch line cells (Ok c)
+pub command_made : (files : Option (List File)) (bucket batch : List ℕ) (line : ℕ) (cells : List (List ℕ)) (row : Row) (found : Option (List ℕ)) (content : Content) (c : Intake) → row_of cells ≡ Ok row → Holds files row.file found → content_of found ≡ Ok content → c ≡ intake_of bucket batch line row content → Asks files bucket batch line cells (Ok c)
 unfolding command_of
 command_made files bucket batch line cells row found content c read held small made = let given = answers files row.file found held in (given.0, given.1, rw (read, given.2, small, made) refl)
 

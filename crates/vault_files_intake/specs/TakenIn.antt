@@ -1,6 +1,8 @@
 -- What an intake of a list does: the rows below the header, one after another, each as a command of the history machine.
 use Rattle.std.specs.Prelude.{◌≡◌, ℕ, ◌+◌, ◌<◌, List, [], ◌∷◌, ◌++◌, length, Bool, true, false, nat_le, ◌||◌, Option, Some, None, Result, Ok, Err, if◌then◌else◌, MatchBool, ◌⊎◌}
 use Rattle.std.specs.List.{list_any}
+use Rattle.vault_base.specs.declared.content.Content.{Content}
+use Rattle.vault_base.specs.declared.content.Content.TheVariants.{Inside}
 use Rattle.vault_base.specs.declared.refusal.Refusal.{Refusal}
 use Rattle.vault_base.specs.declared.refusal.Refusal.TheVariants as refusal
 use Rattle.vault_base.specs.Limits.{most_content}
@@ -24,12 +26,12 @@ use Rattle.vault_files_intake.specs.Folder.{Holds}
 use Rattle.vault_files_intake.specs.declared.report.RowReply.{RowReply}
 
 -- the file that a row names must be there, and small enough for one version
-unfoldable pub content_of : Option (List ℕ) → Result (List ℕ) Refusal
+unfoldable pub content_of : Option (List ℕ) → Result Content Refusal
 content_of None = Err refusal.InvalidArgument
-content_of (Some bytes) = if nat_le (length bytes) most_content then Ok bytes else Err refusal.EntityTooLarge
+content_of (Some bytes) = if nat_le (length bytes) most_content then Ok (Inside bytes) else Err refusal.EntityTooLarge
 
 -- the command of a row with that content
-abbrev pub intake_of : List ℕ → List ℕ → ℕ → Row → List ℕ → Intake
+abbrev pub intake_of : List ℕ → List ℕ → ℕ → Row → Content → Intake
 intake_of bucket batch line row content =
     record { batch = batch; line = line; put = record { bucket = bucket; key = row.key; content = content; retention = row.retention; hold = row.hold } }
 

@@ -5,14 +5,14 @@ ghost use Rattle.vault_files_intake.specs.Folder.{Holds};
 ghost use Rattle.vault_files_intake.specs.declared.folder.File.{File as KnownFile};
 
 use crate::file_name::FileName;
-use vault_base::content::Content;
+use vault_base::content::Bytes;
 use vault_core_model::halt::Fault;
 
 /// A file with its bytes.
 #[derive(Drop)]
 pub struct File {
     pub name: FileName,
-    pub bytes: Content,
+    pub bytes: Bytes,
 }
 
 /// A folder of files.

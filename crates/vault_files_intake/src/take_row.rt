@@ -17,7 +17,7 @@ use crate::folder::Folder;
 use crate::row::{Row, read_row};
 use csv::ByteRecord;
 use std::alloc::{AllocError, Global};
-use vault_base::content::Content;
+use vault_base::content::{Bytes, Content};
 use vault_base::limits::MOST_CONTENT;
 use vault_base::moment::Moment;
 use vault_base::name::{BatchName, BucketName, CallerName};
@@ -53,7 +53,7 @@ fn content(found: Option<Vec<u8>>) -> Result<Content, Halt>
     if bytes.len() > MOST_CONTENT {
         return Err(Halt::Refused(Refusal::EntityTooLarge));
     }
-    Ok(Content::new(bytes))
+    Ok(Content::Inside(Bytes::new(bytes)))
 }
 
 /// The command of a row with that content.

@@ -1,6 +1,7 @@
 -- The bytes of an answer: the status line, the headers in their order, a blank line and the body.
 use Rattle.std.specs.Prelude.{ℕ, ◌≡◌, ◌++◌, List, [], ◌∷◌, codes, Bool, true, false, Option, Some, None, if◌then◌else◌}
 use Rattle.std.specs.Fmt.{decimal}
+use Rattle.hex.specs.Hex.{encode_lower}
 use Rattle.httpdate.specs.declared.date.HttpDate.{HttpDate}
 use Rattle.httpdate.specs.Date.{unix_secs, date_text}
 use Rattle.vault_base.specs.Moment.{moment_text}
@@ -52,12 +53,22 @@ abbrev pub type_lines : Kind → List ℕ
 type_lines kind.Nothing = []
 type_lines kind.Empty = []
 type_lines (kind.Content n) = line (codes "content-type: application/octet-stream")
+type_lines (kind.External r) = []
 type_lines (kind.Json n) = line (codes "content-type: application/json")
 
+abbrev pub size_line : ℕ → List ℕ
+size_line size = line (codes "x-vault-external: " ++ decimal size)
+
+-- in lower-case digits
+abbrev pub digest_line : List ℕ → List ℕ
+digest_line digest = line (codes "x-vault-sha256: " ++ encode_lower digest)
+
+-- how many bytes the body has; of a content that is kept outside, its size and its digest
 abbrev pub length_lines : Kind → List ℕ
 length_lines kind.Nothing = []
 length_lines kind.Empty = line (codes "content-length: 0")
 length_lines (kind.Content n) = line (codes "content-length: " ++ decimal n)
+length_lines (kind.External r) = size_line r.size ++ digest_line r.digest
 length_lines (kind.Json n) = line (codes "content-length: " ++ decimal n)
 
 -- in the order of their names

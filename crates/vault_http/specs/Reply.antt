@@ -2,6 +2,8 @@
 use Rattle.std.specs.Prelude.{ℕ, ◌==◌, List, [], length, Bool, true, false, Option, Some, None, unwrap_or, if◌then◌else◌}
 use Rattle.serde_json.specs.Written.{compact_text}
 use Rattle.vault_base.specs.Refusal.{status_of}
+use Rattle.vault_base.specs.declared.content.Content.{Content}
+use Rattle.vault_base.specs.declared.content.Content.TheVariants.{Inside, External}
 use Rattle.vault_base.specs.declared.refusal.Refusal.{Refusal}
 use Rattle.vault_base.specs.declared.refusal.Refusal.TheVariants as refusal
 use Rattle.vault_core_model.specs.declared.reply.Answer.{Answer}
@@ -70,16 +72,18 @@ done_head drops =
     if drops then plain_head status.NoContent kind.Nothing false None else plain_head status.Ok kind.Empty false None
 
 -- its id, the retention of its last setting where it has one, in force or not, and its hold
-abbrev pub version_head : Version → ℕ → Head
-version_head v n =
-    record { status = status.Ok; kind = kind.Content n; allow = None; marker = false; version = Some v.entry.id; retention = v.lock.retention; hold = Some v.lock.hold }
+abbrev pub version_head : Version → Status → Kind → Head
+version_head v s k =
+    record { status = s; kind = k; allow = None; marker = false; version = Some v.entry.id; retention = v.lock.retention; hold = Some v.lock.hold }
 
-abbrev pub AnswersVersion : Option ℕ → Version → List ℕ → Bool → List ℕ → Type 0
-AnswersVersion moment v content shown out = Answers moment (version_head v (length content)) content shown out
+-- its bytes; where they are kept outside there is no body, and what is registered of them is reported
+abbrev pub AnswersVersion : Option ℕ → Version → Content → Bool → List ℕ → Type 0
+AnswersVersion moment v (Inside bytes) shown out = Answers moment (version_head v status.Ok (kind.Content (length bytes))) bytes shown out
+AnswersVersion moment v (External r) shown out = Answers moment (version_head v status.NoContent (kind.External r)) [] shown out
 
 -- the length is that of the content, which isn't there
 abbrev pub AnswersHead : Option ℕ → Version → Bool → List ℕ → Type 0
-AnswersHead moment v shown out = Answers moment (version_head v v.entry.size) [] shown out
+AnswersHead moment v shown out = Answers moment (version_head v status.Ok (kind.Content v.entry.size)) [] shown out
 
 abbrev pub removed_head : Removed → Head
 removed_head r = plain_head status.NoContent kind.Nothing r.marker (Some r.id)

@@ -8,7 +8,7 @@ ghost use Rattle.vault_http.specs.declared.fault.ServeFault.TheVariants as fault
 use crate::fault::ServeFault;
 use std::alloc::Global;
 use std::io::Read;
-use vault_base::content::Content;
+use vault_base::content::Bytes;
 use vault_base::refusal::Refusal;
 use vault_core_model::command::Command;
 use vault_http_request::command::command_of;
@@ -24,12 +24,12 @@ fn body_of<R: Read>(
     alloc: Global,
     reader: &mut R,
     size: Option<u64>,
-) -> Result<Option<Content>, ReadFault>
+) -> Result<Option<Bytes>, ReadFault>
     ensures body { IfOk result (λ body. IfSome (R.remaining reader.old) (λ rest. body ≡ spec.body_of size rest)) }
     ensures taken { OnOk result ((taken : List ℕ) × Consumes (R.remaining reader.old) (R.remaining reader.new) taken × spec.IsWithinLength size taken) }
 {
     match size {
-        None => Ok(Some(Content::new(Vec::new(alloc)))),
+        None => Ok(Some(Bytes::new(Vec::new(alloc)))),
         Some(size) => read_body(alloc, reader, size),
     }
 }
@@ -39,7 +39,7 @@ fn command_with(
     alloc: Global,
     operation: Operation,
     locks: Locks,
-    body: Content,
+    body: Bytes,
 ) -> Result<Result<Command, Refusal>, ServeFault>
     ensures command { IfOk result (λ judged. judged ≡ spec.command_with operation locks body) }
     ensures kind { IfErr result (λ fault. fault ≡ faults.Memory) }
@@ -72,7 +72,7 @@ fn command_of_body(
     alloc: Global,
     operation: Operation,
     locks: Locks,
-    body: Option<Content>,
+    body: Option<Bytes>,
 ) -> Result<Result<Command, Refusal>, ServeFault>
     ensures command { IfOk result (λ judged. judged ≡ spec.command_of_body operation locks body) }
     ensures kind { ¬ (result ≡ Err faults.Write) }

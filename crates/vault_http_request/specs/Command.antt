@@ -1,6 +1,7 @@
 -- The command that an operation makes with its locks and its body.
 use Rattle.std.specs.Prelude.{ℕ, List, [], ◌∷◌, codes, Bool, Result, Ok, Err, if◌then◌else◌}
 use Rattle.serde_json.specs.Data.{Data}
+use Rattle.vault_base.specs.declared.content.Content.TheVariants.{Inside}
 use Rattle.vault_base.specs.declared.refusal.Refusal.{Refusal}
 use Rattle.vault_base.specs.declared.refusal.Refusal.TheVariants.{MalformedBody}
 use Rattle.vault_core_model.specs.declared.command.Command.{Command}
@@ -51,8 +52,8 @@ set_rules bucket body = do
   Ok (command.SetRules (record { bucket = bucket; rules = rules }))
 
 abbrev pub put : List ℕ → List ℕ → Locks → List ℕ → Command
-put bucket key locks content =
-    command.Put (record { bucket = bucket; key = key; content = content; retention = locks.retention; hold = locks.hold })
+put bucket key locks bytes =
+    command.Put (record { bucket = bucket; key = key; content = Inside bytes; retention = locks.retention; hold = locks.hold })
 
 -- the body of a new version is its content; of a setting it is a JSON object; the others have none
 abbrev pub command_of : Operation → Locks → List ℕ → Result Command Refusal

@@ -8,7 +8,7 @@ use crate::operation::Operation;
 use crate::request_headers::Locks;
 use serde_json::Value;
 use std::alloc::Global;
-use vault_base::content::Content;
+use vault_base::content::{Bytes, Content};
 use vault_base::name::{BucketName, ObjectKey};
 use vault_base::refusal::Refusal;
 use vault_core_model::command::{
@@ -94,13 +94,13 @@ fn set_rules(alloc: Global, bucket: BucketName, body: &[u8]) -> Result<Command, 
     Ok(Command::SetRules(SetRules { bucket, rules }))
 }
 
-fn put(bucket: BucketName, key: ObjectKey, locks: Locks, content: Content) -> Command
-    ensures { result ≡ spec.put bucket key locks content }
+fn put(bucket: BucketName, key: ObjectKey, locks: Locks, bytes: Bytes) -> Command
+    ensures { result ≡ spec.put bucket key locks bytes }
 {
     Command::Put(Put {
         bucket,
         key,
-        content,
+        content: Content::Inside(bytes),
         retention: locks.retention,
         hold: locks.hold,
     })
@@ -113,7 +113,7 @@ pub fn command_of(
     alloc: Global,
     operation: Operation,
     locks: Locks,
-    body: Content,
+    body: Bytes,
 ) -> Result<Command, LineFault>
     ensures { Gives (λ x. x) result (spec.command_of operation locks body) }
 {

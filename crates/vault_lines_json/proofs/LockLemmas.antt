@@ -11,7 +11,7 @@ use Rattle.vault_base.specs.MomentFault.TheVariants as moment
 use Rattle.vault_lock.specs.declared.retention.Mode.TheVariants.{Governance, Compliance}
 use Rattle.vault_lines_json.specs.declared.members.Whole.{Whole}
 use Rattle.vault_lines_json.specs.declared.shape.Kind.TheVariants.{Text, OptionalText, OptionalNumber, OptionalFlag}
-use Rattle.vault_values.specs.Fault.{◌>>=◌, or_invalid}
+use Rattle.vault_values.specs.Fault.{or_invalid}
 use Rattle.vault_values.specs.Named.{or_until_refusal, until_named}
 use Rattle.vault_values.specs.Locks.{retention_spelled, both_or_none}
 use Rattle.vault_lines_json.specs.Locks.{retention_of, optional_retention_of, hold_of, optional_hold_of, bypass_of, default_spelled, default_of}

@@ -1,20 +1,23 @@
 -- Readings of members: what they give, or which refusals.
 use Rattle.std.proofs.Common.{◌≡◌, ◌≢◌, ℕ, Bool, true, false, List, refl, inl, inr}
-use Rattle.std.specs.Prelude.{◌⊎◌, ◌&&◌, IsTrue, Option, Some, None, option_map, MatchOption, Result, Ok, Err}
+use Rattle.std.specs.Prelude.{◌⊎◌, ◌&&◌, IsTrue, Option, Some, None, is_some, option_and_then, option_map, MatchOption, Result, Ok, Err}
 use Rattle.std.specs.Option.{option_map_or}
+use Rattle.std.specs.Result.{result_ok}
+use Rattle.hex.specs.Hex.{decode_sized}
+use Rattle.hex.specs.declared.error.FromHexError.{FromHexError}
 use Rattle.serde_json.specs.Data.{unsigned, negative, float, Data, null, boolean, number, string, array, object, Items, no_items, item}
 use Rattle.serde_json.specs.Find.{get, as_str, as_array}
 use Rattle.vault_base.specs.declared.refusal.Refusal.{Refusal}
 use Rattle.vault_base.specs.declared.refusal.Refusal.TheVariants.{MalformedBody}
 use Rattle.vault_lines_json.specs.declared.members.Whole.{Whole}
 use Rattle.vault_lines_json.specs.declared.members.Whole.TheVariants.{Negative, Natural}
-use Rattle.vault_lines_json.specs.declared.shape.Kind.TheVariants.{Text, OptionalText, Number, OptionalNumber, OptionalFlag, Texts, Rules}
+use Rattle.vault_lines_json.specs.declared.shape.Kind.TheVariants.{Text, OptionalText, OptionalDigest, Number, OptionalNumber, OptionalFlag, Texts, Rules}
 use Rattle.vault_values.specs.Fault.{◌>>=◌}
 use Rattle.vault_lines_json.specs.Document.{or_malformed}
 use Rattle.vault_lines_json.specs.Members as members
-use Rattle.vault_lines_json.specs.Members.{as_whole, as_texts, text_of, optional_text_of, whole_of, optional_whole_of, texts_of, items_of, flag, flag_of}
-use Rattle.vault_lines_json.specs.Shape.{needed, optional, is_text, is_number, is_flag, all_items, is_rule, fits}
-use Rattle.vault_lines_json.specs.Spelling.{IsText, IsFlag, items_of_texts}
+use Rattle.vault_lines_json.specs.Members.{as_digest, as_whole, as_texts, text_of, optional_text_of, optional_digest_of, whole_of, optional_whole_of, texts_of, items_of, flag, flag_of}
+use Rattle.vault_lines_json.specs.Shape.{needed, optional, is_text, is_digest, is_number, is_flag, all_items, is_rule, fits}
+use Rattle.vault_lines_json.specs.Spelling.{IsText, IsDigest, IsFlag, items_of_texts}
 
 -- a reading gives what P says, or a refusal of a value
 abbrev pub Reads : {A : Type 0} → (A → Type 0) → Result A Refusal → Type 0
@@ -57,17 +60,34 @@ pub reads-optional-text : (name : List ℕ) (d : Data) → IsTrue (fits Optional
 unfolding optional_text_of
 reads-optional-text name d fit = optional-text-found (get name d) fit
 
+optional-digest-found : (found : Option Data) → optional is_digest found ≡ true → Reads (λ digest. MatchOption digest (found ≡ None) (λ digest. (digits : List ℕ) × (found ≡ Some (string digits)) × (decode_sized digits 32 ≡ Ok digest))) (members.optional as_digest found)
+optional-digest-found None e = refl
+optional-digest-found (Some null) e = absurd cc
+optional-digest-found (Some (boolean b)) e = absurd cc
+optional-digest-found (Some (number n)) e = absurd cc
+optional-digest-found (Some (string s)) e = written (decode_sized s 32) refl e
+  where
+    written : (x : Result (List ℕ) FromHexError) → decode_sized s 32 ≡ x → is_some (result_ok x) ≡ true → Reads (λ digest. MatchOption digest (Some (string s) ≡ None) (λ digest. (digits : List ℕ) × (Some (string s) ≡ Some (string digits)) × (decode_sized digits 32 ≡ Ok digest))) (or_malformed (option_and_then (λ d. Some (Some d)) (result_ok x)))
+    written (Ok digest) is e = (s, refl, is)
+    written (Err error) is e = absurd cc
+optional-digest-found (Some (array ds)) e = absurd cc
+optional-digest-found (Some (object ms)) e = absurd cc
+
+pub reads-optional-digest : (name : List ℕ) (d : Data) → IsTrue (fits OptionalDigest (get name d)) → Reads (λ digest. MatchOption digest (get name d ≡ None) (IsDigest d name)) (optional_digest_of name d)
+unfolding optional_digest_of
+reads-optional-digest name d fit = optional-digest-found (get name d) fit
+
 -- what is found is that number, where it isn't below 0
 abbrev pub IsWhole : Option Data → Whole → Type 0
 IsWhole found (Natural n) = found ≡ Some (number (unsigned n))
-IsWhole found Negative = Unit {0}
+IsWhole found Negative = IsTrue (is_some found)
 
 whole-found : (found : Option Data) → needed is_number found ≡ true → Reads (IsWhole found) (members.needed as_whole found)
 whole-found None e = absurd cc
 whole-found (Some null) e = absurd cc
 whole-found (Some (boolean b)) e = absurd cc
 whole-found (Some (number (unsigned n))) e = refl
-whole-found (Some (number (negative z))) e = tt
+whole-found (Some (number (negative z))) e = refl
 whole-found (Some (number (float x))) e = absurd cc
 whole-found (Some (string s)) e = absurd cc
 whole-found (Some (array ds)) e = absurd cc
@@ -82,7 +102,7 @@ optional-whole-found None e = refl
 optional-whole-found (Some null) e = absurd cc
 optional-whole-found (Some (boolean b)) e = absurd cc
 optional-whole-found (Some (number (unsigned n))) e = refl
-optional-whole-found (Some (number (negative z))) e = tt
+optional-whole-found (Some (number (negative z))) e = refl
 optional-whole-found (Some (number (float x))) e = absurd cc
 optional-whole-found (Some (string s)) e = absurd cc
 optional-whole-found (Some (array ds)) e = absurd cc

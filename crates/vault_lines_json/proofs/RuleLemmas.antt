@@ -9,9 +9,8 @@ use Rattle.vault_base.specs.declared.refusal.Refusal.TheVariants.{MalformedBody}
 use Rattle.vault_rules.specs.Rules.{rules_fault}
 use Rattle.vault_rules.specs.declared.rule.Rule.{Rule}
 use Rattle.vault_rules.specs.declared.rule_set.RuleFault.{RuleFault}
-use Rattle.vault_lines_json.specs.declared.rules.Expiration.{Expiration}
 use Rattle.vault_lines_json.specs.declared.shape.Kind.TheVariants.{Text, Rules}
-use Rattle.vault_values.specs.Fault.{◌>>=◌, or_refused, or_invalid, if_given}
+use Rattle.vault_values.specs.Fault.{or_refused, or_invalid, if_given}
 use Rattle.vault_lines_json.specs.Members.{items_of, text_of, flag_of}
 use Rattle.vault_lines_json.specs.Rules.{rule_id_in, bounds_in, status_in, expiration_spelled, expiration_if, expiration_in, noncurrent_spelled, noncurrent_in, rule_of, rules_in, judged, rules_of}
 use Rattle.vault_lines_json.specs.Shape.{fits, needed, optional, is_number, is_text, is_within, is_expiration, may_have_expiration, is_noncurrent, may_have_noncurrent, may_have_bounds, has_rule_names, is_rule, all_items}

@@ -6,6 +6,8 @@ use Rattle.serde_json.specs.Data.{Data, array, Items, no_items, item}
 use Rattle.serde_json.specs.Find.{get}
 use Rattle.vault_base.specs.Moment.{moment_of}
 use Rattle.vault_base.specs.Name.{is_plain_name, is_version_id}
+use Rattle.vault_base.specs.declared.content.Content.{Content}
+use Rattle.vault_base.specs.declared.content.Content.TheVariants.{Inside, External}
 use Rattle.vault_core_model.specs.declared.rights.Rights.{Rights}
 use Rattle.vault_lock.specs.declared.retention.Default.{Default}
 use Rattle.vault_lock.specs.declared.retention.Mode.{Mode}
@@ -16,14 +18,14 @@ use Rattle.vault_lock.specs.declared.retention.Retention.{Retention}
 use Rattle.vault_rules.specs.declared.rule.Noncurrent.{Noncurrent}
 use Rattle.vault_rules.specs.declared.rule.Rule.{Rule}
 use Rattle.vault_lines_json.specs.declared.members.Whole.TheVariants.{Natural}
-use Rattle.vault_values.specs.Fault.{◌>>=◌, or_invalid}
+use Rattle.vault_values.specs.Fault.{or_invalid}
 use Rattle.vault_values.specs.Named.{until_named, name_of, prefix_named}
 use Rattle.vault_values.specs.Locks.{retention_spelled, both_or_none}
 use Rattle.vault_lines_json.specs.Locks.{retention_of, optional_retention_of, hold_of, optional_hold_of, bypass_of, default_spelled, default_of}
-use Rattle.vault_lines_json.specs.Members.{text_of, optional_text_of, whole_of, optional_whole_of, as_texts, texts_of, items_of, flag_of}
+use Rattle.vault_lines_json.specs.Members.{text_of, optional_text_of, optional_digest_of, whole_of, optional_whole_of, as_texts, texts_of, items_of, flag_of}
 use Rattle.vault_lines_json.specs.Rules.{rule_id_in, bounds_in, status_in, expiration_spelled, expiration_in, noncurrent_spelled, noncurrent_in, rule_of, rules_in, rules_of}
-use Rattle.vault_lines_json.specs.Spelling.{IsAbsent, IsText, IsName, IsBucket, IsKey, IsPrefix, IsMoment, IsNumber, IsSmall, IsOptionalSmall, IsId, IsOptionalId, IsFlag, IsRights, IsContent, IsRetention, IsOptionalRetention, IsHold, IsOptionalHold, IsPeriod, IsDefault, IsExpiration, IsNoncurrent, AreBounds, IsRule, AreRules, IsRules, items_of_texts}
-use Rattle.vault_lines_json.specs.Values.{reading_of, asker_of, caller_of, dept_of, optional_dept_of, batch_of, bucket_of, key_of, prefix_of, below, number_of, optional_number_of, version_of, id_of, optional_id_of, rights_of, bytes_of, content_of}
+use Rattle.vault_lines_json.specs.Spelling.{IsAbsent, IsText, IsName, IsBucket, IsKey, IsPrefix, IsMoment, IsNumber, IsSmall, IsOptionalSmall, IsId, IsOptionalId, IsFlag, IsRights, IsDigest, IsContent, IsRetention, IsOptionalRetention, IsHold, IsOptionalHold, IsPeriod, IsDefault, IsExpiration, IsNoncurrent, AreBounds, IsRule, AreRules, IsRules, items_of_texts}
+use Rattle.vault_lines_json.specs.Values.{reading_of, asker_of, caller_of, dept_of, optional_dept_of, batch_of, bucket_of, key_of, prefix_of, below, number_of, optional_number_of, version_of, id_of, optional_id_of, rights_of, inside_of, external_of, content_written, content_of}
 use Rattle.vault_values.specs.Words.{mode_name, mode_named, hold_name, hold_named, status_name, status_named}
 use Rattle.vault_lines_json.proofs.RightsLemmas.{rights-ok}
 
@@ -40,6 +42,14 @@ some-text-ok name d text e = rw e refl
 no-text-ok : (name : List ℕ) (d : Data) → IsAbsent d name → optional_text_of name d ≡ Ok None
 unfolding optional_text_of
 no-text-ok name d e = rw e refl
+
+some-digest-ok : (name : List ℕ) (d : Data) (digest : List ℕ) → IsDigest d name digest → optional_digest_of name d ≡ Ok (Some digest)
+unfolding optional_digest_of
+some-digest-ok name d digest (digits, e, f) = rw (e, f) refl
+
+no-digest-ok : (name : List ℕ) (d : Data) → IsAbsent d name → optional_digest_of name d ≡ Ok None
+unfolding optional_digest_of
+no-digest-ok name d e = rw e refl
 
 whole-ok : (name : List ℕ) (d : Data) (n : ℕ) → IsNumber d name n → whole_of name d ≡ Ok (Natural n)
 unfolding whole_of
@@ -151,10 +161,11 @@ pub rights-are : (d : Data) (rights : Rights) → IsRights d rights → rights_o
 unfolding rights_of
 rights-are d rights h = rw (texts-ok (codes "rights") d h.0 h.1) (rights-ok h.0 rights h.2 h.3)
 
-pub content-ok : (d : Data) (bytes : List ℕ) → IsContent d bytes → content_of d ≡ Ok bytes
-unfolding content_of bytes_of
-content-ok d bytes (inl (e, f)) = rw (some-text-ok (codes "text") d bytes e, no-text-ok (codes "hex") d f) refl
-content-ok d bytes (inr (e, (digits, f, g))) = rw (no-text-ok (codes "text") d e, some-text-ok (codes "hex") d digits f, g) refl
+pub content-ok : (d : Data) (content : Content) → IsContent d content → content_of d ≡ Ok content
+unfolding content_of content_written inside_of external_of
+content-ok d (Inside bytes) (inl (e, f), g, h) = rw (some-text-ok (codes "text") d bytes e, no-text-ok (codes "hex") d f, no-digest-ok (codes "sha256") d g, no-whole-ok (codes "size") d h) refl
+content-ok d (Inside bytes) (inr (e, (digits, f, i)), g, h) = rw (no-text-ok (codes "text") d e, some-text-ok (codes "hex") d digits f, no-digest-ok (codes "sha256") d g, no-whole-ok (codes "size") d h, i) refl
+content-ok d (External r) (e, f, g, h) = rw (no-text-ok (codes "text") d e, no-text-ok (codes "hex") d f, some-digest-ok (codes "sha256") d r.digest g, some-whole-ok (codes "size") d r.size h) refl
 
 -- ---- retention and legal hold
 

@@ -1,6 +1,6 @@
 -- Values that are read from members of their kinds: a refusal of theirs is no fault of shape, and what they are.
 use Rattle.std.proofs.Common.{◌≡◌, ◌≢◌, ◌<◌, ℕ, Bool, true, false, List, [], ◌∷◌, length, refl, sym, ◌∙◌, ap, inl, inr, codes, arith}
-use Rattle.std.specs.Prelude.{nat_lt, if◌then◌else◌, IsTrue, Option, Some, None, option_map, MatchOption, Result, Ok, Err}
+use Rattle.std.specs.Prelude.{nat_lt, if◌then◌else◌, IsTrue, Option, Some, None, is_some, option_map, MatchOption, Result, Ok, Err}
 use Rattle.std.proofs.lemmas.Grind.{common_steps}
 use Rattle.hex.specs.Hex.{decode_of}
 use Rattle.serde_json.specs.Data.{Data, string, number, unsigned}
@@ -19,15 +19,15 @@ use Rattle.vault_core_model.specs.Rights.{no_rights, with_right}
 use Rattle.vault_core_model.specs.declared.rights.Rights.{Rights}
 use Rattle.vault_lines_json.specs.declared.members.Whole.{Whole}
 use Rattle.vault_lines_json.specs.declared.members.Whole.TheVariants.{Negative, Natural}
-use Rattle.vault_lines_json.specs.declared.shape.Kind.TheVariants.{Text, OptionalText, Number, OptionalNumber, Texts}
+use Rattle.vault_lines_json.specs.declared.shape.Kind.TheVariants.{Text, OptionalText, OptionalDigest, Number, OptionalNumber, Texts}
 use Rattle.vault_values.specs.Fault.{◌>>=◌, or_refused, or_invalid, if_given}
-use Rattle.vault_lines_json.specs.Members.{text_of, optional_text_of, whole_of, optional_whole_of, texts_of}
-use Rattle.vault_lines_json.specs.Shape.{fits, has_one_content}
-use Rattle.vault_lines_json.specs.Spelling.{IsAbsent, IsText, IsName, IsBucket, IsKey, IsPrefix, IsMoment, IsSmall, IsOptionalSmall, IsId, IsOptionalId, IsRights, IsContent}
+use Rattle.vault_lines_json.specs.Members.{text_of, optional_text_of, optional_digest_of, whole_of, optional_whole_of, texts_of}
+use Rattle.vault_lines_json.specs.Shape.{fits, has_one_content, write_one}
+use Rattle.vault_lines_json.specs.Spelling.{IsAbsent, IsText, IsName, IsBucket, IsKey, IsPrefix, IsMoment, IsSmall, IsOptionalSmall, IsId, IsOptionalId, IsRights, IsDigest, IsContent}
 use Rattle.vault_values.specs.Named.{or_clock_refusal, or_key_refusal, name_of, prefix_named, prefix_if}
 use Rattle.vault_values.specs.Rights.{with_rights_of, rights_named}
-use Rattle.vault_lines_json.specs.Values.{reading_of, asker_of, caller_of, dept_of, optional_dept_of, batch_of, bucket_of, key_of, prefix_of, below, number_of, optional_number_of, version_of, id_of, optional_id_of, rights_of, bytes_of, content_of}
-use Rattle.vault_lines_json.proofs.ReadLemmas.{Reads, reads-then, reads-as, IsWhole, reads-text, reads-optional-text, reads-whole, reads-optional-whole, reads-texts}
+use Rattle.vault_lines_json.specs.Values.{reading_of, asker_of, caller_of, dept_of, optional_dept_of, batch_of, bucket_of, key_of, prefix_of, below, number_of, optional_number_of, version_of, id_of, optional_id_of, rights_of, inside_of, external_of, content_written, content_of}
+use Rattle.vault_lines_json.proofs.ReadLemmas.{Reads, reads-then, reads-as, IsWhole, reads-text, reads-optional-text, reads-optional-digest, reads-whole, reads-optional-whole, reads-texts}
 use Rattle.vault_lines_json.proofs.RightsLemmas.{is-rights}
 
 -- ---- texts
@@ -193,16 +193,34 @@ hex-read : {E : Type 0} (x : Result (List ℕ) E) → Reads (λ bytes. x ≡ Ok 
 hex-read (Ok bytes) = refl
 hex-read (Err e) = λ h. cc
 
-bytes-read : (d : Data) (text hex : Option (List ℕ)) → get (codes "text") d ≡ option_map string text → get (codes "hex") d ≡ option_map string hex → IsTrue (has_one_content d) → Reads (IsContent d) (bytes_of text hex)
-unfolding bytes_of
-bytes-read d None None e f one = let none : has_one_content d ≡ false = rw (e, f) refl in absurd cc
-bytes-read d (Some t) None e f one = inl (e, f)
-bytes-read d None (Some digits) e f one = reads-as _ _ (or_refused InvalidArgument (decode_of digits)) (hex-read (decode_of digits)) (λ bytes bytes_are. inr (e, (digits, f, bytes_are)))
-bytes-read d (Some t) (Some digits) e f one = let none : has_one_content d ≡ false = rw (e, f) refl in absurd cc
+-- a content is written by those of its members that are there
+there : {A : Type 0} (P : A → Type 0) (found : Option Data) (o : Option A) → MatchOption o (found ≡ None) P → ((a : A) → P a → IsTrue (is_some found)) → is_some o ≡ is_some found
+there P found None e some = rw e refl
+there P found (Some a) e some = sym (some a e)
 
-pub reads-content : (d : Data) → IsTrue (fits OptionalText (get (codes "text") d)) → IsTrue (fits OptionalText (get (codes "hex") d)) → IsTrue (has_one_content d) → Reads (IsContent d) (content_of d)
+text-there : (found : Option Data) (o : Option (List ℕ)) → found ≡ option_map string o → is_some o ≡ is_some found
+text-there found None e = rw e refl
+text-there found (Some text) e = rw e refl
+
+whole-there : (found : Option Data) (w : Whole) → IsWhole found w → IsTrue (is_some found)
+whole-there found Negative e = e
+whole-there found (Natural n) e = rw e refl
+
+content-read : (d : Data) (text hex digest : Option (List ℕ)) (size : Option Whole) → get (codes "text") d ≡ option_map string text → get (codes "hex") d ≡ option_map string hex → MatchOption digest (get (codes "sha256") d ≡ None) (IsDigest d (codes "sha256")) → MatchOption size (get (codes "size") d ≡ None) (IsWhole (get (codes "size") d)) → write_one (is_some text) (is_some hex) (is_some digest) (is_some size) ≡ true → Reads (IsContent d) (content_written text hex digest size)
+unfolding content_written inside_of external_of
+content-read d (Some t) None None None e f g h one = (inl (e, f), g, h)
+content-read d None (Some digits) None None e f g h one =
+    reads-then _ _ (or_refused InvalidArgument (decode_of digits)) _ (hex-read (decode_of digits)) (λ bytes bytes_are. (inr (e, (digits, f, bytes_are)), g, h))
+content-read d None None (Some digest) (Some Negative) e f g h one = λ h. cc
+content-read d None None (Some digest) (Some (Natural n)) e f g h one = (e, f, g, h)
+content-read d text hex digest size e f g h one = absurd cc
+
+pub reads-content : (d : Data) → IsTrue (fits OptionalText (get (codes "text") d)) → IsTrue (fits OptionalText (get (codes "hex") d)) → IsTrue (fits OptionalDigest (get (codes "sha256") d)) → IsTrue (fits OptionalNumber (get (codes "size") d)) → IsTrue (has_one_content d) → Reads (IsContent d) (content_of d)
 unfolding content_of
-reads-content d text_fits hex_fits one =
+reads-content d text_fits hex_fits digest_fits size_fits one =
     reads-then _ _ (optional_text_of (codes "text") d) _ (reads-optional-text (codes "text") d text_fits) (λ text text_is.
     reads-then _ _ (optional_text_of (codes "hex") d) _ (reads-optional-text (codes "hex") d hex_fits) (λ hex hex_is.
-    bytes-read d text hex text_is hex_is one))
+    reads-then _ _ (optional_digest_of (codes "sha256") d) _ (reads-optional-digest (codes "sha256") d digest_fits) (λ digest digest_is.
+    reads-then _ _ (optional_whole_of (codes "size") d) _ (reads-optional-whole (codes "size") d size_fits) (λ size size_is.
+    content-read d text hex digest size text_is hex_is digest_is size_is
+    (rw (text-there _ text text_is, text-there _ hex hex_is, there _ _ digest digest_is (λ a a_is. rw a_is.1 refl), there _ _ size size_is (whole-there _)) one)))))

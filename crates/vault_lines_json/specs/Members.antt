@@ -1,5 +1,7 @@
 -- The members of an object, each by its JSON type.
 use Rattle.std.specs.Prelude.{ℕ, List, [], ◌∷◌, Bool, false, Option, Some, None, option_and_then, Result, Ok}
+use Rattle.std.specs.Result.{result_ok}
+use Rattle.hex.specs.Hex.{decode_sized}
 use Rattle.serde_json.specs.Data.{Num, unsigned, negative, float, Data, Items, no_items, item}
 use Rattle.serde_json.specs.Find.{get, as_str, as_bool, as_number, as_array}
 use Rattle.vault_base.specs.declared.refusal.Refusal.{Refusal}
@@ -37,6 +39,16 @@ whole_of name d = needed as_whole (get name d)
 
 unfoldable pub optional_whole_of : List ℕ → Data → Result (Option Whole) Refusal
 optional_whole_of name d = optional as_whole (get name d)
+
+-- the digest that 64 hex digits write, in either letter case
+abbrev pub digest_written : List ℕ → Option (List ℕ)
+digest_written text = result_ok (decode_sized text 32)
+
+abbrev pub as_digest : Data → Option (List ℕ)
+as_digest d = option_and_then digest_written (as_str d)
+
+unfoldable pub optional_digest_of : List ℕ → Data → Result (Option (List ℕ)) Refusal
+optional_digest_of name d = optional as_digest (get name d)
 
 -- the texts that all items are
 abbrev pub as_texts : Items → Result (List (List ℕ)) Refusal

@@ -1,18 +1,22 @@
 -- The shape of an object: which members it has, each of its JSON type.
-use Rattle.std.specs.Prelude.{ℕ, List, [], ◌∷◌, ◌&&◌, not, codes, Bool, true, false, if◌then◌else◌, Option, is_some}
+use Rattle.std.specs.Prelude.{ℕ, List, [], ◌∷◌, ◌&&◌, codes, Bool, true, false, Option, is_some}
 use Rattle.std.specs.List.{list_all, list_any}
 use Rattle.std.specs.Option.{option_map_or}
 use Rattle.std.specs.Str.{bytes_eq}
 use Rattle.serde_json.specs.Data.{Data, Items, no_items, item, Members, no_members, member}
 use Rattle.serde_json.specs.Find.{get, as_str, as_bool, as_array, as_object}
-use Rattle.vault_lines_json.specs.Members.{as_whole}
+use Rattle.vault_lines_json.specs.Members.{as_digest, as_whole}
 use Rattle.vault_lines_json.specs.declared.shape.Kind.{Kind}
-use Rattle.vault_lines_json.specs.declared.shape.Kind.TheVariants.{Text, OptionalText, Number, OptionalNumber, OptionalFlag, Texts, Rules}
+use Rattle.vault_lines_json.specs.declared.shape.Kind.TheVariants.{Text, OptionalText, OptionalDigest, Number, OptionalNumber, OptionalFlag, Texts, Rules}
 
 -- ---- JSON types
 
 abbrev pub is_text : Data → Bool
 is_text d = is_some (as_str d)
+
+-- a text of 64 hex digits
+abbrev pub is_digest : Data → Bool
+is_digest d = is_some (as_digest d)
 
 -- a number with a point or an exponent isn't whole, and neither is -0 or one beyond 64 bits
 abbrev pub is_number : Data → Bool
@@ -96,6 +100,7 @@ are_rules d = is_list_of is_rule d
 abbrev pub fits : Kind → Option Data → Bool
 fits Text found = needed is_text found
 fits OptionalText found = optional is_text found
+fits OptionalDigest found = optional is_digest found
 fits Number found = needed is_number found
 fits OptionalNumber found = optional is_number found
 fits OptionalFlag found = optional is_flag found
@@ -121,6 +126,12 @@ are_named members d = option_map_or (have_names members) (as_object d) false
 abbrev pub has_members : List (List ℕ × Kind) → Data → Bool
 has_members members d = are_named members d && fits_each members d
 
--- exactly one of the two members that write a content is there
+-- of text, hex, sha256 and size, those are there that write one content: text, or hex, or the two others
+abbrev pub write_one : Bool → Bool → Bool → Bool → Bool
+write_one true false false false = true
+write_one false true false false = true
+write_one false false true true = true
+write_one _ _ _ _ = false
+
 abbrev pub has_one_content : Data → Bool
-has_one_content d = if is_some (get (codes "text") d) then not (is_some (get (codes "hex") d)) else is_some (get (codes "hex") d)
+has_one_content d = write_one (is_some (get (codes "text") d)) (is_some (get (codes "hex") d)) (is_some (get (codes "sha256") d)) (is_some (get (codes "size") d))

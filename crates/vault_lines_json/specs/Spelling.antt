@@ -2,12 +2,14 @@
 use Rattle.std.specs.Prelude.{◌≡◌, ◌<◌, ◌⊎◌, ℕ, List, [], ◌∷◌, codes, Bool, false, IsTrue, Option, Some, None, is_some, MatchOption, Ok}
 use Rattle.std.specs.List.{list_all, list_any}
 use Rattle.std.specs.Str.{bytes_eq}
-use Rattle.hex.specs.Hex.{decode_of}
+use Rattle.hex.specs.Hex.{decode_of, decode_sized}
 use Rattle.serde_json.specs.Data.{Data, boolean, string, number, unsigned, array, Items, no_items, item}
 use Rattle.serde_json.specs.Find.{get}
 use Rattle.vault_base.specs.Moment.{moment_of}
 use Rattle.vault_base.specs.Name.{is_bucket_name, is_object_key, is_key_prefix, is_plain_name, is_rule_id, is_version_id}
 use Rattle.vault_base.specs.Right.{right_name, right_of}
+use Rattle.vault_base.specs.declared.content.Content.{Content}
+use Rattle.vault_base.specs.declared.content.Content.TheVariants.{Inside, External}
 use Rattle.vault_base.specs.declared.right.Right.{Right}
 use Rattle.vault_core_model.specs.Rights.{has}
 use Rattle.vault_core_model.specs.declared.rights.Rights.{Rights}
@@ -94,10 +96,20 @@ IsRights d rights =
 -- ---- contents
 
 -- the bytes are those of the member text, or those that the digits of the member hex write
-abbrev pub IsContent : Data → List ℕ → Type 0
-IsContent d bytes =
+abbrev pub AreBytes : Data → List ℕ → Type 0
+AreBytes d bytes =
     (IsText d (codes "text") bytes × IsAbsent d (codes "hex"))
     ⊎ (IsAbsent d (codes "text") × ((digits : List ℕ) × IsText d (codes "hex") digits × (decode_of digits ≡ Ok bytes)))
+
+-- the member is the digest, in 64 hex digits
+abbrev pub IsDigest : Data → List ℕ → List ℕ → Type 0
+IsDigest d name digest = (digits : List ℕ) × IsText d name digits × (decode_sized digits 32 ≡ Ok digest)
+
+-- the bytes are written by text or hex; of bytes that are kept outside, sha256 and size are the digest and the size
+abbrev pub IsContent : Data → Content → Type 0
+IsContent d (Inside bytes) = AreBytes d bytes × IsAbsent d (codes "sha256") × IsAbsent d (codes "size")
+IsContent d (External r) =
+    IsAbsent d (codes "text") × IsAbsent d (codes "hex") × IsDigest d (codes "sha256") r.digest × IsNumber d (codes "size") r.size
 
 -- ---- retention and legal hold
 

@@ -3,13 +3,15 @@ use Rattle.std.specs.Prelude.{ℕ, List, codes, nat_lt, if◌then◌else◌, Opt
 use Rattle.hex.specs.Hex.{decode_of}
 use Rattle.serde_json.specs.Data.{Data}
 use Rattle.vault_base.specs.Name.{is_version_id}
+use Rattle.vault_base.specs.declared.content.Content.{Content}
+use Rattle.vault_base.specs.declared.content.Content.TheVariants.{Inside, External}
 use Rattle.vault_base.specs.declared.refusal.Refusal.{Refusal}
 use Rattle.vault_base.specs.declared.refusal.Refusal.TheVariants.{InvalidArgument, MalformedBody}
 use Rattle.vault_core_model.specs.declared.rights.Rights.{Rights}
 use Rattle.vault_values.specs.Fault.{◌>>=◌, if_given, or_refused}
 use Rattle.vault_values.specs.Named.{reading_named, asker_named, name_of, bucket_named, key_named, prefix_if}
 use Rattle.vault_values.specs.Rights.{rights_named}
-use Rattle.vault_lines_json.specs.Members.{text_of, optional_text_of, whole_of, optional_whole_of, texts_of}
+use Rattle.vault_lines_json.specs.Members.{text_of, optional_text_of, optional_digest_of, whole_of, optional_whole_of, texts_of}
 use Rattle.vault_lines_json.specs.declared.members.Whole.{Whole}
 use Rattle.vault_lines_json.specs.declared.members.Whole.TheVariants.{Negative, Natural}
 
@@ -104,15 +106,28 @@ rights_of d = do
 
 -- ---- contents
 
--- the bytes of the text, or those that the hex digits write, in either letter case
-unfoldable pub bytes_of : Option (List ℕ) → Option (List ℕ) → Result (List ℕ) Refusal
-bytes_of (Some text) None = Ok text
-bytes_of None (Some hex) = or_refused InvalidArgument (decode_of hex)
-bytes_of None None = Err MalformedBody
-bytes_of (Some text) (Some hex) = Err MalformedBody
+-- the bytes that the hex digits write, in either letter case
+unfoldable pub inside_of : List ℕ → Result Content Refusal
+inside_of hex = do
+  bytes ← or_refused InvalidArgument (decode_of hex)
+  Ok (Inside bytes)
 
-unfoldable pub content_of : Data → Result (List ℕ) Refusal
+-- bytes that are kept outside, of that digest and size
+unfoldable pub external_of : List ℕ → Whole → Result Content Refusal
+external_of digest Negative = Err InvalidArgument
+external_of digest (Natural size) = Ok (External (record { size = size; digest = digest }))
+
+-- the bytes of the text, or those that the hex digits write, or bytes that are kept outside
+unfoldable pub content_written : Option (List ℕ) → Option (List ℕ) → Option (List ℕ) → Option Whole → Result Content Refusal
+content_written (Some text) None None None = Ok (Inside text)
+content_written None (Some hex) None None = inside_of hex
+content_written None None (Some digest) (Some size) = external_of digest size
+content_written _ _ _ _ = Err MalformedBody
+
+unfoldable pub content_of : Data → Result Content Refusal
 content_of d = do
   text ← optional_text_of (codes "text") d
   hex ← optional_text_of (codes "hex") d
-  bytes_of text hex
+  digest ← optional_digest_of (codes "sha256") d
+  size ← optional_whole_of (codes "size") d
+  content_written text hex digest size

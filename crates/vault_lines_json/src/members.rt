@@ -4,8 +4,10 @@ ghost use Rattle.serde_json.specs.View.{view, items_view};
 ghost use Rattle.vault_values.specs.Fault.{Gives};
 ghost use Rattle.vault_lines_json.specs.Members as spec;
 
+use hex::FromHex as _;
 use serde_json::Value;
 use std::alloc::{AllocError, Global};
+use vault_base::content::Digest;
 use vault_base::refusal::Refusal;
 use vault_values::fault::LineFault;
 
@@ -37,6 +39,35 @@ pub fn optional_text_of<'v>(name: &str, value: &'v Value) -> Result<Option<&'v s
     };
     match member.as_str() {
         Some(text) => Ok(Some(text)),
+        None => Err(LineFault::Refused(Refusal::MalformedBody)),
+    }
+}
+
+/// The digest that a text writes in 64 hex digits.
+fn digest_written(text: &str) -> Option<Digest>
+    ensures { result ≡ spec.digest_written text.now }
+{
+    let bytes = <[u8; 32]>::from_hex(text).ok()?;
+    Digest::from_slice(&bytes)
+}
+
+/// The digest that a value is.
+pub fn as_digest(value: &Value) -> Option<Digest>
+    ensures { result ≡ spec.as_digest (view value.now) }
+{
+    value.as_str().and_then(digest_written)
+}
+
+/// A member that may be left out, a digest.
+#[tactic(auto, unfolding(crate::specs::Members::optional_digest_of))]
+pub fn optional_digest_of(name: &str, value: &Value) -> Result<Option<Digest>, LineFault>
+    ensures { Gives (λ x. x) result (spec.optional_digest_of name.now (view value.now)) }
+{
+    let Some(member) = value.get(name) else {
+        return Ok(None);
+    };
+    match as_digest(member) {
+        Some(digest) => Ok(Some(digest)),
         None => Err(LineFault::Refused(Refusal::MalformedBody)),
     }
 }

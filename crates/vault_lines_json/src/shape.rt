@@ -6,7 +6,7 @@ ghost use Rattle.serde_json.specs.Find.{get};
 ghost use Rattle.serde_json.specs.View.{view, items_view, members_view};
 ghost use Rattle.vault_lines_json.specs.Shape as spec;
 
-use crate::members::as_whole;
+use crate::members::{as_digest, as_whole};
 use serde_json::{Map, Value};
 
 /// The JSON type of a member, and whether it may be left out.
@@ -14,6 +14,8 @@ use serde_json::{Map, Value};
 pub enum Kind {
     Text,
     OptionalText,
+    /// A text of 64 hex digits.
+    OptionalDigest,
     Number,
     OptionalNumber,
     /// A truth value.
@@ -44,6 +46,15 @@ fn may_have_text(name: &str, value: &Value) -> bool
 {
     match value.get(name) {
         Some(member) => member.is_string(),
+        None => true,
+    }
+}
+
+fn may_have_digest(name: &str, value: &Value) -> bool
+    ensures { result ≡ spec.optional spec.is_digest (get name.now (view value.now)) }
+{
+    match value.get(name) {
+        Some(member) => as_digest(member).is_some(),
         None => true,
     }
 }
@@ -222,6 +233,7 @@ fn fits(kind: Kind, name: &str, value: &Value) -> bool
     match kind {
         Kind::Text => has_text(name, value),
         Kind::OptionalText => may_have_text(name, value),
+        Kind::OptionalDigest => may_have_digest(name, value),
         Kind::Number => has_number(name, value),
         Kind::OptionalNumber => may_have_number(name, value),
         Kind::OptionalFlag => may_have_flag(name, value),
@@ -278,9 +290,16 @@ pub fn has_members(value: &Value, members: &[(&str, Kind)]) -> bool
     are_named(value, members) && fits_each(members, value)
 }
 
-/// Exactly one of the two members that write a content is there.
+/// Of `text`, `hex`, `sha256` and `size`, those are there that write one content: `text`, or `hex`, or the two others.
 pub fn has_one_content(value: &Value) -> bool
     ensures { result ≡ spec.has_one_content (view value.now) }
 {
-    value.get("text").is_some() != value.get("hex").is_some()
+    let text = value.get("text").is_some();
+    let hex = value.get("hex").is_some();
+    let digest = value.get("sha256").is_some();
+    let size = value.get("size").is_some();
+    matches!(
+        (text, hex, digest, size),
+        (true, false, false, false) | (false, true, false, false) | (false, false, true, true)
+    )
 }

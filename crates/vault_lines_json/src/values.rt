@@ -4,11 +4,13 @@ ghost use Rattle.serde_json.specs.View.{view};
 ghost use Rattle.vault_values.specs.Fault.{Gives};
 ghost use Rattle.vault_lines_json.specs.Values as spec;
 
-use crate::members::{Whole, optional_text_of, optional_whole_of, text_of, texts_of, whole_of};
+use crate::members::{
+    Whole, optional_digest_of, optional_text_of, optional_whole_of, text_of, texts_of, whole_of,
+};
 use hex::FromHexError;
 use serde_json::Value;
 use std::alloc::Global;
-use vault_base::content::Content;
+use vault_base::content::{Bytes, Content, Digest, Registered};
 use vault_base::moment::Moment;
 use vault_base::name::{
     BatchName, BucketName, CallerName, DeptName, KeyPrefix, ObjectKey, VersionId,
@@ -198,28 +200,59 @@ pub fn rights(alloc: Global, value: &Value) -> Result<Rights, LineFault>
     rights_named(names.as_slice())
 }
 
-#[tactic(auto, unfolding(crate::specs::Values::bytes_of))]
-fn bytes_of(alloc: Global, text: Option<&str>, hex: Option<&str>) -> Result<Content, LineFault>
-    ensures { Gives (λ x. x) result (spec.bytes_of (option_map (λ t. t.now) text.entry) (option_map (λ t. t.now) hex.entry)) }
+/// The bytes that pairs of hex digits write.
+#[tactic(auto, unfolding(crate::specs::Values::inside_of))]
+fn inside(alloc: Global, hex: &str) -> Result<Content, LineFault>
+    ensures { Gives (λ x. x) result (spec.inside_of hex.now) }
 {
-    match (text, hex) {
-        (Some(text), None) => Ok(Content::new(Vec::from_slice(alloc, text.as_bytes())?)),
-        (None, Some(hex)) => match hex::decode(alloc, hex) {
-            Ok(bytes) => Ok(Content::new(bytes)),
-            Err(FromHexError::OutOfMemory) => Err(LineFault::Memory),
-            Err(_) => Err(LineFault::Refused(Refusal::InvalidArgument)),
-        },
+    match hex::decode(alloc, hex) {
+        Ok(bytes) => Ok(Content::Inside(Bytes::new(bytes))),
+        Err(FromHexError::OutOfMemory) => Err(LineFault::Memory),
+        Err(_) => Err(LineFault::Refused(Refusal::InvalidArgument)),
+    }
+}
+
+/// Bytes that are kept outside, of that digest and size.
+#[tactic(auto, unfolding(crate::specs::Values::external_of))]
+fn external(digest: Digest, size: Whole) -> Result<Content, LineFault>
+    ensures { Gives (λ x. x) result (spec.external_of digest size) }
+{
+    let Whole::Natural(size) = size else {
+        return Err(LineFault::Refused(Refusal::InvalidArgument));
+    };
+    Ok(Content::External(Registered { size, digest }))
+}
+
+#[tactic(auto, unfolding(crate::specs::Values::content_written))]
+fn content_written(
+    alloc: Global,
+    text: Option<&str>,
+    hex: Option<&str>,
+    digest: Option<Digest>,
+    size: Option<Whole>,
+) -> Result<Content, LineFault>
+    ensures { Gives (λ x. x) result (spec.content_written (option_map (λ t. t.now) text.entry) (option_map (λ t. t.now) hex.entry) digest size) }
+{
+    match (text, hex, digest, size) {
+        (Some(text), None, None, None) => {
+            let bytes = Vec::from_slice(alloc, text.as_bytes())?;
+            Ok(Content::Inside(Bytes::new(bytes)))
+        }
+        (None, Some(hex), None, None) => inside(alloc, hex),
+        (None, None, Some(digest), Some(size)) => external(digest, size),
         _ => Err(LineFault::Refused(Refusal::MalformedBody)),
     }
 }
 
 /// A content: the bytes of the member `text`, or those that pairs of hex digits write in the
-/// member `hex`.
+/// member `hex`, or bytes that are kept outside, whose digest and size are the members `sha256` and `size`.
 #[tactic(auto, unfolding(crate::specs::Values::content_of))]
 pub fn content(alloc: Global, value: &Value) -> Result<Content, LineFault>
     ensures { Gives (λ x. x) result (spec.content_of (view value.now)) }
 {
     let text = optional_text_of("text", value)?;
     let hex = optional_text_of("hex", value)?;
-    bytes_of(alloc, text, hex)
+    let digest = optional_digest_of("sha256", value)?;
+    let size = optional_whole_of("size", value)?;
+    content_written(alloc, text, hex, digest, size)
 }

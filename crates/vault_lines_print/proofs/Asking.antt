@@ -1,8 +1,8 @@
 -- The members that are printed of a command spell that command.
 use Rattle.std.proofs.Common.{◌≡◌, ◌<◌, ◌≤◌, arith, ℕ, Bool, true, false, List, [], ◌∷◌, refl, ap, subst, inl, inr, codes}
-use Rattle.std.specs.Prelude.{IsTrue, All, Option, Some, None, is_none, map}
-use Rattle.hex.specs.Hex.{IsBytes, encode_lower}
-use Rattle.hex.proofs.HexLemmas.{decode_of-encode_lower}
+use Rattle.std.specs.Prelude.{IsTrue, All, Option, Some, None, is_none, map, Ok}
+use Rattle.hex.specs.Hex.{decode_sized, encode_lower}
+use Rattle.hex.proofs.HexLemmas.{decode_of-encode_lower, decode_sized-encode_lower}
 use Rattle.serde_json.specs.Data.{Data, string, array, depth}
 use Rattle.serde_json.specs.Find.{get}
 use Rattle.serde_json.specs.View.{items_of}
@@ -10,6 +10,9 @@ use Rattle.serde_json.specs.Written.{has_float}
 use Rattle.vault_base.specs.Moment.{moment_text}
 use Rattle.vault_base.specs.Name.{is_bucket_name, is_key_prefix, is_object_key, is_plain_name}
 use Rattle.vault_base.specs.Right.{rights}
+use Rattle.vault_base.specs.declared.content.Content.{Content}
+use Rattle.vault_base.specs.declared.content.Content.TheVariants.{Inside, External}
+use Rattle.vault_base.specs.declared.content.Registered.{Registered}
 use Rattle.vault_core_model.specs.declared.command.Command.{Command}
 use Rattle.vault_core_model.specs.declared.command.Command.TheVariants as command
 use Rattle.vault_core_model.specs.declared.command.Timed.{Timed}
@@ -29,7 +32,7 @@ use Rattle.vault_lines_read.specs.declared.verb.Verb.{Verb}
 use Rattle.vault_lines_reply.proofs.ReplyLemmas.{rules-whole}
 use Rattle.vault_lines_reply.specs.ReplyLine.{rule_value}
 use Rattle.vault_lines_reply.specs.SpelledRule.{IsSpelledRule}
-use Rattle.vault_lines_print.specs.Spelled.{HasBits, HasPeriodIfGiven, IsIdIfGiven, IsNameIfGiven, IsSpelled, IsTimedSpelled, ReadsBack, ReadsBackIfGiven}
+use Rattle.vault_lines_print.specs.Spelled.{HasBits, HasPeriodIfGiven, IsContentSpelled, IsIdIfGiven, IsNameIfGiven, IsSpelled, IsTimedSpelled, ReadsBack, ReadsBackIfGiven}
 use Rattle.vault_lines_print.specs.Members.{AllSaid, line_value, of_said}
 use Rattle.vault_lines_print.proofs.RightsNames.{are-flat, are-texts, are-whole, is-named, items-named, names, names-are-rights}
 use Rattle.vault_lines_print.proofs.RuleMembers.{rules-flat, rules-shaped, rules-spelled}
@@ -65,6 +68,10 @@ pub record Asks (t : Timed) : Type 0 where
   pub spelled : Spells (line_value t) t
   pub whole : has_float (line_value t) ≡ false
   pub flat : depth (line_value t) ≤ 127
+
+-- the digits of a digest are read as it
+digits-read : (r : Registered) → IsContentSpelled (External r) → decode_sized (encode_lower r.digest) 32 ≡ Ok r.digest
+digits-read r c = decode_sized-encode_lower r.digest 32 c.1 c.0
 
 no-fault : (fault : Option RuleFault) → is_none fault ≡ true → fault ≡ None
 no-fault None e = refl
@@ -118,25 +125,41 @@ module _ (at : ℕ) (who : List ℕ) (back : ReadsBack at) (asker : IsTrue (is_p
       ((refl, name), ((items_of (map rule_value rules), refl, rules-spelled rules spelled fault, fault), tt))
       (rw (rules-whole rules) refl) (omega (arith, rules-flat rules))
 
-  asks-put : (bucket key content : List ℕ) (retention : Option Retention) (hold : Option Bool) → IsTrue (is_bucket_name bucket) → IsTrue (is_object_key key) → IsBytes content → ReadsBackIfGiven retention → Asks (by (command.Put (record { bucket = bucket; key = key; content = content; retention = retention; hold = hold })))
-  asks-put bucket key content None None b k bytes read =
-      asked _ refl refl refl refl refl refl ((refl, b), ((refl, k), (inr (refl, (encode_lower content, refl, decode_of-encode_lower content bytes)), ((refl, refl), (refl, tt)))))
-  asks-put bucket key content None (Some hold) b k bytes read =
-      asked _ refl refl refl refl refl refl ((refl, b), ((refl, k), (inr (refl, (encode_lower content, refl, decode_of-encode_lower content bytes)), ((refl, refl), (refl, tt)))))
-  asks-put bucket key content (Some r) None b k bytes read =
-      asked _ refl refl refl refl refl refl ((refl, b), ((refl, k), (inr (refl, (encode_lower content, refl, decode_of-encode_lower content bytes)), ((refl, (moment_text r.until, refl, read)), (refl, tt)))))
-  asks-put bucket key content (Some r) (Some hold) b k bytes read =
-      asked _ refl refl refl refl refl refl ((refl, b), ((refl, k), (inr (refl, (encode_lower content, refl, decode_of-encode_lower content bytes)), ((refl, (moment_text r.until, refl, read)), (refl, tt)))))
+  asks-put : (bucket key : List ℕ) (content : Content) (retention : Option Retention) (hold : Option Bool) → IsTrue (is_bucket_name bucket) → IsTrue (is_object_key key) → IsContentSpelled content → ReadsBackIfGiven retention → Asks (by (command.Put (record { bucket = bucket; key = key; content = content; retention = retention; hold = hold })))
+  asks-put bucket key (Inside bytes) None None b k c read =
+      asked _ refl refl refl refl refl refl ((refl, b), ((refl, k), ((inr (refl, (encode_lower bytes, refl, decode_of-encode_lower bytes c)), refl, refl), ((refl, refl), (refl, tt)))))
+  asks-put bucket key (Inside bytes) None (Some hold) b k c read =
+      asked _ refl refl refl refl refl refl ((refl, b), ((refl, k), ((inr (refl, (encode_lower bytes, refl, decode_of-encode_lower bytes c)), refl, refl), ((refl, refl), (refl, tt)))))
+  asks-put bucket key (Inside bytes) (Some s) None b k c read =
+      asked _ refl refl refl refl refl refl ((refl, b), ((refl, k), ((inr (refl, (encode_lower bytes, refl, decode_of-encode_lower bytes c)), refl, refl), ((refl, (moment_text s.until, refl, read)), (refl, tt)))))
+  asks-put bucket key (Inside bytes) (Some s) (Some hold) b k c read =
+      asked _ refl refl refl refl refl refl ((refl, b), ((refl, k), ((inr (refl, (encode_lower bytes, refl, decode_of-encode_lower bytes c)), refl, refl), ((refl, (moment_text s.until, refl, read)), (refl, tt)))))
+  asks-put bucket key (External r) None None b k c read =
+      asked _ refl (rw (digits-read r c) refl) refl refl refl refl ((refl, b), ((refl, k), ((refl, refl, (encode_lower r.digest, refl, digits-read r c), refl), ((refl, refl), (refl, tt)))))
+  asks-put bucket key (External r) None (Some hold) b k c read =
+      asked _ refl (rw (digits-read r c) refl) refl refl refl refl ((refl, b), ((refl, k), ((refl, refl, (encode_lower r.digest, refl, digits-read r c), refl), ((refl, refl), (refl, tt)))))
+  asks-put bucket key (External r) (Some s) None b k c read =
+      asked _ refl (rw (digits-read r c) refl) refl refl refl refl ((refl, b), ((refl, k), ((refl, refl, (encode_lower r.digest, refl, digits-read r c), refl), ((refl, (moment_text s.until, refl, read)), (refl, tt)))))
+  asks-put bucket key (External r) (Some s) (Some hold) b k c read =
+      asked _ refl (rw (digits-read r c) refl) refl refl refl refl ((refl, b), ((refl, k), ((refl, refl, (encode_lower r.digest, refl, digits-read r c), refl), ((refl, (moment_text s.until, refl, read)), (refl, tt)))))
 
-  asks-intake : (batch : List ℕ) (line : ℕ) (bucket key content : List ℕ) (retention : Option Retention) (hold : Option Bool) → IsTrue (is_plain_name batch) → line < 4294967296 → IsTrue (is_bucket_name bucket) → IsTrue (is_object_key key) → IsBytes content → ReadsBackIfGiven retention → Asks (by (command.Intake (record { batch = batch; line = line; put = record { bucket = bucket; key = key; content = content; retention = retention; hold = hold } })))
-  asks-intake batch line bucket key content None None n bits b k bytes read =
-      asked _ refl refl refl refl refl refl ((refl, b), ((refl, n), ((refl, bits), ((refl, k), (inr (refl, (encode_lower content, refl, decode_of-encode_lower content bytes)), ((refl, refl), (refl, tt)))))))
-  asks-intake batch line bucket key content None (Some hold) n bits b k bytes read =
-      asked _ refl refl refl refl refl refl ((refl, b), ((refl, n), ((refl, bits), ((refl, k), (inr (refl, (encode_lower content, refl, decode_of-encode_lower content bytes)), ((refl, refl), (refl, tt)))))))
-  asks-intake batch line bucket key content (Some r) None n bits b k bytes read =
-      asked _ refl refl refl refl refl refl ((refl, b), ((refl, n), ((refl, bits), ((refl, k), (inr (refl, (encode_lower content, refl, decode_of-encode_lower content bytes)), ((refl, (moment_text r.until, refl, read)), (refl, tt)))))))
-  asks-intake batch line bucket key content (Some r) (Some hold) n bits b k bytes read =
-      asked _ refl refl refl refl refl refl ((refl, b), ((refl, n), ((refl, bits), ((refl, k), (inr (refl, (encode_lower content, refl, decode_of-encode_lower content bytes)), ((refl, (moment_text r.until, refl, read)), (refl, tt)))))))
+  asks-intake : (batch : List ℕ) (line : ℕ) (bucket key : List ℕ) (content : Content) (retention : Option Retention) (hold : Option Bool) → IsTrue (is_plain_name batch) → line < 4294967296 → IsTrue (is_bucket_name bucket) → IsTrue (is_object_key key) → IsContentSpelled content → ReadsBackIfGiven retention → Asks (by (command.Intake (record { batch = batch; line = line; put = record { bucket = bucket; key = key; content = content; retention = retention; hold = hold } })))
+  asks-intake batch line bucket key (Inside bytes) None None n bits b k c read =
+      asked _ refl refl refl refl refl refl ((refl, b), ((refl, n), ((refl, bits), ((refl, k), ((inr (refl, (encode_lower bytes, refl, decode_of-encode_lower bytes c)), refl, refl), ((refl, refl), (refl, tt)))))))
+  asks-intake batch line bucket key (Inside bytes) None (Some hold) n bits b k c read =
+      asked _ refl refl refl refl refl refl ((refl, b), ((refl, n), ((refl, bits), ((refl, k), ((inr (refl, (encode_lower bytes, refl, decode_of-encode_lower bytes c)), refl, refl), ((refl, refl), (refl, tt)))))))
+  asks-intake batch line bucket key (Inside bytes) (Some s) None n bits b k c read =
+      asked _ refl refl refl refl refl refl ((refl, b), ((refl, n), ((refl, bits), ((refl, k), ((inr (refl, (encode_lower bytes, refl, decode_of-encode_lower bytes c)), refl, refl), ((refl, (moment_text s.until, refl, read)), (refl, tt)))))))
+  asks-intake batch line bucket key (Inside bytes) (Some s) (Some hold) n bits b k c read =
+      asked _ refl refl refl refl refl refl ((refl, b), ((refl, n), ((refl, bits), ((refl, k), ((inr (refl, (encode_lower bytes, refl, decode_of-encode_lower bytes c)), refl, refl), ((refl, (moment_text s.until, refl, read)), (refl, tt)))))))
+  asks-intake batch line bucket key (External r) None None n bits b k c read =
+      asked _ refl (rw (digits-read r c) refl) refl refl refl refl ((refl, b), ((refl, n), ((refl, bits), ((refl, k), ((refl, refl, (encode_lower r.digest, refl, digits-read r c), refl), ((refl, refl), (refl, tt)))))))
+  asks-intake batch line bucket key (External r) None (Some hold) n bits b k c read =
+      asked _ refl (rw (digits-read r c) refl) refl refl refl refl ((refl, b), ((refl, n), ((refl, bits), ((refl, k), ((refl, refl, (encode_lower r.digest, refl, digits-read r c), refl), ((refl, refl), (refl, tt)))))))
+  asks-intake batch line bucket key (External r) (Some s) None n bits b k c read =
+      asked _ refl (rw (digits-read r c) refl) refl refl refl refl ((refl, b), ((refl, n), ((refl, bits), ((refl, k), ((refl, refl, (encode_lower r.digest, refl, digits-read r c), refl), ((refl, (moment_text s.until, refl, read)), (refl, tt)))))))
+  asks-intake batch line bucket key (External r) (Some s) (Some hold) n bits b k c read =
+      asked _ refl (rw (digits-read r c) refl) refl refl refl refl ((refl, b), ((refl, n), ((refl, bits), ((refl, k), ((refl, refl, (encode_lower r.digest, refl, digits-read r c), refl), ((refl, (moment_text s.until, refl, read)), (refl, tt)))))))
 
   asks-get : (bucket key : List ℕ) (id : Option ℕ) → IsTrue (is_bucket_name bucket) → IsTrue (is_object_key key) → IsIdIfGiven id → Asks (by (command.Get (record { bucket = bucket; key = key; id = id })))
   asks-get bucket key None b k i = asked _ refl refl refl refl refl refl ((refl, b), ((refl, k), (refl, tt)))

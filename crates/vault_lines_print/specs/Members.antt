@@ -6,6 +6,8 @@ use Rattle.serde_json.specs.Data.{Data, boolean, string, number, unsigned, array
 use Rattle.serde_json.specs.View.{items_of}
 use Rattle.serde_json.specs.Written.{compact_text}
 use Rattle.vault_base.specs.Moment.{moment_text}
+use Rattle.vault_base.specs.declared.content.Content.{Content}
+use Rattle.vault_base.specs.declared.content.Content.TheVariants.{Inside, External}
 use Rattle.vault_base.specs.Right.{right_name, rights}
 use Rattle.vault_base.specs.declared.right.Right.{Right}
 use Rattle.vault_core_model.specs.Rights.{has}
@@ -73,9 +75,14 @@ abbrev pub with_default : Option Default → Members → Members
 with_default None ms = ms
 with_default (Some d) ms = with_period d.period (put (codes "mode") (string (mode_name d.mode)) ms)
 
--- the bytes, in hex digits
-abbrev pub with_content : List ℕ → Members → Members
-with_content bytes ms = put (codes "hex") (string (encode_lower bytes)) ms
+-- bytes under that name, in hex digits
+abbrev pub with_hex : List ℕ → List ℕ → Members → Members
+with_hex name bytes ms = put name (string (encode_lower bytes)) ms
+
+-- the bytes of a content, or the digest and the size of one that is kept outside
+abbrev pub with_content : Content → Members → Members
+with_content (Inside bytes) ms = with_hex (codes "hex") bytes ms
+with_content (External r) ms = put (codes "size") (whole r.size) (with_hex (codes "sha256") r.digest ms)
 
 abbrev pub with_texts : List ℕ → List ℕ → Members → Members
 with_texts mode until ms = put (codes "until") (string until) (put (codes "mode") (string mode) ms)

@@ -1,7 +1,9 @@
 -- What the types of a command's parts say of them: each name is one, and each number has its bits.
-use Rattle.std.specs.Prelude.{◌≡◌, ◌<◌, ℕ, List, [], ◌∷◌, All, IsTrue, Option, Some, None, Ok}
+use Rattle.std.specs.Prelude.{◌≡◌, ◌<◌, ℕ, List, [], ◌∷◌, length, All, IsTrue, Option, Some, None, Ok}
 use Rattle.hex.specs.Hex.{IsBytes}
 use Rattle.vault_base.specs.Moment.{moment_of, moment_text}
+use Rattle.vault_base.specs.declared.content.Content.{Content}
+use Rattle.vault_base.specs.declared.content.Content.TheVariants.{Inside, External}
 use Rattle.vault_base.specs.Name.{is_bucket_name, is_key_prefix, is_object_key, is_plain_name, is_version_id}
 use Rattle.vault_core_model.specs.declared.command.Command.{Command}
 use Rattle.vault_core_model.specs.declared.command.Timed.{Timed}
@@ -40,6 +42,10 @@ abbrev pub HasPeriodIfGiven : Option Default → Type 0
 HasPeriodIfGiven None = Unit {0}
 HasPeriodIfGiven (Some d) = HasBits d.period
 
+abbrev pub IsContentSpelled : Content → Type 0
+IsContentSpelled (Inside bytes) = IsBytes bytes
+IsContentSpelled (External r) = IsBytes r.digest × (length r.digest ≡ 32)
+
 -- what the type of a field's value says of it
 abbrev pub IsFieldSpelled : (f : Field) → (meaning_of f).Value → Type 0
 IsFieldSpelled field.dept x = IsTrue (is_plain_name x)
@@ -49,7 +55,7 @@ IsFieldSpelled field.bucket x = IsTrue (is_bucket_name x)
 IsFieldSpelled field.key x = IsTrue (is_object_key x)
 IsFieldSpelled field.id x = IsTrue (is_version_id x)
 IsFieldSpelled field.optional_id x = IsIdIfGiven x
-IsFieldSpelled field.content x = IsBytes x
+IsFieldSpelled field.content x = IsContentSpelled x
 IsFieldSpelled field.retention x = ReadsBack x.until
 IsFieldSpelled field.optional_retention x = ReadsBackIfGiven x
 IsFieldSpelled field.default x = HasPeriodIfGiven x

@@ -3,14 +3,16 @@ ghost use Rattle.std.specs.Prelude.{◌≡◌, ◌<◌, IfOk, OnOk};
 ghost use Rattle.hex.specs.Hex.{IsBytes};
 ghost use Rattle.serde_json.specs.Data.{put as with_member};
 ghost use Rattle.serde_json.specs.View.{members_view};
+ghost use Rattle.vault_base.specs.declared.content.Content.TheVariants.{External};
 ghost use Rattle.vault_core_model.specs.declared.command.Command.TheVariants as command_of;
 ghost use Rattle.vault_lines_print.specs.Members as spec;
-ghost use Rattle.vault_lines_print.specs.Spelled.{AreSpelled, IsSpelled};
+ghost use Rattle.vault_lines_print.specs.Spelled.{AreSpelled, IsContentSpelled, IsSpelled};
 
 use crate::lock_members::{put_hold_if, put_retention_if};
 use crate::members::{of_bucket, of_key, put_id};
 use serde_json::{Map, Value};
 use std::alloc::{AllocError, Global};
+use vault_base::content::{Content, Registered};
 use vault_core_model::command::{DeleteVersion, Intake, ListVersions, Put};
 use vault_lines_read::verb::Verb;
 use vault_lines_reply::object::{Plain, put_plain};
@@ -31,13 +33,47 @@ fn put_number(
 }
 
 /// Puts in bytes, in hex digits.
-fn put_hex(members: &mut Map<String, Value>, alloc: Global, bytes: &[u8]) -> Result<(), AllocError>
-    ensures ok { OnOk result (members_view members.new.entries ≡ spec.with_content bytes.now (members_view members.old.entries)) }
+fn put_hex(
+    members: &mut Map<String, Value>,
+    alloc: Global,
+    name: &str,
+    bytes: &[u8],
+) -> Result<(), AllocError>
+    ensures ok { OnOk result (members_view members.new.entries ≡ spec.with_hex name.now bytes.now (members_view members.old.entries)) }
     ensures bytes { OnOk result (IsBytes bytes.now) }
 {
     let digits = hex::encode(alloc, bytes)?;
-    put_plain(members, alloc, &[("hex", Plain::Text(digits.as_str()))])?;
+    put_plain(members, alloc, &[(name, Plain::Text(digits.as_str()))])?;
     Ok(())
+}
+
+/// Puts in the digest and the size of bytes that are kept outside.
+fn put_registered(
+    members: &mut Map<String, Value>,
+    alloc: Global,
+    registered: &Registered,
+) -> Result<(), AllocError>
+    ensures ok { OnOk result (members_view members.new.entries ≡ spec.with_content (External registered.now) (members_view members.old.entries)) }
+    ensures spelled { OnOk result (IsContentSpelled (External registered.now)) }
+{
+    put_hex(members, alloc, "sha256", registered.digest.as_slice())?;
+    put_plain(members, alloc, &[("size", Plain::Whole(registered.size))])?;
+    Ok(())
+}
+
+/// Puts in the bytes of a content, or the digest and the size of one that is kept outside.
+fn put_content(
+    members: &mut Map<String, Value>,
+    alloc: Global,
+    content: &Content,
+) -> Result<(), AllocError>
+    ensures ok { OnOk result (members_view members.new.entries ≡ spec.with_content content.now (members_view members.old.entries)) }
+    ensures spelled { OnOk result (IsContentSpelled content.now) }
+{
+    match content {
+        Content::Inside(bytes) => put_hex(members, alloc, "hex", bytes.as_slice()),
+        Content::External(registered) => put_registered(members, alloc, registered),
+    }
 }
 
 /// Puts in what is put, but for its bucket.
@@ -46,7 +82,7 @@ fn put_version(members: &mut Map<String, Value>, alloc: Global, put: &Put) -> Re
     ensures spelled { OnOk result (AreSpelled spec.version (spec.version_of put.now)) }
 {
     put_plain(members, alloc, &[("key", Plain::Text(put.key.as_str()))])?;
-    put_hex(members, alloc, put.content.as_slice())?;
+    put_content(members, alloc, &put.content)?;
     put_retention_if(members, alloc, put.retention)?;
     put_hold_if(members, alloc, put.hold)?;
     Ok(())

@@ -31,7 +31,7 @@ whole verb.Put d e = both (has_one_content d) _ e refl
 whole verb.Intake d e = both (has_one_content d) _ e refl
 whole verb d e = refl
 
--- the members of a line that has its shape are of their kinds, and a content is written by one of them
+-- the members of a line that has its shape are of their kinds, and a content is written in one way
 shaped : (verb : Verb) (d : Data) → is_shaped verb d ≡ true → (has_members (members_of verb) d ≡ true) × (are_whole (fields_of verb) d ≡ true)
 shaped verb d e =
     let members = has_members (members_of verb) d in

@@ -73,7 +73,7 @@ most-ok d most (inr (e, f)) = rw (optional-number-ok (codes "most") d None e, f)
 
 -- ---- fields one by one
 
--- a content is written by one member
+-- a content is written in one way
 abbrev pub is_whole : Field → Data → Bool
 is_whole field.content d = has_one_content d
 is_whole _ d = true
@@ -87,7 +87,7 @@ reads-field field.bucket d fit one = reads-bucket d fit.0
 reads-field field.key d fit one = reads-key d fit.0
 reads-field field.id d fit one = reads-id d fit.0
 reads-field field.optional_id d fit one = reads-optional-id (codes "id") d fit.0
-reads-field field.content d fit one = reads-content d fit.0 fit.1.0 one
+reads-field field.content d fit one = reads-content d fit.0 fit.1.0 fit.1.1.0 fit.1.1.1.0 one
 reads-field field.retention d fit one = reads-retention d fit.0 fit.1.0
 reads-field field.optional_retention d fit one = reads-optional-retention d fit.0 fit.1.0
 reads-field field.hold d fit one = reads-hold d fit.0

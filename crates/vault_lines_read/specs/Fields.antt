@@ -1,6 +1,7 @@
 -- What the line of a command says: fields, each of one member or of a few that are read together.
 use Rattle.std.specs.Prelude.{◌≡◌, ℕ, List, [], ◌∷◌, codes, Bool, Option, MatchOption, Result, Ok}
 use Rattle.serde_json.specs.Data.{Data}
+use Rattle.vault_base.specs.declared.content.Content.{Content}
 use Rattle.vault_base.specs.declared.refusal.Refusal.{Refusal}
 use Rattle.vault_core_model.specs.declared.command.Command.{Command}
 use Rattle.vault_core_model.specs.declared.rights.Rights.{Rights}
@@ -13,7 +14,7 @@ use Rattle.vault_lines_json.specs.Rules.{rules_of}
 use Rattle.vault_lines_json.specs.Spelling.{IsAbsent, IsName, IsBucket, IsKey, IsPrefix, IsSmall, IsId, IsOptionalId, IsFlag, IsRights, IsContent, IsRetention, IsOptionalRetention, IsHold, IsOptionalHold, IsDefault, IsRules}
 use Rattle.vault_lines_json.specs.Values.{caller_of, dept_of, optional_dept_of, batch_of, bucket_of, key_of, prefix_of, number_of, id_of, optional_id_of, rights_of, content_of}
 use Rattle.vault_lines_json.specs.declared.shape.Kind.{Kind}
-use Rattle.vault_lines_json.specs.declared.shape.Kind.TheVariants.{Text, OptionalText, Number, OptionalNumber, OptionalFlag, Texts, Rules}
+use Rattle.vault_lines_json.specs.declared.shape.Kind.TheVariants.{Text, OptionalText, OptionalDigest, Number, OptionalNumber, OptionalFlag, Texts, Rules}
 use Rattle.vault_lines_read.specs.ListLine.{IsAfterId, IsMost, after_id_of, most_of}
 
 pub data Field : Type 0 where
@@ -38,7 +39,7 @@ meaning_of bucket = record { members = (codes "bucket", Text) ∷ []; Value = Li
 meaning_of key = record { members = (codes "key", Text) ∷ []; Value = List ℕ; Says = λ d x. IsKey d x }
 meaning_of id = record { members = (codes "id", Number) ∷ []; Value = ℕ; Says = λ d x. IsId d (codes "id") x }
 meaning_of optional_id = record { members = (codes "id", OptionalNumber) ∷ []; Value = Option ℕ; Says = λ d x. IsOptionalId d (codes "id") x }
-meaning_of content = record { members = (codes "text", OptionalText) ∷ (codes "hex", OptionalText) ∷ []; Value = List ℕ; Says = λ d x. IsContent d x }
+meaning_of content = record { members = (codes "text", OptionalText) ∷ (codes "hex", OptionalText) ∷ (codes "sha256", OptionalDigest) ∷ (codes "size", OptionalNumber) ∷ []; Value = Content; Says = λ d x. IsContent d x }
 meaning_of retention = record { members = (codes "mode", Text) ∷ (codes "until", Text) ∷ []; Value = Retention; Says = λ d x. IsRetention d x }
 meaning_of optional_retention = record { members = (codes "mode", OptionalText) ∷ (codes "until", OptionalText) ∷ []; Value = Option Retention; Says = λ d x. IsOptionalRetention d x }
 meaning_of hold = record { members = (codes "hold", Text) ∷ []; Value = Bool; Says = λ d x. IsHold d x }

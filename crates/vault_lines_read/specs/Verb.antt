@@ -52,7 +52,7 @@ fields_of verb = (form_of verb).1
 abbrev pub members_of : Verb → List (List ℕ × Kind)
 members_of verb = (codes "at", Text) ∷ (codes "as", Text) ∷ (codes "do", Text) ∷ flat_map (λ f. (meaning_of f).members) (fields_of verb)
 
--- a content, where the line has one, is written by exactly one of text and hex
+-- a content, where the line has one, is written in exactly one way
 abbrev pub has_single_content : Verb → Data → Bool
 has_single_content verb.Put d = has_one_content d
 has_single_content verb.Intake d = has_one_content d

@@ -59,6 +59,10 @@ const TEXT: (&str, Kind) = ("text", Kind::OptionalText);
 
 const HEX: (&str, Kind) = ("hex", Kind::OptionalText);
 
+const SHA256: (&str, Kind) = ("sha256", Kind::OptionalDigest);
+
+const SIZE: (&str, Kind) = ("size", Kind::OptionalNumber);
+
 const MODE: (&str, Kind) = ("mode", Kind::OptionalText);
 
 const UNTIL: (&str, Kind) = ("until", Kind::OptionalText);
@@ -98,7 +102,9 @@ const SET_RULES: [(&str, Kind); 5] = [AT, WHO, VERB, BUCKET, ("rules", Kind::Rul
 
 const OF_ENTRY: [(&str, Kind); 6] = [AT, WHO, VERB, BUCKET, KEY, ID_OR_NONE];
 
-const PUT: [(&str, Kind); 10] = [AT, WHO, VERB, BUCKET, KEY, TEXT, HEX, MODE, UNTIL, HOLD];
+const PUT: [(&str, Kind); 12] = [
+    AT, WHO, VERB, BUCKET, KEY, TEXT, HEX, SHA256, SIZE, MODE, UNTIL, HOLD,
+];
 
 const LIST_VERSIONS: [(&str, Kind); 8] = [
     AT,
@@ -131,7 +137,7 @@ const SET_HOLD: [(&str, Kind); 7] = [AT, WHO, VERB, BUCKET, KEY, ID_OR_NONE, ("h
 
 const CERTIFICATE: [(&str, Kind); 5] = [AT, WHO, VERB, BUCKET, ID];
 
-const INTAKE: [(&str, Kind); 12] = [
+const INTAKE: [(&str, Kind); 14] = [
     AT,
     WHO,
     VERB,
@@ -141,6 +147,8 @@ const INTAKE: [(&str, Kind); 12] = [
     KEY,
     TEXT,
     HEX,
+    SHA256,
+    SIZE,
     MODE,
     UNTIL,
     HOLD,
@@ -224,7 +232,7 @@ impl Verb {
         has_members(value, self.members())
     }
 
-    /// A content, where this verb's line has one, is written by exactly one of `text` and `hex`.
+    /// A content, where this verb's line has one, is written in exactly one way.
     pub fn has_single_content(self, value: &Value) -> bool
         ensures { result ≡ spec.has_single_content self (view value.now) }
     {

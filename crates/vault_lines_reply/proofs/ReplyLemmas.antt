@@ -4,6 +4,8 @@ use Rattle.std.specs.Prelude.{option_map}
 use Rattle.serde_json.specs.Data.{Data, Members}
 use Rattle.serde_json.specs.View.{items_of}
 use Rattle.serde_json.specs.Written.{compact_text, has_float, items_have_float, members_have_float}
+use Rattle.vault_base.specs.declared.content.Content.{Content}
+use Rattle.vault_base.specs.declared.content.Content.TheVariants.{Inside, External}
 use Rattle.vault_base.specs.declared.refusal.Refusal.{Refusal}
 use Rattle.vault_base.specs.declared.refusal.Refusal.TheVariants.{AccessDenied, NoSuchKey}
 use Rattle.vault_core_model.specs.declared.reply.Answer.{Answer}
@@ -19,7 +21,7 @@ use Rattle.vault_lock.specs.declared.retention.Period.TheVariants.{Days, Years}
 use Rattle.vault_lock.specs.declared.retention.Retention.{Retention}
 use Rattle.vault_rules.specs.declared.rule.Noncurrent.{Noncurrent}
 use Rattle.vault_rules.specs.declared.rule.Rule.{Rule}
-use Rattle.vault_lines_reply.specs.ReplyLine.{reply_text, reply_value, answer_value, refusal_value, retention_value, digest_value, version_value, head_value, period_value, default_value, if_there, expiration_of, noncurrent_value, bounded_members, rule_value, listed_value, whole}
+use Rattle.vault_lines_reply.specs.ReplyLine.{reply_text, reply_value, answer_value, refusal_value, retention_value, digest_value, held, version_value, period_value, default_value, if_there, expiration_of, noncurrent_value, bounded_members, rule_value, listed_value, whole}
 
 retention-whole : (r : Option Retention) → has_float (retention_value r) ≡ false
 retention-whole None = refl
@@ -29,11 +31,12 @@ digest-whole : (d : Option (List ℕ)) → has_float (digest_value d) ≡ false
 digest-whole None = refl
 digest-whole (Some d) = refl
 
-version-whole : (v : Version) (content : List ℕ) → has_float (version_value v content) ≡ false
-version-whole v content = rw (retention-whole v.lock.retention, digest-whole v.entry.digest) refl
+held-whole : (v : Version) → members_have_float (held v) ≡ false
+held-whole v = rw (retention-whole v.lock.retention, digest-whole v.entry.digest) refl
 
-head-whole : (v : Version) → has_float (head_value v) ≡ false
-head-whole v = rw (retention-whole v.lock.retention, digest-whole v.entry.digest) refl
+version-whole : (v : Version) (content : Content) → has_float (version_value v content) ≡ false
+version-whole v (Inside bytes) = held-whole v
+version-whole v (External r) = held-whole v
 
 period-whole : (mode : Mode) (p : Period) → has_float (period_value mode p) ≡ false
 period-whole mode (Days n) = refl
@@ -76,7 +79,7 @@ answer-whole (answer.Default d) = rw (default-whole d) refl
 answer-whole (answer.Rules rules) = rw (rules-whole rules) refl
 answer-whole (answer.Admitted id) = refl
 answer-whole (answer.Version v content) = version-whole v content
-answer-whole (answer.Head v) = head-whole v
+answer-whole (answer.Head v) = held-whole v
 answer-whole (answer.Versions page) = rw (listed-whole page.entries) refl
 answer-whole (answer.Marked id) = refl
 answer-whole (answer.Removed r) = refl

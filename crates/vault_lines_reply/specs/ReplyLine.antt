@@ -6,6 +6,8 @@ use Rattle.serde_json.specs.View.{items_of}
 use Rattle.serde_json.specs.Written.{compact_text}
 use Rattle.vault_base.specs.Moment.{moment_text}
 use Rattle.vault_base.specs.Refusal.{name_of, number_of, reason_name}
+use Rattle.vault_base.specs.declared.content.Content.{Content}
+use Rattle.vault_base.specs.declared.content.Content.TheVariants.{Inside, External}
 use Rattle.vault_base.specs.declared.refusal.Refusal.{Refusal}
 use Rattle.vault_base.specs.declared.refusal.Refusal.TheVariants.{AccessDenied, NoSuchKey}
 use Rattle.vault_core_model.specs.declared.records.Entry.{Entry}
@@ -59,23 +61,32 @@ abbrev pub digest_value : Option (List ℕ) → Data
 digest_value None = null
 digest_value (Some digest) = text (encode_lower digest)
 
--- a version by its texts and values
-abbrev pub version_members : Version → List ℕ → List ℕ → Data → Data → Data
-version_members v admitted digits retention sha256 = object (member (codes "admitted") (text admitted) (member (codes "hex") (text digits) (member (codes "hold") (text (hold_name v.lock.hold)) (member (codes "retention") retention (member (codes "sha256") sha256 (member (codes "size") (whole v.entry.size) (member (codes "version_id") (whole v.entry.id) no_members)))))))
+-- what is said of a version whether its bytes are printed or not, by its values
+abbrev pub held_members : Version → Data → Data → Members
+held_members v retention sha256 = member (codes "hold") (text (hold_name v.lock.hold)) (member (codes "retention") retention (member (codes "sha256") sha256 (member (codes "size") (whole v.entry.size) (member (codes "version_id") (whole v.entry.id) no_members))))
+
+-- the same of its own retention and digest
+abbrev pub held : Version → Members
+held v = held_members v (retention_value v.lock.retention) (digest_value v.entry.digest)
 
 -- a version by its texts
 abbrev pub version_texts : Version → List ℕ → List ℕ → Data
-version_texts v admitted digits = version_members v admitted digits (retention_value v.lock.retention) (digest_value v.entry.digest)
+version_texts v admitted digits = object (member (codes "admitted") (text admitted) (member (codes "hex") (text digits) (held v)))
 
-abbrev pub version_value : Version → List ℕ → Data
-version_value v content = version_texts v (moment_text v.entry.admitted) (encode_lower content)
+-- a version whose bytes are kept outside, by its text
+abbrev pub external_texts : Version → List ℕ → Data
+external_texts v admitted = object (member (codes "admitted") (text admitted) (member (codes "external") (boolean true) (held v)))
 
--- the same without the bytes
-abbrev pub head_members : Version → List ℕ → Data → Data → Data
-head_members v admitted retention sha256 = object (member (codes "admitted") (text admitted) (member (codes "hold") (text (hold_name v.lock.hold)) (member (codes "retention") retention (member (codes "sha256") sha256 (member (codes "size") (whole v.entry.size) (member (codes "version_id") (whole v.entry.id) no_members))))))
+abbrev pub version_value : Version → Content → Data
+version_value v (Inside bytes) = version_texts v (moment_text v.entry.admitted) (encode_lower bytes)
+version_value v (External r) = external_texts v (moment_text v.entry.admitted)
+
+-- a version without its bytes, by its text
+abbrev pub head_texts : Version → List ℕ → Data
+head_texts v admitted = object (member (codes "admitted") (text admitted) (held v))
 
 abbrev pub head_value : Version → Data
-head_value v = head_members v (moment_text v.entry.admitted) (retention_value v.lock.retention) (digest_value v.entry.digest)
+head_value v = head_texts v (moment_text v.entry.admitted)
 
 abbrev pub period_value : Mode → Period → Data
 period_value mode (Days n) = object (member (codes "days") (whole n) (member (codes "mode") (text (mode_name mode)) no_members))

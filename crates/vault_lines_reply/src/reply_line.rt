@@ -3,7 +3,7 @@ ghost use Rattle.std.specs.Prelude.{◌≡◌, IfOk, OnOk, map, option_map, stri
 ghost use Rattle.serde_json.specs.View.{view, members_view};
 ghost use Rattle.vault_base.specs.declared.refusal.Refusal.TheVariants.{AccessDenied, NoSuchKey};
 ghost use Rattle.vault_core_model.specs.declared.reply.Answer.TheVariants as answer;
-ghost use Rattle.vault_lines_reply.specs.Putting.{put_lock_and_digest};
+ghost use Rattle.vault_lines_reply.specs.Putting.{put_held};
 ghost use Rattle.vault_lines_reply.specs.ReplyLine as spec;
 
 use crate::object::{Plain, object_of, plain_object, put_plain};
@@ -64,17 +64,27 @@ fn digest_value(alloc: Global, digest: Option<&Digest>) -> Result<Value, AllocEr
     json!(in alloc; digits.as_str())
 }
 
-/// Puts in the retention and the digest of a version.
-fn put_lock_and_digest(
+/// Puts in what is said of a version whether its bytes are printed or not.
+fn put_held(
     members: &mut Map<String, Value>,
     alloc: Global,
     version: &Version,
 ) -> Result<(), AllocError>
-    ensures { OnOk result (members_view members.new.entries ≡ put_lock_and_digest version.now (members_view members.old.entries)) }
+    ensures { OnOk result (members_view members.new.entries ≡ put_held version.now (members_view members.old.entries)) }
 {
+    let entry = &version.entry;
+    put_plain(
+        members,
+        alloc,
+        &[
+            ("hold", Plain::Text(hold_name(version.lock.hold))),
+            ("size", Plain::Whole(entry.size)),
+            ("version_id", Plain::Whole(u64::from(entry.id.number()))),
+        ],
+    )?;
     let retention = retention_value(alloc, version.lock.retention)?;
     put(members, alloc, "retention", retention)?;
-    let sha256 = digest_value(alloc, version.entry.digest.as_ref())?;
+    let sha256 = digest_value(alloc, entry.digest.as_ref())?;
     put(members, alloc, "sha256", sha256)
 }
 
@@ -82,12 +92,17 @@ fn version_value(alloc: Global, version: &Version, content: &Content) -> Result<
     ensures { IfOk result (λ value. view value ≡ spec.version_value version.now content.now) }
 {
     let admitted = version.entry.admitted.text(alloc)?;
-    let digits = hex::encode(alloc, content.as_slice())?;
-    version_members(alloc, version, admitted.as_str(), digits.as_str())
+    match content {
+        Content::Inside(bytes) => {
+            let digits = hex::encode(alloc, bytes.as_slice())?;
+            version_texts(alloc, version, admitted.as_str(), digits.as_str())
+        }
+        Content::External(_) => external_texts(alloc, version, admitted.as_str()),
+    }
 }
 
-/// The members of a version whose texts are made.
-fn version_members<'a>(
+/// A version whose texts are made.
+fn version_texts<'a>(
     alloc: Global,
     version: &Version,
     admitted: &'a str,
@@ -95,20 +110,27 @@ fn version_members<'a>(
 ) -> Result<Value, AllocError>
     ensures { IfOk result (λ value. view value ≡ spec.version_texts version.now admitted.now digits.now) }
 {
-    let entry = &version.entry;
     let mut members = Map::new(alloc);
-    put_plain(
-        &mut members,
-        alloc,
-        &[
-            ("admitted", Plain::Text(admitted)),
-            ("hex", Plain::Text(digits)),
-            ("hold", Plain::Text(hold_name(version.lock.hold))),
-            ("size", Plain::Whole(entry.size)),
-            ("version_id", Plain::Whole(u64::from(entry.id.number()))),
-        ],
-    )?;
-    put_lock_and_digest(&mut members, alloc, version)?;
+    let texts = [
+        ("admitted", Plain::Text(admitted)),
+        ("hex", Plain::Text(digits)),
+    ];
+    put_plain(&mut members, alloc, &texts)?;
+    put_held(&mut members, alloc, version)?;
+    Ok(Value::Object(members))
+}
+
+/// A version whose bytes are kept outside, and whose text is made.
+fn external_texts(alloc: Global, version: &Version, admitted: &str) -> Result<Value, AllocError>
+    ensures { IfOk result (λ value. view value ≡ spec.external_texts version.now admitted.now) }
+{
+    let mut members = Map::new(alloc);
+    let plain = [
+        ("admitted", Plain::Text(admitted)),
+        ("external", Plain::Flag(true)),
+    ];
+    put_plain(&mut members, alloc, &plain)?;
+    put_held(&mut members, alloc, version)?;
     Ok(Value::Object(members))
 }
 
@@ -116,26 +138,16 @@ fn head_value(alloc: Global, version: &Version) -> Result<Value, AllocError>
     ensures { IfOk result (λ value. view value ≡ spec.head_value version.now) }
 {
     let admitted = version.entry.admitted.text(alloc)?;
-    head_members(alloc, version, admitted.as_str())
+    head_texts(alloc, version, admitted.as_str())
 }
 
-/// The members of a head whose text is made.
-fn head_members(alloc: Global, version: &Version, admitted: &str) -> Result<Value, AllocError>
-    ensures { IfOk result (λ value. view value ≡ spec.head_members version.now admitted.now (spec.retention_value version.now.lock.retention) (spec.digest_value version.now.entry.digest)) }
+/// A head whose text is made.
+fn head_texts(alloc: Global, version: &Version, admitted: &str) -> Result<Value, AllocError>
+    ensures { IfOk result (λ value. view value ≡ spec.head_texts version.now admitted.now) }
 {
-    let entry = &version.entry;
     let mut members = Map::new(alloc);
-    put_plain(
-        &mut members,
-        alloc,
-        &[
-            ("admitted", Plain::Text(admitted)),
-            ("hold", Plain::Text(hold_name(version.lock.hold))),
-            ("size", Plain::Whole(entry.size)),
-            ("version_id", Plain::Whole(u64::from(entry.id.number()))),
-        ],
-    )?;
-    put_lock_and_digest(&mut members, alloc, version)?;
+    put_plain(&mut members, alloc, &[("admitted", Plain::Text(admitted))])?;
+    put_held(&mut members, alloc, version)?;
     Ok(Value::Object(members))
 }
 

@@ -7,7 +7,7 @@ use vault_base::limits::MOST_RULES;
 use vault_base::moment::Moment;
 use vault_base::name::{BucketName, CallerName, KeyPrefix, ObjectKey, RuleId};
 use vault_base::right::Right;
-use vault_lines_json::members::as_whole;
+use vault_lines_json::members::{as_digest, as_whole};
 use vault_lines_json::shape::{Kind, has_one_content};
 use vault_values::words::{hold_named, mode_named, status_named};
 
@@ -22,6 +22,7 @@ fn are_texts(member: &Value) -> bool {
 fn typed(kind: Kind, member: &Value) -> (bool, &'static str) {
     match kind {
         Kind::Text | Kind::OptionalText => (member.is_string(), "a text in double quotes"),
+        Kind::OptionalDigest => (as_digest(member).is_some(), "a text of 64 hex digits"),
         Kind::Number | Kind::OptionalNumber => (as_whole(member).is_some(), WHOLE_NUMBER),
         Kind::OptionalFlag => (member.as_bool().is_some(), "true or false without quotes"),
         Kind::Texts => (are_texts(member), "a list of texts"),
@@ -34,7 +35,7 @@ const WHOLE_NUMBER: &str = "a whole number without quotes or a point";
 fn is_optional(kind: Kind) -> bool {
     matches!(
         kind,
-        Kind::OptionalText | Kind::OptionalNumber | Kind::OptionalFlag
+        Kind::OptionalText | Kind::OptionalDigest | Kind::OptionalNumber | Kind::OptionalFlag
     )
 }
 
@@ -162,14 +163,28 @@ fn period_words(value: &Value) -> &'static str {
     }
 }
 
+/// What is wrong with the members that don't write one content, in words; the empty text of a line that has no content.
+fn content_words(of: &str, value: &Value) -> &'static str {
+    let is_inside = has("text", value) || has("hex", value);
+    match (of, is_inside, has("sha256", value), has("size", value)) {
+        (_, false, true, false) => "\"sha256\" stands beside size, as \"size\":5",
+        (_, false, false, true) => LONE_SIZE,
+        ("put", _, _, _) =>
+            "put has one of \"text\", \"hex\", and \"sha256\" with \"size\", as \"text\":\"hello\"",
+        ("intake", _, _, _) =>
+            "intake has one of \"text\", \"hex\", and \"sha256\" with \"size\", as \"text\":\"hello\"",
+        _ => "",
+    }
+}
+
+const LONE_SIZE: &str =
+    "\"size\" stands beside sha256, as \"sha256\":\"2cf24dba5fb0a30e26e83b2ac5b9e29e1b161e5c1fa7425e73043362938b9824\"";
+
 /// What is wrong with what is beside a member of an object, in words; the empty text where nothing is.
 fn beside_words(of: &str, name: &str, member: &Value, value: &Value) -> &'static str {
     let has_mode = has("mode", value);
     match name {
-        "at" if of == "put" && !has_one_content(value) =>
-            "put has one of \"text\" and \"hex\", as \"text\":\"hello\"",
-        "at" if of == "intake" && !has_one_content(value) =>
-            "intake has one of \"text\" and \"hex\", as \"text\":\"hello\"",
+        "at" if !has_one_content(value) => content_words(of, value),
         "mode" if of == "set-default" => period_words(value),
         "mode" if !has("until", value) =>
             "\"mode\" stands beside until, as \"until\":\"2030-01-01T00:00:00Z\"",

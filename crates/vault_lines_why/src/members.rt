@@ -32,6 +32,9 @@ pub(crate) type Row = (&'static str, Check, &'static str);
 
 const SMALL: Check = Check::Number(0, u32::MAX as u64, "a number from 0 to 4294967295");
 
+/// What is more than the words say, the vault itself refuses.
+const BYTES: Check = Check::Number(0, u64::MAX, "a number of bytes from 0 to 5368709120");
+
 const YEARS: Check = Check::Number(0, u16::MAX as u64, "a number from 0 to 65535");
 
 const ID: Check = Check::Number(1, MOST_IDS as u64, "a version's number, 1 to 1000000000");
@@ -45,7 +48,7 @@ const ABOVE: Check = Check::Number(0, MOST_CONTENT as u64, "0 to 1048576");
 const BELOW: Check = Check::Number(1, MOST_CONTENT as u64 + 1, "1 to 1048577");
 
 /// The members of lines, of which each verb's line has some, in this order.
-static LINE: [Row; 31] = [
+static LINE: [Row; 33] = [
     ("at", Check::Beside, ""),
     ("at", Check::Moment, "\"2024-01-15T10:30:00Z\""),
     ("as", Check::Name, "\"ann\""),
@@ -60,6 +63,8 @@ static LINE: [Row; 31] = [
     ("id", ID, "1"),
     ("text", Check::Any, "\"hello\""),
     ("hex", Check::Hex, "\"68656c6c6f\""),
+    ("sha256", Check::Any, A_DIGEST),
+    ("size", BYTES, "5"),
     ("mode", Check::Beside, ""),
     ("mode", Check::Mode, "\"GOVERNANCE\""),
     ("until", Check::Beside, ""),
@@ -78,6 +83,8 @@ static LINE: [Row; 31] = [
     ("rules", Check::Beside, ""),
     ("rules", Check::Any, A_RULE),
 ];
+
+const A_DIGEST: &str = "\"2cf24dba5fb0a30e26e83b2ac5b9e29e1b161e5c1fa7425e73043362938b9824\"";
 
 const RIGHTS: &str =
     "a list of admin, config, put, retain, hold, get, list, delete, delete-version, run, report, bypass";

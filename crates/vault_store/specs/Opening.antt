@@ -2,7 +2,7 @@
 use Rattle.std.proofs.Common.{ap, subst, refl, arith}
 use Rattle.std.proofs.Math.Logic.{∥∥₁_elim, ∥∥₁_prop}
 use Rattle.std.specs.Prelude.{◌≡◌, ℕ, Bool, true, false, List, [], ◌∷◌}
-use Rattle.std.specs.Coded.{Coded, code_by, coded×, coded_ℕ, coded_list, Coded-set, →_prop, Unit-prop}
+use Rattle.std.specs.Coded.{Coded, code_by, coded×, coded_bool, coded_ℕ, coded_list, Coded-set, →_prop, Unit-prop}
 use Rattle.sqlite_trees.specs.declared.store.Store.{Ghosts}
 use Rattle.sqlite_trees.specs.View.{doubt}
 use Rattle.sqlite.specs.Effect.{Database}
@@ -23,10 +23,10 @@ use Rattle.vault_audit_model.specs.Spells.{AreSound}
 -- a vault as a tuple of its parts
 abbrev vault_code : Coded Vault
 vault_code =
-    code_by (ℕ × (List (List ℕ) × (List Caller × (List Bucket × (List Note × (List History × ℕ))))))
-    (coded× coded_ℕ (coded× (coded_list (coded_list coded_ℕ)) (coded× (coded_list caller.the_row.coded) (coded× (coded_list bucket.the_row.coded) (coded× (coded_list note.the_row.coded) (coded× (coded_list history.the_row.coded) coded_ℕ))))))
-    (λ v. (v.last, (v.departments, (v.callers, (v.buckets, (v.notes, (v.histories, v.moves)))))))
-    (λ p. record { last = p.0; departments = p.1.0; callers = p.1.1.0; buckets = p.1.1.1.0; notes = p.1.1.1.1.0; histories = p.1.1.1.1.1.0; moves = p.1.1.1.1.1.1 })
+    code_by (Bool × (ℕ × (List (List ℕ) × (List Caller × (List Bucket × (List Note × (List History × ℕ)))))))
+    (coded× coded_bool (coded× coded_ℕ (coded× (coded_list (coded_list coded_ℕ)) (coded× (coded_list caller.the_row.coded) (coded× (coded_list bucket.the_row.coded) (coded× (coded_list note.the_row.coded) (coded× (coded_list history.the_row.coded) coded_ℕ)))))))
+    (λ v. (v.external, (v.last, (v.departments, (v.callers, (v.buckets, (v.notes, (v.histories, v.moves))))))))
+    (λ p. record { external = p.0; last = p.1.0; departments = p.1.1.0; callers = p.1.1.1.0; buckets = p.1.1.1.1.0; notes = p.1.1.1.1.1.0; histories = p.1.1.1.1.1.1.0; moves = p.1.1.1.1.1.1.1 })
     (λ _. refl)
 
 -- a vault that the tables spell, soundly

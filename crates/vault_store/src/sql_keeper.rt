@@ -373,6 +373,15 @@ impl<S: Alter> Keeper for SqlKeeper<S> {
         }
     }
 
+    fn external(&mut self) -> Result<bool, Fault>
+        ensures value { HasCleanDisk (state S.Store self.new.conn) → IfOk result (λ external. external ≡ (vault_of S.Store self.old).external) }
+        ensures read { ReadsAs S.Store self.old self.new result }
+    {
+        self.check_open()?;
+        // Tables keep every content themselves.
+        Ok(false)
+    }
+
     fn content(&mut self, id: VersionId) -> Result<Option<Content>, Fault>
         ensures value { HasCleanDisk (state S.Store self.new.conn) → IfOk result (λ found. found ≡ content_of (vault_of S.Store self.old) id) }
         ensures read { ReadsAs S.Store self.old self.new result }

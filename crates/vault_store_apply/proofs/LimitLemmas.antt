@@ -3,6 +3,8 @@ use Rattle.std.proofs.Common.{◌≡◌, ℕ, ◌≤◌, List, [], ◌∷◌, le
 use Rattle.std.specs.Prelude.{is_none, nat_lt}
 use Rattle.std.specs.List.{AllByRecursion}
 use Rattle.vault_base.specs.Days.{last_moment}
+use Rattle.vault_base.specs.declared.content.Content.{Content}
+use Rattle.vault_base.specs.declared.content.Content.TheVariants.{Inside, External}
 use Rattle.vault_base.specs.Limits.{most_content}
 use Rattle.vault_base.specs.Name.{is_version_id}
 use Rattle.vault_lock.specs.Retention.{is_period}
@@ -21,7 +23,7 @@ use Rattle.vault_core_model.specs.Allowed.{IsAdmission, IsFirstNote, IsNextSetti
 use Rattle.vault_core_model.specs.Allowed as allowed
 use Rattle.vault_core_model.specs.Checks.{has_period}
 use Rattle.vault_core_model.specs.IntakeOutcome.{is_line}
-use Rattle.vault_core_model.specs.Sound.{HasItsBytes, IsWholeAs, IsNoted}
+use Rattle.vault_core_model.specs.Sound.{HasItsContent, HasRoom, IsWholeAs, IsNoted}
 use Rattle.vault_core_model.specs.Vault.{Vault}
 use Rattle.vault_audit_model.specs.Limits.{IsBucketName, IsObjectKey, IsRule, AreRules, IsCause, IsSizedAs, IsEntry, IsSetting, IsNote, IsRemoval}
 use Rattle.vault_store_model.specs.Limits.{IsChangeInLimits}
@@ -30,16 +32,22 @@ use Rattle.vault_store_apply.specs.Typed.{IsFirstTyped, IsTypedAdmission}
 
 -- ---- an admission
 
-has_digest : (r : Option Removal) (c : Option (List ℕ)) (e : Entry) → HasItsBytes r c e → IsSome e.digest
+has_digest : (r : Option Removal) (c : Option Content) (e : Entry) → HasItsContent r c e → IsSome e.digest
 has_digest None None e h = absurd h
-has_digest None (Some bytes) e h = subst (λ d. IsSome d) (sym h.1) refl
+has_digest None (Some content) e h = subst (λ d. IsSome d) (sym h.1) refl
 has_digest (Some r) None e h = h
-has_digest (Some r) (Some bytes) e h = absurd h
+has_digest (Some r) (Some content) e h = absurd h
 
-sized : (m : Bool) (e : Entry) (d : Option (List ℕ)) → e.digest ≡ d → (c : Option (List ℕ)) (ss : List Setting) → IsWholeAs m e c ss → IfSome d (λ x. length x ≡ 32) → IsSizedAs m e.size d
+-- a size in a vault that keeps every content itself
+inside_sized : (c : Option Content) (size : ℕ) → HasRoom false c size → size ≤ most_content
+inside_sized None size room = room.0
+inside_sized (Some (Inside bytes)) size room = room.0
+inside_sized (Some (External r)) size room = absurd (let no : false ≡ true = room.1 in cc)
+
+sized : (m : Bool) (e : Entry) (d : Option (List ℕ)) → e.digest ≡ d → (c : Option Content) (ss : List Setting) → IsWholeAs m false e c ss → IfSome d (λ x. length x ≡ 32) → IsSizedAs m e.size d
 sized true e d same c ss whole long = (whole.0, sym same ∙ whole.1)
 sized false e None same c ss whole long = absurd (let some = subst (λ d. IsSome d) same (has_digest e.removal c e whole.1) in cc)
-sized false e (Some x) same c ss whole long = (whole.0, long)
+sized false e (Some x) same c ss whole long = (inside_sized c e.size whole.0, long)
 
 removed : (r : Option Removal) → r ≡ None → IfSome r IsRemoval
 removed None e = tt
@@ -78,14 +86,14 @@ note_in v e (Some n) entry first typed =
       id = subst (λ (id : ℕ). IsTrue (is_version_id id)) (sym first.2) entry.id;
     }
 
-pub admission_in_limits : (v : Vault) (t : ℕ) (a : Admission) → t ≤ last_moment → IsAdmission v t a → IsTypedAdmission a → IsChangeInLimits (change.Admit a)
-admission_in_limits v t a low may typed =
+pub admission_in_limits : (v : Vault) (t : ℕ) (a : Admission) → v.external ≡ false → t ≤ last_moment → IsAdmission v t a → IsTypedAdmission a → IsChangeInLimits (change.Admit a)
+admission_in_limits v t a inside low may typed =
     let e = a.history.entry in
     let entry : IsEntry e = record {
       id = typed.entry.id;
       bucket = typed.entry.bucket;
       key = typed.entry.key;
-      sized = sized e.marker e e.digest refl a.history.content a.history.settings may.whole typed.entry.digest;
+      sized = sized e.marker e e.digest refl a.history.content a.history.settings (subst (λ external. IsWholeAs e.marker external e a.history.content a.history.settings) inside may.whole) typed.entry.digest;
       admitted = subst (λ n. n ≤ last_moment) (sym may.now) low;
       by = typed.entry.by;
       removal = removed e.removal may.held;

@@ -12,8 +12,9 @@ use Rattle.vault_core_model.specs.declared.records.Setting.{Setting}
 use Rattle.vault_core_model.specs.declared.records.Tenure.{Tenure}
 use Rattle.vault_core_model.specs.declared.change.Admission.{Admission}
 use Rattle.vault_audit_model.specs.Rows.{entry_row, content_row, setting_row, note_row, tenure_row}
+use Rattle.vault_audit_model.specs.Spells.{contents_in}
 use Rattle.vault_store_model.specs.Rows.{Rows}
-use Rattle.vault_store_model.specs.Edits.{with_rows, with_row, changed_if, with_changed, without, and_then, at_moment}
+use Rattle.vault_store_model.specs.Edits.{with_rows, with_row, changed_if, with_changed, without, and_then, with_each, at_moment}
 use Rattle.vault_store_model.specs.Tests.{is_named, is_numbered, is_of_key, every, with_last_and_next, with_sums, removed_row, with_head_columns}
 use Rattle.vault_store_model.specs.Changes.{with_row_if_given, with_head}
 
@@ -56,7 +57,7 @@ with_sums_as marker dept sums = with_rows table.Departments (summed_as marker de
 abbrev pub history_put : History → Rows → Rows
 history_put h =
     and_then (with_row table.Entries (entry_row h.entry))
-    (and_then (with_row_if_given table.Contents (λ bytes. content_row (record { id = h.entry.id; content = bytes })) h.content)
+    (and_then (with_each table.Contents (map content_row (contents_in h)))
     (and_then (with_first_setting h.entry.id h.settings)
     (with_first_tenure h.entry.id h.tenures)))
 

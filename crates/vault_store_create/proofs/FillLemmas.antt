@@ -49,4 +49,4 @@ pub all_copied : (n : SchemaVersion) (from db : Database) → HasCopied n from 1
 all_copied n from db copied v is =
     let it = copied v is in
     let same : AreSameRows (rows_of v) (rows_in db) = λ t. subst (λ rows. IsPermutation rows (rows_in db t)) (all_first v t) (it.rows t) in
-    ((sound_is_rows db v).1 (record { schema = it.schema; rows = same; kept = record { limits = is.spells.kept.limits; sound = is.spells.kept.sound; unmoved = tt } }), it.listed (omega arith))
+    ((sound_is_rows db v).1 (record { schema = it.schema; rows = same; kept = record { inside = is.spells.kept.inside; limits = is.spells.kept.limits; sound = is.spells.kept.sound; unmoved = tt } }), it.listed (omega arith))

@@ -41,7 +41,7 @@ is_sound = record {
 }
 
 pub is_kept : IsKept opening
-is_kept = record { limits = is_in_limits; sound = is_sound; unmoved = tt }
+is_kept = record { inside = refl; limits = is_in_limits; sound = is_sound; unmoved = tt }
 
 -- what stands in the tables of a new vault is read again
 pub left : (db : Database) → IsFilled db → (trees : Trees) → trees ≡ db.trees → AreOpening trees

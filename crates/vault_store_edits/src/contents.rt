@@ -10,7 +10,7 @@ use crate::put::{Put, put_row};
 use crate::rowids::check_id;
 use sqlite::{Alter, Error, Transaction, params};
 use vault_audit_schema::{contents_columns, insert_text};
-use vault_base::content::Content;
+use vault_base::content::Bytes;
 use vault_base::name::VersionId;
 use vault_base::refusal::Table;
 
@@ -18,7 +18,7 @@ use vault_base::refusal::Table;
 #[derive(Clone, Copy)]
 struct NewContent<'a> {
     id: VersionId,
-    content: &'a Content,
+    content: &'a Bytes,
 }
 
 impl<'a> Put for NewContent<'a> {
@@ -47,7 +47,7 @@ impl<'a> Put for NewContent<'a> {
 pub fn put_content<S: Alter>(
     tx: &mut Transaction<'_, S>,
     id: VersionId,
-    content: &Content,
+    content: &Bytes,
 ) -> Result<usize, Error>
     ensures same_reference { tx.new.conn.ghost_name ≡ tx.old.conn.ghost_name }
     ensures edit { IsEdit S.Store tx.old.conn.now tx.new.conn.now result (with_row table.Contents (content_row (record { id = id; content = content.now }))) }

@@ -19,7 +19,7 @@ use Rattle.vault_core_model.specs.Totals.{items_of}
 use Rattle.vault_core_model.specs.Vault.{Vault, config_of}
 use Rattle.vault_audit_model.specs.SchemaVersions.{number_of, newest}
 use Rattle.vault_audit_model.specs.Rows.{meta_row, department_row, entry_row, content_row, setting_row, note_row, tenure_row}
-use Rattle.vault_audit_model.specs.Spells.{contents_in, settings_in, tenures_in, department_in, content_if_given}
+use Rattle.vault_audit_model.specs.Spells.{contents_in, settings_in, tenures_in, department_in}
 use Rattle.vault_store_model.specs.Rows.{rows_of}
 use Rattle.vault_store_model.specs.Changes.{edit_of, added_if_given, summed}
 use Rattle.vault_store_model.specs.Beside.{AreSameBesideHeads}
@@ -35,10 +35,6 @@ stated_in_front row decides hs h =
     ap (map row) (flat_map-append decides hs (h ∷ []) ∙ ap (λ l. flat_map decides hs ++ l) (flat_map_one decides h))
     ∙ map-append row (flat_map decides hs) (decides h)))
     (IsPermutation-append_comm (map row (flat_map decides hs)) (map row (decides h)))
-
-content_added : (id : ℕ) (content : Option (List ℕ)) (rows : List Row) → map content_row (content_if_given id content) ++ rows ≡ added_if_given (λ bytes. content_row (record { id = id; content = bytes })) content rows
-content_added id None rows = refl
-content_added id (Some bytes) rows = refl
 
 note_added : (note : Option Note) (ns : List Note) → IsPermutation (map note_row (placed_if_given note_cmp note ns)) (added_if_given note_row note (map note_row ns))
 note_added None ns = IsPermutation-refl _
@@ -78,8 +74,7 @@ pub entry_admitted : (v : Vault) (t : ℕ) (a : Admission) → Sound v → IsAdm
 entry_admitted v t a sound is table.Meta beside = IsPermutation-same _ _ (ap (λ row. row ∷ []) (next_after t v.moves v.histories a.history))
 entry_admitted v t a sound is table.Entries beside = IsPermutation-map (λ h. entry_row h.entry) _ _ (IsPermutation-to_front v.histories a.history)
 entry_admitted v t a sound is table.Contents beside =
-    IsPermutation-trans _ _ _ (stated_in_front content_row contents_in v.histories a.history)
-    (IsPermutation-same _ _ (content_added a.history.entry.id a.history.content (map content_row (flat_map contents_in v.histories))))
+    IsPermutation-trans _ _ _ (stated_in_front content_row contents_in v.histories a.history) (pushed_in_front (map content_row (contents_in a.history)) _)
 entry_admitted v t a sound is table.Settings beside =
     IsPermutation-trans _ _ _ (stated_in_front setting_row settings_in v.histories a.history) (pushed_in_front (map setting_row (settings_in a.history)) _)
 entry_admitted v t a sound is table.Tenures beside =

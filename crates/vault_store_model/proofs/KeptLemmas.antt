@@ -1,5 +1,5 @@
 -- A vault that may be kept may be kept after a change in its limits.
-use Rattle.std.proofs.Common.{ℕ, ◌≤◌, ◌==◌, List, [], ◌∷◌, ◌++◌, map, true, false, Option, Some, None, IfSome, IsTrue}
+use Rattle.std.proofs.Common.{◌≡◌, ℕ, ◌≤◌, ◌==◌, List, [], ◌∷◌, ◌++◌, map, true, false, Option, Some, None, IfSome, IsTrue}
 use Rattle.std.specs.Prelude.{if◌then◌else◌}
 use Rattle.std.specs.List.{AllByRecursion}
 use Rattle.std.specs.Str.{bytes_eq}
@@ -177,8 +177,22 @@ limited_changed v t (Remove id r) is low given = record {
   histories = each_map IsHistory (removed_if id r) (removal_limited id r given) v.histories is.histories;
 }
 
+-- contents that were all inside stay so
+inside_changed : (v : Vault) (t : ℕ) (c : Change) → v.external ≡ false → (changed v t c).external ≡ false
+inside_changed v t (AddDept name) inside = inside
+inside_changed v t (AddCaller c) inside = inside
+inside_changed v t (CloseCaller name) inside = inside
+inside_changed v t (AddBucket name dept) inside = inside
+inside_changed v t (MoveBucket name dept) inside = inside
+inside_changed v t (SetDefault name default) inside = inside
+inside_changed v t (SetRules name rules) inside = inside
+inside_changed v t (Admit a) inside = inside
+inside_changed v t (AddSetting id s) inside = inside
+inside_changed v t (Remove id r) inside = inside
+
 pub kept_changed : (v : Vault) (t : ℕ) (c : Change) → IsKept v → v.last ≤ t → t ≤ last_moment → Allows v t c → IsChangeInLimits c → IsKept (changed v t c)
 kept_changed v t c kept later low allowed given = record {
+  inside = inside_changed v t c kept.inside;
   limits = limited_changed v t c kept.limits low given;
   sound = Sound-changed v t c kept.sound later allowed;
   unmoved = tt;

@@ -16,7 +16,7 @@ use Rattle.vault_core_model.specs.Change.{changed, new_bucket}
 use Rattle.vault_core_model.specs.Reads.{entry_of, head_of, head_over}
 use Rattle.vault_core_model.specs.Vault.{Vault, config_of, next_id}
 use Rattle.vault_audit_model.specs.Rows.{caller_row, bucket_row, rule_row, entry_row, content_row, setting_row, note_row, tenure_row}
-use Rattle.vault_audit_model.specs.Spells.{bucket_of, rules_if_given, settings_in, tenures_in, department_in}
+use Rattle.vault_audit_model.specs.Spells.{bucket_of, rules_if_given, contents_in, settings_in, tenures_in, department_in}
 use Rattle.vault_store_model.specs.Edits.{changed_if, IgnoresOrder, pushed, with_each, at_moment}
 use Rattle.vault_store_model.specs.Copies.{is_held_version, moved_row}
 use Rattle.vault_store_model.specs.Tests.{is_named, is_numbered, is_of_key, every, with_last, with_last_and_next, with_last_and_moves, with_sums, closed_row, with_default_columns, with_owner, removed_row, with_head_columns}
@@ -67,7 +67,7 @@ department_ignores v dept = with_changed_ignores table.Departments (is_named dep
 history_ignores : (v : Vault) (h : History) → IgnoresOrder (with_history v h)
 history_ignores v h =
     and_then_ignores _ _ (with_row_ignores table.Entries (entry_row h.entry))
-    (and_then_ignores _ _ (if_given_ignores table.Contents (λ bytes. content_row (record { id = h.entry.id; content = bytes })) h.content)
+    (and_then_ignores _ _ (each_ignores table.Contents (map content_row (contents_in h)))
     (and_then_ignores _ _ (each_ignores table.Settings (map setting_row (settings_in h)))
     (and_then_ignores _ _ (each_ignores table.Tenures (map tenure_row (tenures_in h)))
     (head_ignores h.entry.bucket h.entry.key (head_of v h.entry.bucket h.entry.key) (Some (head_with h.entry.id (head_of v h.entry.bucket h.entry.key)))))))

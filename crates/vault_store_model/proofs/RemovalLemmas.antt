@@ -6,6 +6,8 @@ use Rattle.std.proofs.lemmas.List.{map-append}
 use Rattle.std.proofs.lemmas.List.Sorted.{IsPermutation-refl}
 use Rattle.sqlite_trees.proofs.ListLemmas.{IsPermutation-same, all_weaker}
 use Rattle.sqlite_value.specs.Order.{Row}
+use Rattle.vault_base.specs.declared.content.Content.{Content}
+use Rattle.vault_base.specs.declared.content.Content.TheVariants.{Inside, External}
 use Rattle.vault_base.specs.declared.refusal.Table.TheVariants as table
 use Rattle.vault_core_model.specs.declared.records.BucketConfig.{BucketConfig}
 use Rattle.vault_core_model.specs.declared.records.Entry.{Entry}
@@ -44,9 +46,10 @@ tenures_kept : (id : ℕ) (r : Removal) (h : History) → tenures_in (removed_if
 tenures_kept id r h = elim (eqb h.entry.id id) as (λ b. tenures_in (if b then removed_by r h else h) ≡ tenures_in h) [ true ↦ refl | false ↦ refl ]
 
 -- the bytes that bear an id
-dropped_content : (id own : ℕ) (content : Option (List ℕ)) → filter (λ row. not (is_numbered id row)) (map content_row (content_if_given own content)) ≡ cond (own == id) [] (map content_row (content_if_given own content))
+dropped_content : (id own : ℕ) (content : Option Content) → filter (λ row. not (is_numbered id row)) (map content_row (content_if_given own content)) ≡ cond (own == id) [] (map content_row (content_if_given own content))
 dropped_content id own None = elim (eqb own id) as (λ b. ◌≡◌ {A = List Row} [] (cond b [] [])) [ true ↦ refl | false ↦ refl ]
-dropped_content id own (Some bytes) =
+dropped_content id own (Some (External r)) = elim (eqb own id) as (λ b. ◌≡◌ {A = List Row} [] (cond b [] [])) [ true ↦ refl | false ↦ refl ]
+dropped_content id own (Some (Inside bytes)) =
     let row = content_row (record { id = own; content = bytes }) in
     elim (eqb own id) as (λ b. cond (not b) (row ∷ []) [] ≡ cond b [] (row ∷ [])) [ true ↦ refl | false ↦ refl ]
 

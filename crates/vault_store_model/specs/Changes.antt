@@ -15,7 +15,7 @@ use Rattle.vault_core_model.specs.Reads.{entry_of, setting_of, count_of_settings
 use Rattle.vault_core_model.specs.Places.{held_at}
 use Rattle.vault_core_model.specs.Vault.{Vault, config_of, next_id}
 use Rattle.vault_audit_model.specs.Rows.{department_row, caller_row, bucket_row, rule_row, entry_row, content_row, setting_row, note_row, head_row, tenure_row}
-use Rattle.vault_audit_model.specs.Spells.{bucket_of, rules_if_given, settings_in, tenures_in, department_in}
+use Rattle.vault_audit_model.specs.Spells.{bucket_of, rules_if_given, contents_in, settings_in, tenures_in, department_in}
 use Rattle.vault_store_model.specs.Rows.{Rows}
 use Rattle.vault_store_model.specs.Edits.{with_rows, with_row, changed_if, with_changed, without, and_then, with_each, at_moment}
 use Rattle.vault_store_model.specs.Copies.{with_tenures}
@@ -67,7 +67,7 @@ others_at v id bucket key = filter (λ h. not (h.entry.id == id)) (held_at v buc
 abbrev pub with_history : Vault → History → Rows → Rows
 with_history v h =
     and_then (with_row table.Entries (entry_row h.entry))
-    (and_then (with_row_if_given table.Contents (λ bytes. content_row (record { id = h.entry.id; content = bytes })) h.content)
+    (and_then (with_each table.Contents (map content_row (contents_in h)))
     (and_then (with_each table.Settings (map setting_row (settings_in h)))
     (and_then (with_each table.Tenures (map tenure_row (tenures_in h)))
     (with_head h.entry.bucket h.entry.key (head_of v h.entry.bucket h.entry.key) (Some (head_with h.entry.id (head_of v h.entry.bucket h.entry.key)))))))

@@ -14,12 +14,14 @@ use Rattle.sqlite_value.specs.Order.{Row, column}
 use Rattle.sqlite_sql.specs.declared.ops.BinaryOp.TheVariants.{Compare}
 use Rattle.sqlite_sql.specs.declared.ops.CompareOp.TheVariants.{Eq}
 use Rattle.sqlite_sql.specs.Ops.{binary, is_true}
+use Rattle.vault_base.specs.declared.content.Content.{Content}
+use Rattle.vault_base.specs.declared.content.Content.TheVariants.{Inside, External}
 use Rattle.vault_core_model.specs.declared.records.Entry.{Entry}
 use Rattle.vault_core_model.specs.declared.records.History.{History}
 use Rattle.vault_core_model.specs.declared.records.Note.{Note}
 use Rattle.vault_core_model.specs.Order.{IsAscending, note_cmp}
 use Rattle.vault_core_model.specs.Reads.{content_of, entry_of}
-use Rattle.vault_core_model.specs.Sound.{AreIdsFrom}
+use Rattle.vault_core_model.specs.Sound.{AreIdsFrom, HasPlace, IsWhole, IsWholeAs}
 use Rattle.vault_core_model.specs.Vault.{Vault, history_of, note_of}
 use Rattle.vault_audit_model.specs.declared.rows.ContentRow.{ContentRow}
 use Rattle.vault_audit_model.specs.Limits.{IsContentRow, IsEntry, IsHistory, IsNote}
@@ -86,31 +88,51 @@ module _ (v : Vault) (id : ℕ) (rows : List Row) (finds : FindsRows v entry_tex
 
 -- ---- contents
 
-content_if : (b : Bool) (own id : ℕ) (content : Option (List ℕ)) → (own == id) ≡ b → filter (λ (c : ContentRow). c.id == id) (content_if_given own content) ≡ cond b (content_if_given own content) []
+content_if : (b : Bool) (own id : ℕ) (content : Option Content) → (own == id) ≡ b → filter (λ (c : ContentRow). c.id == id) (content_if_given own content) ≡ cond b (content_if_given own content) []
 content_if true own id None e = refl
 content_if false own id None e = refl
-content_if true own id (Some bytes) e = rw e refl
-content_if false own id (Some bytes) e = rw e refl
+content_if true own id (Some (Inside bytes)) e = rw e refl
+content_if false own id (Some (Inside bytes)) e = rw e refl
+content_if true own id (Some (External r)) e = refl
+content_if false own id (Some (External r)) e = refl
 
-content_found : (o : Option History) → flat_map contents_in (option_to_list o) ≡ option_to_list (option_and_then (λ h. option_map (λ bytes. record { id = h.entry.id; content = bytes }) h.content) o)
+-- the row of a content, where it is in the tables
+abbrev row_if_inside : ℕ → Option Content → Option ContentRow
+row_if_inside own None = None
+row_if_inside own (Some (Inside bytes)) = Some (record { id = own; content = bytes })
+row_if_inside own (Some (External r)) = None
+
+content_found : (o : Option History) → flat_map contents_in (option_to_list o) ≡ option_to_list (option_and_then (λ h. row_if_inside h.entry.id h.content) o)
 content_found None = refl
 content_found (Some h) = given h.entry.id h.content
   where
-    given : (own : ℕ) (content : Option (List ℕ)) → content_if_given own content ++ [] ≡ option_to_list (option_map (λ bytes. record { id = own; content = bytes }) content)
+    given : (own : ℕ) (content : Option Content) → content_if_given own content ++ [] ≡ option_to_list (row_if_inside own content)
     given own None = refl
-    given own (Some bytes) = refl
+    given own (Some (Inside bytes)) = refl
+    given own (Some (External r)) = refl
+
+-- where every content is inside, the row has it
+has_place : (marker : Bool) (h : History) → IsWholeAs marker false h.entry h.content h.settings → HasPlace false h.content
+has_place true h whole = subst (HasPlace false) (sym whole.2) tt
+has_place false h whole = whole.0.1
+
+row_of_content : (own : ℕ) (content : Option Content) → HasPlace false content → option_map (λ (c : ContentRow). Inside c.content) (row_if_inside own content) ≡ content
+row_of_content own None place = refl
+row_of_content own (Some (Inside bytes)) place = refl
+row_of_content own (Some (External r)) place = absurd (cc place)
 
 module _ (v : Vault) (id : ℕ) (rows : List Row) (finds : FindsRows v content_text (number id ∷ []) rows) where
   abbrev stored : Option History → Option ContentRow
-  stored o = option_and_then (λ h. option_map (λ bytes. record { id = h.entry.id; content = bytes }) h.content) o
+  stored o = option_and_then (λ h. row_if_inside h.entry.id h.content) o
 
-  bytes_of : (o : Option History) → option_map (λ (c : ContentRow). c.content) (stored o) ≡ option_and_then (λ (h : History). h.content) o
-  bytes_of None = refl
-  bytes_of (Some h) = given h.entry.id h.content
-    where
-      given : (own : ℕ) (content : Option (List ℕ)) → option_map (λ (c : ContentRow). c.content) (option_map (λ bytes. record { id = own; content = bytes }) content) ≡ content
-      given own None = refl
-      given own (Some bytes) = refl
+  bytes_of : (o : Option History) → AllByRecursion (IsWhole false) (option_to_list o) → option_map (λ (c : ContentRow). Inside c.content) (stored o) ≡ option_and_then (λ (h : History). h.content) o
+  bytes_of None whole = refl
+  bytes_of (Some h) whole = row_of_content h.entry.id h.content (has_place h.entry.marker h whole.0)
+
+  found_whole : AllByRecursion (IsWhole false) (option_to_list (history_of v id))
+  found_whole =
+      let kept = finds.1.spells.kept in
+      all_found (IsWhole false) (λ (h : History). h.entry.id == id) v.histories (subst (λ external. AllByRecursion (IsWhole external) v.histories) kept.inside kept.sound.whole)
 
   contents_left : filter (λ (c : ContentRow). c.id == id) (flat_map contents_in v.histories) ≡ option_to_list (stored (history_of v id))
   contents_left =
@@ -123,10 +145,10 @@ module _ (v : Vault) (id : ℕ) (rows : List Row) (finds : FindsRows v content_t
       (records_found content_row content_columns contents_tree (where_is 0 0 ∷ []) content_shown (number id ∷ []) (has_id id) (λ (c : ContentRow). c.id == id) (λ r. refl) (λ r. and_true _) (λ c. same_number c.id id)
       finds.0 (flat_map contents_in v.histories) rows finds.1.spells.contents (finds.2 _ content_selects))
 
-  pub content_read : (row : Row) (c : ContentRow) → slice_get rows 0 ≡ Some row → row ≡ content_row c → Some c.content ≡ content_of v id
+  pub content_read : (row : Row) (c : ContentRow) → slice_get rows 0 ≡ Some row → row ≡ content_row c → Some (Inside c.content) ≡ content_of v id
   content_read row c first reads =
       let same : Some c ≡ stored (history_of v id) = read_found content_row same_content (stored (history_of v id)) rows row c content_stored first reads in
-      ap (option_map (λ (x : ContentRow). x.content)) same ∙ bytes_of (history_of v id)
+      ap (option_map (λ (x : ContentRow). Inside x.content)) same ∙ bytes_of (history_of v id) found_whole
 
   pub content_limited : (row : Row) → slice_get rows 0 ≡ Some row → ReportsOne content_row IsContentRow row
   content_limited row first =
@@ -135,7 +157,7 @@ module _ (v : Vault) (id : ℕ) (rows : List Row) (finds : FindsRows v content_t
 
   pub no_content : ◌≡◌ {A = Option Row} None (slice_get rows 0) → None ≡ content_of v id
   no_content none =
-      sym (sym (bytes_of (history_of v id)) ∙ ap (option_map (λ (x : ContentRow). x.content)) (none_found content_row (stored (history_of v id)) rows content_stored none))
+      sym (sym (bytes_of (history_of v id) found_whole) ∙ ap (option_map (λ (x : ContentRow). Inside x.content)) (none_found content_row (stored (history_of v id)) rows content_stored none))
 
 -- ---- intake
 

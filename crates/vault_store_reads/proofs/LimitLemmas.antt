@@ -1,5 +1,5 @@
 -- Facts of each element of a list, where it is taken, found or turned around.
-use Rattle.std.proofs.Common.{◌≡◌, ℕ, zero, suc, ◌+◌, ◌<◌, List, [], ◌∷◌, ◌++◌, length, map, find, take, reverse, get_or, Bool, true, false, cond, Some, Option, option_to_list, IsPermutation, slice_get, sym, subst, arith}
+use Rattle.std.proofs.Common.{◌≡◌, ℕ, zero, suc, ◌<◌, List, [], ◌∷◌, ◌++◌, length, map, find, take, reverse, get_or, Bool, true, false, cond, Some, Option, option_to_list, IsPermutation, slice_get, sym, subst, arith}
 use Rattle.std.specs.Prelude.{option_and_then}
 use Rattle.std.specs.List.{AllByRecursion}
 use Rattle.std.proofs.lemmas.List.Sorted.{IsPermutation-reverse}

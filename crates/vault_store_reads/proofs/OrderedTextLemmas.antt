@@ -10,7 +10,7 @@ use Rattle.sqlite_sql.specs.declared.ops.CompareOp.TheVariants.{Eq, Ne, Gt, Lt}
 use Rattle.sqlite_sql.specs.Term.{Term, lit, col, op2}
 use Rattle.sqlite.specs.Listing.{understood}
 use Rattle.vault_audit_model.specs.Queries.{Selects}
-use Rattle.vault_audit_model.specs.Tables.{entries, rules, settings, tenures, buckets_tree, entries_tree, heads_tree, rules_tree, settings_tree, tenures_tree, vault_schema}
+use Rattle.vault_audit_model.specs.Tables.{rules, settings, tenures, buckets_tree, entries_tree, heads_tree, rules_tree, settings_tree, tenures_tree, vault_schema}
 use Rattle.vault_audit_schema.specs.Texts.{names_of, select_text, terms_of}
 use Rattle.vault_store_reads.proofs.SelectLemmas.{select_of}
 

@@ -90,7 +90,7 @@ module _ (v : Vault) (kept : IsKept v) where
   setting_readable id =
       reported last_row IsLastSetting (option_to_list (setting_of v id))
       (all_given IsLastSetting (λ (h : History). last_setting h.settings) (λ (h : History). h.entry.id == id) v.histories
-      (all_as (λ (h : History) (its : IsHistory h × IsWhole h). by_settings h.settings its.0.settings (most_of h its.1)) v.histories (wholes v kept)))
+      (all_as (λ (h : History) (its : IsHistory h × IsWhole v.external h). by_settings h.settings its.0.settings (most_of v.external h its.1)) v.histories (wholes v kept)))
 
   pub settings_readable : (id : ℕ) → AreReadable setting_row IsSettingRow (map setting_row (part_of settings_in (history_of v id)))
   settings_readable id = reported setting_row IsSettingRow _ (all_part IsSettingRow settings_in (λ (h : History). h.entry.id == id) v.histories (settings_limited v kept))

@@ -37,7 +37,7 @@ pub fn read_entry<S: Alter>(conn: &mut Connection<S>, id: VersionId) -> Result<O
     }
 }
 
-/// The bytes of a held version.
+/// The content of a held version: its bytes.
 pub fn read_content<S: Alter>(
     conn: &mut Connection<S>,
     id: VersionId,
@@ -54,7 +54,7 @@ pub fn read_content<S: Alter>(
     )?;
     match rows.first() {
         Some(row) => match records::read_content(row) {
-            Ok(version) => Ok(Some(version.content)),
+            Ok(version) => Ok(Some(Content::Inside(version.content))),
             Err(misread) => Err(unread(misread)),
         },
         None => Ok(None),

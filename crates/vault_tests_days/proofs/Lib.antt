@@ -7,6 +7,7 @@ mod DaysEndAtMidnight
 mod DefaultRetentions
 mod Digests
 mod EndsOfTime
+mod ExternalContents
 mod FirstDueRule
 mod GovernanceIsBypassed
 mod HoldsHold

@@ -1,6 +1,7 @@
 -- Limits that no script fills a vault up to: at each of them all is well, and one above it is refused.
 use Rattle.std.proofs.Common.{ap}
 use Rattle.std.specs.Prelude.{◌≡◌, refl, ℕ, ◌+◌, nat_le, List, [], ◌∷◌, ◌++◌, length, false, Ok, Err, None, Some, codes, if◌then◌else◌}
+use Rattle.vault_base.specs.declared.content.Content.TheVariants.{Inside}
 use Rattle.vault_base.specs.declared.refusal.Refusal.TheVariants as refusal
 use Rattle.vault_base.specs.Limits.{most_ids}
 use Rattle.vault_core_model.specs.declared.command.Command.TheVariants as command
@@ -83,7 +84,7 @@ received_and_handed =
 
 abbrev put_to_court : List ℕ → Timed
 put_to_court content =
-    by (codes "cid") 1705314600 (command.Put (record { bucket = codes "rolls"; key = codes "b"; content = content; retention = None; hold = None }))
+    by (codes "cid") 1705314600 (command.Put (record { bucket = codes "rolls"; key = codes "b"; content = Inside content; retention = None; hold = None }))
 
 received_counts : replies_to received_and_handed (put_to_court (codes "hello!") ∷ put_to_court (codes "hello") ∷ []) ≡
     Refused refusal.QuotaExceeded ∷ Done (answer.Admitted 3) ∷ []

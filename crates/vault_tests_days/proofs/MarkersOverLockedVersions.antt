@@ -1,6 +1,7 @@
 -- A marker above a locked version, and the version current again.
 use Rattle.std.specs.Prelude.{◌≡◌, refl, List, [], ◌∷◌, true, false, Some, None, codes}
 use Rattle.sha2.specs.Sha256.{sha256}
+use Rattle.vault_base.specs.declared.content.Content.TheVariants.{Inside}
 use Rattle.vault_base.specs.declared.refusal.Refusal.TheVariants as refusal
 use Rattle.vault_lock.specs.declared.lock.Permit.TheVariants as permit
 use Rattle.vault_core_model.specs.declared.records.Author.TheVariants as author
@@ -25,5 +26,5 @@ markers : replies_to start markers-script ≡
     Refused (refusal.NoSuchKey true) ∷
     Refused refusal.MethodNotAllowed ∷
     Done (answer.Removed (record { id = 2; marker = true; permit = permit.Free })) ∷
-    Done (answer.Version (record { entry = record { id = 1; bucket = docs; key = (codes "a"); marker = false; size = 1; digest = Some (sha256 (codes "x")); admitted = 1705314600; by = author.Caller ann; removal = None }; lock = record { retention = (compliance 1893456000); hold = false } }) (codes "x")) ∷ []
+    Done (answer.Version (record { entry = record { id = 1; bucket = docs; key = (codes "a"); marker = false; size = 1; digest = Some (sha256 (codes "x")); admitted = 1705314600; by = author.Caller ann; removal = None }; lock = record { retention = (compliance 1893456000); hold = false } }) (Inside (codes "x"))) ∷ []
 markers = refl

@@ -1,6 +1,7 @@
 -- A run of four changes, stopped after each of them and given again.
 use Rattle.std.specs.Prelude.{◌≡◌, refl, List, [], ◌∷◌, true, false, Some, None, codes, take}
 use Rattle.sha2.specs.Sha256.{sha256}
+use Rattle.vault_base.specs.declared.content.Content.TheVariants.{Inside}
 use Rattle.vault_rules.specs.declared.plan.Step.TheVariants as step
 use Rattle.vault_core_model.specs.declared.records.Author.TheVariants as author
 use Rattle.vault_core_model.specs.declared.records.Cause.TheVariants as cause
@@ -25,7 +26,7 @@ the_plan : plan vault docs 1709424000 ≡ four_changes
 the_plan = refl
 
 abbrev final : Vault
-final = record start { last = 1709424000; buckets = (record { name = docs; config = record { dept = records; default = None }; rules = Some ((record { id = (codes "r1"); prefix = []; enabled = true; days = Some 1; lone_markers = false; noncurrent = Some (record { days = 1; newer = Some 1 }); larger = None; smaller = None }) ∷ []) }) ∷ []; histories = (record { entry = record { id = 1; bucket = docs; key = (codes "a"); marker = false; size = 1; digest = Some (sha256 (codes "x")); admitted = 1709280000; by = author.Caller ann; removal = Some (record { at = 1709424000; cause = cause.Rule (codes "r1") }) }; content = None; settings = (record { at = 1709280000; by = ann; lock = record { retention = None; hold = false }; bypass = false }) ∷ []; tenures = (record { dept = records; from = 1709280000; number = 0 }) ∷ [] }) ∷ (record { entry = record { id = 2; bucket = docs; key = (codes "b"); marker = false; size = 1; digest = Some (sha256 (codes "x")); admitted = 1709280000; by = author.Caller ann; removal = Some (record { at = 1709424000; cause = cause.Rule (codes "r1") }) }; content = None; settings = (record { at = 1709280000; by = ann; lock = record { retention = None; hold = false }; bypass = false }) ∷ []; tenures = (record { dept = records; from = 1709280000; number = 0 }) ∷ [] }) ∷ (record { entry = record { id = 3; bucket = docs; key = (codes "a"); marker = false; size = 1; digest = Some (sha256 (codes "y")); admitted = 1709283600; by = author.Caller ann; removal = None }; content = Some (codes "y"); settings = (record { at = 1709283600; by = ann; lock = record { retention = None; hold = false }; bypass = false }) ∷ []; tenures = (record { dept = records; from = 1709283600; number = 0 }) ∷ [] }) ∷ (record { entry = record { id = 4; bucket = docs; key = (codes "b"); marker = false; size = 1; digest = Some (sha256 (codes "y")); admitted = 1709283600; by = author.Caller ann; removal = None }; content = Some (codes "y"); settings = (record { at = 1709283600; by = ann; lock = record { retention = None; hold = false }; bypass = false }) ∷ []; tenures = (record { dept = records; from = 1709283600; number = 0 }) ∷ [] }) ∷ (record { entry = record { id = 5; bucket = docs; key = (codes "a"); marker = true; size = 0; digest = None; admitted = 1709424000; by = author.Rule (codes "r1"); removal = None }; content = None; settings = []; tenures = [] }) ∷ (record { entry = record { id = 6; bucket = docs; key = (codes "b"); marker = true; size = 0; digest = None; admitted = 1709424000; by = author.Rule (codes "r1"); removal = None }; content = None; settings = []; tenures = [] }) ∷ [] }
+final = record start { last = 1709424000; buckets = (record { name = docs; config = record { dept = records; default = None }; rules = Some ((record { id = (codes "r1"); prefix = []; enabled = true; days = Some 1; lone_markers = false; noncurrent = Some (record { days = 1; newer = Some 1 }); larger = None; smaller = None }) ∷ []) }) ∷ []; histories = (record { entry = record { id = 1; bucket = docs; key = (codes "a"); marker = false; size = 1; digest = Some (sha256 (codes "x")); admitted = 1709280000; by = author.Caller ann; removal = Some (record { at = 1709424000; cause = cause.Rule (codes "r1") }) }; content = None; settings = (record { at = 1709280000; by = ann; lock = record { retention = None; hold = false }; bypass = false }) ∷ []; tenures = (record { dept = records; from = 1709280000; number = 0 }) ∷ [] }) ∷ (record { entry = record { id = 2; bucket = docs; key = (codes "b"); marker = false; size = 1; digest = Some (sha256 (codes "x")); admitted = 1709280000; by = author.Caller ann; removal = Some (record { at = 1709424000; cause = cause.Rule (codes "r1") }) }; content = None; settings = (record { at = 1709280000; by = ann; lock = record { retention = None; hold = false }; bypass = false }) ∷ []; tenures = (record { dept = records; from = 1709280000; number = 0 }) ∷ [] }) ∷ (record { entry = record { id = 3; bucket = docs; key = (codes "a"); marker = false; size = 1; digest = Some (sha256 (codes "y")); admitted = 1709283600; by = author.Caller ann; removal = None }; content = Some (Inside (codes "y")); settings = (record { at = 1709283600; by = ann; lock = record { retention = None; hold = false }; bypass = false }) ∷ []; tenures = (record { dept = records; from = 1709283600; number = 0 }) ∷ [] }) ∷ (record { entry = record { id = 4; bucket = docs; key = (codes "b"); marker = false; size = 1; digest = Some (sha256 (codes "y")); admitted = 1709283600; by = author.Caller ann; removal = None }; content = Some (Inside (codes "y")); settings = (record { at = 1709283600; by = ann; lock = record { retention = None; hold = false }; bypass = false }) ∷ []; tenures = (record { dept = records; from = 1709283600; number = 0 }) ∷ [] }) ∷ (record { entry = record { id = 5; bucket = docs; key = (codes "a"); marker = true; size = 0; digest = None; admitted = 1709424000; by = author.Rule (codes "r1"); removal = None }; content = None; settings = []; tenures = [] }) ∷ (record { entry = record { id = 6; bucket = docs; key = (codes "b"); marker = true; size = 0; digest = None; admitted = 1709424000; by = author.Rule (codes "r1"); removal = None }; content = None; settings = []; tenures = [] }) ∷ [] }
 
 whole : vault_after vault (by ann 1709424000 run ∷ []) ≡ final
 whole = refl

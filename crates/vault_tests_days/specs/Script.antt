@@ -1,5 +1,7 @@
 -- Words to write scripts with, and the vault in which every row begins.
 use Rattle.std.specs.Prelude.{ℕ, List, [], ◌∷◌, Bool, true, false, Option, Some, None, codes}
+use Rattle.vault_base.specs.declared.content.Content.{Content}
+use Rattle.vault_base.specs.declared.content.Content.TheVariants.{Inside, External}
 use Rattle.vault_lock.specs.declared.retention.Mode.TheVariants as mode
 use Rattle.vault_lock.specs.declared.retention.Retention.{Retention}
 use Rattle.vault_lock.specs.declared.retention.Default.{Default}
@@ -8,7 +10,7 @@ use Rattle.vault_core_model.specs.declared.rights.Rights.{Rights}
 use Rattle.vault_core_model.specs.declared.command.Command.{Command}
 use Rattle.vault_core_model.specs.declared.command.Command.TheVariants as command
 use Rattle.vault_core_model.specs.declared.command.Timed.{Timed}
-use Rattle.vault_core_model.specs.Vault.{Vault, opening}
+use Rattle.vault_core_model.specs.Vault.{Vault, opening, opening_of}
 use Rattle.vault_core_model.specs.Rights.{no_rights}
 use Rattle.vault_core_outcome.specs.Outcome.{vault_after}
 
@@ -37,7 +39,14 @@ abbrev pub governance : ℕ → Option Retention
 governance u = Some (record { mode = mode.Governance; until = u })
 
 abbrev pub put : List ℕ → List ℕ → Option Retention → Option Bool → Command
-put key content retention hold = command.Put (record { bucket = docs; key = key; content = content; retention = retention; hold = hold })
+put key content retention hold = command.Put (record { bucket = docs; key = key; content = Inside content; retention = retention; hold = hold })
+
+-- bytes that are kept outside: their size and digest
+abbrev pub outside : ℕ → List ℕ → Content
+outside size digest = External (record { size = size; digest = digest })
+
+abbrev pub put_outside : List ℕ → ℕ → List ℕ → Command
+put_outside key size digest = command.Put (record { bucket = docs; key = key; content = outside size digest; retention = None; hold = None })
 
 abbrev pub get : List ℕ → Option ℕ → Command
 get key id = command.Get (record { bucket = docs; key = key; id = id })
@@ -97,7 +106,11 @@ abbrev pub close_caller : List ℕ → Command
 close_caller name = command.CloseCaller (record { caller = name })
 
 abbrev pub intake : ℕ → List ℕ → List ℕ → Option Retention → Option Bool → Command
-intake line key content retention hold = command.Intake (record { batch = codes "b1"; line = line; put = record { bucket = docs; key = key; content = content; retention = retention; hold = hold } })
+intake line key content retention hold = command.Intake (record { batch = codes "b1"; line = line; put = record { bucket = docs; key = key; content = Inside content; retention = retention; hold = hold } })
+
+abbrev pub intake_outside : ℕ → List ℕ → ℕ → List ℕ → Command
+intake_outside line key size digest =
+    command.Intake (record { batch = codes "b1"; line = line; put = record { bucket = docs; key = key; content = outside size digest; retention = None; hold = None } })
 
 -- an enabled rule for every key, with no action
 abbrev pub rule : List ℕ → Rule
@@ -123,4 +136,8 @@ opening_script =
 
 -- the vault in which every row begins
 abbrev pub start : Vault
-start = vault_after (opening) opening_script
+start = vault_after opening opening_script
+
+-- the same, of a vault that registers contents that are kept outside
+abbrev pub start_external : Vault
+start_external = vault_after (opening_of true) opening_script

@@ -19,21 +19,21 @@ pub struct Row {
     pub answer: &'static str,
 }
 
-const ROWS: [Row; 32] = [
+const ROWS: [Row; 34] = [
     Row {
         request: "PUT /docs/n HTTP/1.1|host: x|x-vault-caller: ann|content-length: 5|expect: 100-continue||hello",
         deed: Deed::Made,
-        answer: "HTTP/1.1 100 Continue||HTTP/1.1 200 OK|~|content-length: 0|x-amz-version-id: 5||",
+        answer: "HTTP/1.1 100 Continue||HTTP/1.1 200 OK|~|content-length: 0|x-amz-version-id: 6||",
     },
     Row {
         request: "PUT /docs/n HTTP/1.1|x-vault-caller: ann|content-length: 5|x-amz-object-lock-mode: COMPLIANCE|x-amz-object-lock-retain-until-date: 2031-01-01T00:00:00Z|x-amz-object-lock-legal-hold: ON||hello",
         deed: Deed::Made,
-        answer: "HTTP/1.1 200 OK|~|content-length: 0|x-amz-version-id: 5||",
+        answer: "HTTP/1.1 200 OK|~|content-length: 0|x-amz-version-id: 6||",
     },
     Row {
         request: "PUT /docs/n HTTP/1.1|x-vault-caller: ann|content-length: 0|expect: 100-continue||",
         deed: Deed::Made,
-        answer: "HTTP/1.1 200 OK|~|content-length: 0|x-amz-version-id: 5||",
+        answer: "HTTP/1.1 200 OK|~|content-length: 0|x-amz-version-id: 6||",
     },
     Row {
         request: "PUT /docs/n HTTP/1.1|host: x|x-vault-caller: ann||hello",
@@ -96,9 +96,19 @@ const ROWS: [Row; 32] = [
         answer: "HTTP/1.1 200 OK|~|content-type: application/octet-stream|content-length: 1|x-amz-version-id: 4|x-amz-object-lock-mode: GOVERNANCE|x-amz-object-lock-retain-until-date: 2030-01-01T00:00:00Z|x-amz-object-lock-legal-hold: ON||",
     },
     Row {
+        request: "GET /docs/d HTTP/1.1|x-vault-caller: ann||",
+        deed: Deed::Read,
+        answer: "HTTP/1.1 204 No Content|~|x-vault-external: 5368709120|x-vault-sha256: ba7816bf8f01cfea414140de5dae2223b00361a396177a9cb410ff61f20015ad|x-amz-version-id: 5|x-amz-object-lock-legal-hold: ON||",
+    },
+    Row {
+        request: "HEAD /docs/d?versionId=5 HTTP/1.1|x-vault-caller: ann||",
+        deed: Deed::Read,
+        answer: "HTTP/1.1 200 OK|~|content-type: application/octet-stream|content-length: 5368709120|x-amz-version-id: 5|x-amz-object-lock-legal-hold: ON||",
+    },
+    Row {
         request: "DELETE /docs/a HTTP/1.1|x-vault-caller: ann||",
         deed: Deed::Made,
-        answer: "HTTP/1.1 204 No Content|~|x-amz-delete-marker: true|x-amz-version-id: 5||",
+        answer: "HTTP/1.1 204 No Content|~|x-amz-delete-marker: true|x-amz-version-id: 6||",
     },
     Row {
         request: "DELETE /docs/a?versionId=1 HTTP/1.1|x-vault-caller: gov|x-amz-bypass-governance-retention: true||",

@@ -3,11 +3,11 @@ use std::alloc::Global;
 use std::test::Fail;
 use vault_core_list::list_keeper::ListKeeper;
 use vault_core_model::keeper::Keeper;
-use vault_transcript::transcript::{answers, opened, play};
+use vault_transcript::transcript::{OPENING, answers, play};
 use vault_transcript::trial::compare;
 
 /// A version under COMPLIANCE at `a`, a marker on top of a version at `b`, a version under GOVERNANCE and
-/// hold at `c`; a default and a rule.
+/// hold at `c`, one that is kept outside at `d`; a default and a rule.
 const FILLING: &str = r#"
 {"at":"2024-01-15T10:29:00Z","as":"ann","do":"put","bucket":"docs","key":"a","text":"hello","mode":"COMPLIANCE","until":"2030-01-01T00:00:00Z"}
   {"ok":{"version_id":1}}
@@ -17,6 +17,8 @@ const FILLING: &str = r#"
   {"ok":{"delete_marker":true,"version_id":3}}
 {"at":"2024-01-15T10:29:00Z","as":"ann","do":"put","bucket":"docs","key":"c","text":"x","mode":"GOVERNANCE","until":"2030-01-01T00:00:00Z","hold":"ON"}
   {"ok":{"version_id":4}}
+{"at":"2024-01-15T10:29:00Z","as":"ann","do":"put","bucket":"docs","key":"d","sha256":"ba7816bf8f01cfea414140de5dae2223b00361a396177a9cb410ff61f20015ad","size":5368709120,"hold":"ON"}
+  {"ok":{"version_id":5}}
 {"at":"2024-01-15T10:29:00Z","as":"ann","do":"set-default","bucket":"docs","mode":"GOVERNANCE","days":7}
   {"ok":{}}
 {"at":"2024-01-15T10:29:00Z","as":"ann","do":"set-rules","bucket":"docs","rules":[{"ID":"r1","Prefix":"","Status":"Enabled","Expiration":{"Days":3}}]}
@@ -31,6 +33,7 @@ const READS: &str = r#"
 {"at":"2024-01-16T00:00:00Z","as":"ann","do":"get","bucket":"docs","key":"a","id":1}
 {"at":"2024-01-16T00:00:00Z","as":"ann","do":"get","bucket":"docs","key":"b","id":2}
 {"at":"2024-01-16T00:00:00Z","as":"ann","do":"get","bucket":"docs","key":"c","id":4}
+{"at":"2024-01-16T00:00:00Z","as":"ann","do":"get","bucket":"docs","key":"d","id":5}
 {"at":"2024-01-16T00:00:00Z","as":"ann","do":"get","bucket":"docs","key":"n"}
 "#;
 
@@ -42,7 +45,8 @@ pub trait Filled: Keeper + Drop {
 
 impl Filled for ListKeeper {
     fn filled(alloc: Global) -> Result<ListKeeper, Fail> {
-        played(alloc, opened(alloc)?, FILLING)
+        let keeper = ListKeeper::new_as(alloc, true)?;
+        played(alloc, played(alloc, keeper, OPENING)?, FILLING)
     }
 }
 

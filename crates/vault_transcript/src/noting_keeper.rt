@@ -86,6 +86,7 @@ fn push_read(alloc: Global, calls: &mut String, read: &Read<'_>) -> Result<(), A
         Read::Entry(_) => push_call(calls, "entry", ""),
         Read::Setting(_) => push_call(calls, "setting", ""),
         Read::Settings(_) => push_call(calls, "settings", ""),
+        Read::External => push_call(calls, "external", ""),
         Read::Content(_) => push_call(calls, "content", ""),
         Read::Keys(after, 256) => push_call(calls, "256 keys after ", after.as_str()),
         Read::Keys(after, _) => push_call(calls, "keys after ", after.as_str()),

@@ -2,15 +2,37 @@
 use crate::remedies::{refused, stopped, write_refused};
 use std::io::Write;
 use vault_base::refusal::{Reason, Refusal};
-use vault_core_model::command::{Command, Intake};
+use vault_core_model::command::{Command, Intake, Put};
 use vault_core_model::reply::Reply;
+
+const UNTIL: &str = "\"until\" has to lie after \"at\": correct one of them";
+
+/// Which member of a put the vault doesn't allow. Of one with a retention whose bytes are kept outside, it may be either.
+fn invalid_put(put: &Put) -> &'static str {
+    match (put.content.is_external(), put.retention.is_some()) {
+        (true, false) =>
+            "this vault keeps the bytes of its contents itself, and takes no \"sha256\" with \"size\": give the bytes by \"text\" or \"hex\"",
+        (true, true) =>
+            "this vault keeps the bytes of its contents itself, and takes no \"sha256\" with \"size\", or \"until\" doesn't lie after \"at\"",
+        (false, _) => UNTIL,
+    }
+}
 
 /// Which member of an intake line the vault doesn't allow.
 fn invalid_intake(intake: &Intake) -> &'static str {
     if intake.line == 0 {
         "\"line\" counts from 1, as \"line\":1"
     } else {
-        "\"until\" has to lie after \"at\": correct one of them"
+        invalid_put(&intake.put)
+    }
+}
+
+/// What a content that is too large may have at most.
+fn too_large(put: &Put) -> &'static str {
+    if put.content.is_external() {
+        "the content is larger than 5,368,709,120 bytes: split it into parts"
+    } else {
+        "the content is larger than 1,048,576 bytes: split it into parts"
     }
 }
 
@@ -26,8 +48,8 @@ fn invalid(command: &Command) -> &'static str {
         Command::SetDefault(_) =>
             "a default has 1 to 36500 days or 1 to 100 years: correct \"days\" or \"years\"",
         Command::ListVersions(_) => "\"most\" has to be 1 to 1000, as \"most\":100",
-        Command::Put(_) | Command::SetRetention(_) =>
-            "\"until\" has to lie after \"at\": correct one of them",
+        Command::Put(put) => invalid_put(put),
+        Command::SetRetention(_) => UNTIL,
         Command::Intake(intake) => invalid_intake(intake),
         _ => "a value isn't allowed: the manual, docs/formats/LINES.md, says what each may be",
     }
@@ -37,6 +59,8 @@ fn invalid(command: &Command) -> &'static str {
 fn words(command: &Command, refusal: Refusal) -> &'static str {
     match (refusal, command) {
         (Refusal::InvalidArgument, command) => invalid(command),
+        (Refusal::EntityTooLarge, Command::Put(put)) => too_large(put),
+        (Refusal::EntityTooLarge, Command::Intake(intake)) => too_large(&intake.put),
         (Refusal::ClockBack, _) =>
             "\"at\" is before the vault's last change: put the lines in the order of their times, or give a later time or an equal one",
         (Refusal::AccessDenied(Reason::UnknownCaller), _) =>

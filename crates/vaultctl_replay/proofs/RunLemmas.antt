@@ -9,11 +9,12 @@ use Rattle.std.proofs.lemmas.List.Folds.{list_any-append}
 use Rattle.vault_core_model.specs.Halts.{is_device_reply}
 use Rattle.vault_core_model.specs.Leaves.{count_after}
 use Rattle.vault_core_model.specs.Step.{IsRun, Reached, IsStep}
-use Rattle.vault_core_model.specs.Vault.{Vault, opening}
+use Rattle.vault_core_model.specs.Vault.{Vault}
 use Rattle.vault_core_model.specs.declared.command.Timed.{Timed}
 use Rattle.vault_core_model.specs.declared.kept.Kept.{Ghosts}
 use Rattle.vault_core_model.specs.declared.reply.Reply.{Reply}
 use Rattle.vault_core_model.specs.declared.reply.Reply.TheVariants as reply
+use Rattle.vault_core_run_laws.proofs.Reached.{step-reached}
 use Rattle.vault_lines_reply.specs.ReplyLine.{reply_text}
 use Rattle.vault_lines_read.specs.declared.read_line.Line.TheVariants.{Command, Refused, Skip}
 use Rattle.vault_lines_read.specs.declared.read_line.Line.{Line}
@@ -249,20 +250,12 @@ either_steady H G back a b c i j k u v w bytes part E at_end (Err x) first e ok 
 
 -- ---- vaults that runs lead to
 
-IsRun-then : (a b c : Vault) (cs ds : List Timed) (rs ss : List Reply) → IsRun a cs rs b → IsRun b ds ss c → IsRun a (cs ++ ds) (rs ++ ss) c
-IsRun-then a b c [] ds [] ss r s =
-    let P : Vault → Type 0 = λ v. IsRun v ds ss c in
-    subst P r s
-IsRun-then a b c [] ds (x ∷ rs) ss r s = absurd r
-IsRun-then a b c (x ∷ cs) ds [] ss r s = absurd r
-IsRun-then a b c (x ∷ cs) ds (y ∷ rs) ss r s = (r.0, r.1, IsRun-then r.0 b c cs ds rs ss r.2 s)
-
 module _ (H : Type 0) (h : H) where
   Answers-reached : (v v' : Vault) (n n' : ℕ) (asked : Line) (out : List Reply) → Answers H v n asked out v' n' → Reached v → Reached v'
   Answers-reached v v' n n' Skip out a q = subst Reached (sym a.1) q
   Answers-reached v v' n n' (Refused r) out a q = subst Reached (sym a.1) q
   Answers-reached v v' n n' (Command c) out a q =
-      (q.0 ++ c ∷ [], q.1 ++ a.0 ∷ [], IsRun-then opening v v' q.0 (c ∷ []) q.1 (a.0 ∷ []) q.2 (v', a.1 h, refl))
+      step-reached v v' c.at c.who c.command a.0 q (a.1 h)
 
   Runs-reached : (v v' : Vault) (n n' : ℕ) (asked : List Line) (out : List Reply) → Runs H v n asked out v' n' → Reached v → Reached v'
   Runs-reached v v' n n' [] out r q = subst Reached (sym r.1) q

@@ -1,4 +1,5 @@
 //! What stands in the status line and the headers of an answer.
+use vault_base::content::Registered;
 use vault_base::name::VersionId;
 use vault_lock::retention::Retention;
 
@@ -36,7 +37,7 @@ pub enum Allow {
 }
 
 /// What an answer brings, and how many bytes that are.
-#[derive(Clone, Copy, PartialEq, Eq, Debug)]
+#[derive(Clone, Copy)]
 pub enum Kind {
     /// Nothing, and no length is reported.
     Nothing,
@@ -44,6 +45,8 @@ pub enum Kind {
     Empty,
     /// The content of a version.
     Content(u64),
+    /// Nothing, as the content of the version is kept outside: what is registered of it is reported.
+    External(Registered),
     /// A JSON value.
     Json(u64),
 }

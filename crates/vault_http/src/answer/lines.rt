@@ -8,6 +8,7 @@ ghost use Rattle.vault_http.specs.Answer as spec;
 use crate::answer::head::{Allow, Kind, Status};
 use httpdate::HttpDate;
 use std::alloc::{AllocError, Global};
+use vault_base::content::Registered;
 use vault_base::name::VersionId;
 use vault_lock::retention::Retention;
 use vault_values::words::{hold_name, mode_name};
@@ -80,13 +81,25 @@ pub fn push_type(out: &mut Vec<u8>, kind: Kind) -> Result<(), AllocError>
     ensures { OnOk result (out.new.items ≡ out.old.items ++ spec.type_lines kind) }
 {
     match kind {
-        Kind::Nothing | Kind::Empty => Ok(()),
+        Kind::Nothing | Kind::Empty | Kind::External(_) => Ok(()),
         Kind::Content(_) => push_line(out, b"content-type: application/octet-stream"),
         Kind::Json(_) => push_line(out, b"content-type: application/json"),
     }
 }
 
-/// How many bytes the body has.
+fn push_size_and_digest(
+    alloc: Global,
+    out: &mut Vec<u8>,
+    registered: Registered,
+) -> Result<(), AllocError>
+    ensures { OnOk result (out.new.items ≡ (out.old.items ++ spec.size_line registered.size) ++ spec.digest_line registered.digest) }
+{
+    let digits = hex::encode(alloc, registered.digest.as_slice())?;
+    push_number(alloc, out, b"x-vault-external: ", registered.size)?;
+    push_header(out, b"x-vault-sha256: ", digits.as_bytes())
+}
+
+/// How many bytes the body has; of a content that is kept outside, its size and its digest.
 pub fn push_length(alloc: Global, out: &mut Vec<u8>, kind: Kind) -> Result<(), AllocError>
     ensures { OnOk result (out.new.items ≡ out.old.items ++ spec.length_lines kind) }
 {
@@ -94,6 +107,7 @@ pub fn push_length(alloc: Global, out: &mut Vec<u8>, kind: Kind) -> Result<(), A
         Kind::Nothing => Ok(()),
         Kind::Empty => push_line(out, b"content-length: 0"),
         Kind::Content(n) => push_number(alloc, out, b"content-length: ", n),
+        Kind::External(registered) => push_size_and_digest(alloc, out, registered),
         Kind::Json(n) => push_number(alloc, out, b"content-length: ", n),
     }
 }

@@ -97,12 +97,12 @@ fn done_head(drops: bool) -> Head
     }
 }
 
-fn version_head(version: &Version, length: u64) -> Head
-    ensures { result ≡ spec.version_head version.now length }
+fn version_head(version: &Version, status: Status, kind: Kind) -> Head
+    ensures { result ≡ spec.version_head version.now status kind }
 {
     Head {
-        status: Status::Ok,
-        kind: Kind::Content(length),
+        status,
+        kind,
         allow: None,
         marker: false,
         version: Some(version.entry.id),
@@ -120,8 +120,16 @@ fn version_bytes(
 ) -> Result<Vec<u8>, AllocError>
     ensures { IfOk result (λ out. spec.AnswersVersion moment version content shown out.items) }
 {
-    let head = version_head(&version, content.len() as u64);
-    write_answer(alloc, moment, head, content.as_slice(), shown)
+    match content {
+        Content::Inside(bytes) => {
+            let head = version_head(&version, Status::Ok, Kind::Content(bytes.len() as u64));
+            write_answer(alloc, moment, head, bytes.as_slice(), shown)
+        }
+        Content::External(registered) => {
+            let head = version_head(&version, Status::NoContent, Kind::External(registered));
+            write_answer(alloc, moment, head, b"", shown)
+        }
+    }
 }
 
 fn head_bytes(
@@ -132,7 +140,7 @@ fn head_bytes(
 ) -> Result<Vec<u8>, AllocError>
     ensures { IfOk result (λ out. spec.AnswersHead moment version shown out.items) }
 {
-    let head = version_head(&version, version.entry.size);
+    let head = version_head(&version, Status::Ok, Kind::Content(version.entry.size));
     write_answer(alloc, moment, head, b"", shown)
 }
 

@@ -6,7 +6,7 @@ ghost use Rattle.vault_http_request.specs.Body.{Came, Moved};
 use crate::read::bytes::{ReadFault, next_bytes};
 use std::alloc::Global;
 use std::io::Read;
-use vault_base::content::Content;
+use vault_base::content::Bytes;
 
 /// How many bytes a reader is asked for at once.
 const PIECE: usize = 16_384;
@@ -43,7 +43,7 @@ pub fn read_body<R: Read>(
     alloc: Global,
     reader: &mut R,
     size: u64,
-) -> Result<Option<Content>, ReadFault>
+) -> Result<Option<Bytes>, ReadFault>
     ensures body { IfOk result (λ body. IfSome (R.remaining reader.old) (λ rest. Came size rest body)) }
     ensures taken { OnOk result ((taken : List ℕ) × Consumes (R.remaining reader.old) (R.remaining reader.new) taken × (length taken ≤ size)) }
 {
@@ -55,5 +55,5 @@ pub fn read_body<R: Read>(
             return Ok(None);
         }
     }
-    Ok(Some(Content::new(body)))
+    Ok(Some(Bytes::new(body)))
 }

@@ -1,8 +1,10 @@
 //! Statements of one part, each where there is what it writes.
-ghost use Rattle.std.specs.Prelude.{◌≡◌, Some, IfSome, OnOk};
+ghost use Rattle.std.specs.Prelude.{◌≡◌, map, Some, IfSome, OnOk};
 ghost use Rattle.vault_base.specs.declared.refusal.Table.TheVariants as table;
 ghost use Rattle.vault_audit_model.specs.Rows.{content_row, note_row};
+ghost use Rattle.vault_audit_model.specs.Spells.{content_if_given};
 ghost use Rattle.vault_store_model.specs.Changes.{with_row_if_given, with_head};
+ghost use Rattle.vault_store_model.specs.Edits.{with_each};
 ghost use Rattle.vault_store_apply.specs.EntryParts.{with_left_head, with_first_setting, with_first_tenure, with_sums_as};
 ghost use Rattle.vault_store_apply.specs.Typed.{IsFirstTyped};
 ghost use Rattle.vault_store_edits.specs.Inside.{MakesPart};
@@ -20,19 +22,19 @@ use vault_store_edits::settings::put_setting;
 use vault_store_edits::tenures::put_tenure;
 use vault_tally::row::Row as Sums;
 
-/// Puts in the bytes of an entry, if it has any.
+/// Puts in the bytes of an entry, if it has any; a content that is kept outside has none.
 pub fn put_content_if_given<S: Alter>(
     tx: &mut Transaction<'_, S>,
     id: VersionId,
     content: &Option<Content>,
 ) -> Result<(), Error>
     ensures same_reference { tx.new.conn.ghost_name ≡ tx.old.conn.ghost_name }
-    ensures part { MakesPart S.Store tx.old.conn.now tx.new.conn.now result (with_row_if_given table.Contents (λ bytes. content_row (record { id = id; content = bytes })) content.now) }
+    ensures part { MakesPart S.Store tx.old.conn.now tx.new.conn.now result (with_each table.Contents (map content_row (content_if_given id content.now))) }
 {
-    let Some(content) = content else {
+    let Some(Content::Inside(inside)) = content else {
         return Ok(());
     };
-    put_content(tx, id, content)?;
+    put_content(tx, id, inside)?;
     Ok(())
 }
 

@@ -1,7 +1,6 @@
-use Rattle.std.proofs.Common.{◌<◌, ◌++◌, List, length, rules, subst, take_all}
+use Rattle.std.proofs.Common.{◌<◌, List, length, rules, subst, take_all}
 use Rattle.std.proofs.lemmas.List.{take_more}
 use Rattle.vault_core_model.specs.declared.command.Timed.{Timed}
-use Rattle.vault_core_laws.proofs.Runs.{IsRun-append}
 use Rattle.vault_core_laws.proofs.Balance.{conserved, moved, one_place}
 use Rattle.vault_core_laws.proofs.Telescope.{days_joined}
 use Rattle.vault_core_run_laws.proofs.Once.{extends_itself}
@@ -9,7 +8,7 @@ use Rattle.vault_core_run_laws.proofs.Repeated.{run-begins, run-completes}
 use Rattle.vault_core_run_laws.proofs.Reached.{reached-permitted, reached-Worm, run-extends}
 use Rattle.vault_core_run_laws.proofs.Stored.{Sound-stands_once, Sound-conserved, Sound-all_conserved}
 use Rattle.vault_core.specs.StepByStep.{StepByStep}
-use Rattle.vault_core.proofs.StepLemmas.{push, honest, is_run, counted}
+use Rattle.vault_core.proofs.StepLemmas.{push, honest, is_run, counted, run-reached}
 use Rattle.vault_core.proofs.run.run.Goals as goal
 
 -- the commands so far go on by this one
@@ -38,9 +37,8 @@ returns-clause-leaves g c = record {
 pub returns-clause-run : goal.returns-clause-run
 returns-clause-run g c = is_run g.K.Kept _ _ _ _ (returns-clause-each g c)
 
--- the run to the vault before, and then this one
 pub returns-clause-reached : goal.returns-clause-reached
-returns-clause-reached g c = λ h before. (before.0 ++ _, before.1 ++ _, IsRun-append _ _ _ before.0 _ before.1 _ before.2 (returns-clause-run g c h))
+returns-clause-reached g c = λ h before. run-reached _ _ _ _ before (returns-clause-run g c h)
 
 pub returns-in_err-replies-clause-conserved : goal.returns-in_err-replies-clause-conserved
 returns-in_err-replies-clause-conserved g c = one_place (g.K.Kept.vault c.args.keeper.now)

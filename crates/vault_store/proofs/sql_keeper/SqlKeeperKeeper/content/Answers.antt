@@ -1,5 +1,6 @@
 use Rattle.std.proofs.Common.{sym, ◌∙◌, rules}
-use Rattle.vault_store.proofs.ReadLemmas.{∥∥₁_elim, Coded-set, coded_ℕ, coded_list, coded_option, no_failure, read_kept, known_still}
+use Rattle.vault_store.proofs.ReadLemmas.{∥∥₁_elim, Coded-set, coded_option, no_failure, read_kept, known_still}
+use Rattle.vault_base.specs.contracts.content.Content as content
 use Rattle.vault_store.proofs.sql_keeper.SqlKeeperKeeper.content.Goals as goal
 
 pub invariant_of-self : goal.invariant_of-self
@@ -19,7 +20,7 @@ invariant_of-self-in-Err g c = record {
 }
 
 pub returns-in-Ok-clause-value : goal.returns-in-Ok-clause-value
-returns-in-Ok-clause-value g c clean = rw c.in_ok-check_open.ensures.read.leaves.same at (∥∥₁_elim c.check_open.new.self.kept (Coded-set (coded_option (coded_list coded_ℕ)) _ _) (λ kept. c.in-Ok.ensures.value clean _ (kept (c.read_content.ensures.read.honest clean)).keeps))
+returns-in-Ok-clause-value g c clean = rw c.in_ok-check_open.ensures.read.leaves.same at (∥∥₁_elim c.check_open.new.self.kept (Coded-set (coded_option content.the_row.coded) _ _) (λ kept. c.in-Ok.ensures.value clean _ (kept (c.read_content.ensures.read.honest clean)).keeps))
 
 pub returns-in-Err-clause-read : goal.returns-in-Err-clause-read
 returns-in-Err-clause-read g c = record { leaves = search rules; healthy = λ well. no_failure g.S.Store c.check_open.new.self.conn _ _ _ _ c.check_open.new.self.kept (c.read_content.ensures.read.honest well.clean) (λ w keeps. c.in-Err.ensures.memory well w keeps) c.blame.ensures.reported; refused = c.in_ok-check_open.ensures.read.refused }
