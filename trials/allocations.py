@@ -42,7 +42,7 @@ import sys
 from concurrent.futures import ThreadPoolExecutor
 from typing import NamedTuple
 
-from trials.program import EXAMPLES, IS_LONG, PROGRAM, Case, Ran, check, make_office, needs, printed, ran_words
+from trials.parts.program import EXAMPLES, IS_LONG, PROGRAM, Case, Ran, check, make_office, needs, printed, ran_words
 from proved import Loaded, first_number
 
 SCRIPT = EXAMPLES / "every-command.jsonl"

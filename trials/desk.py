@@ -16,7 +16,7 @@ from collections.abc import Iterator
 from typing import NamedTuple
 
 from trials import desk_edits, door_edits, handover_edits, records_edits, s3_edits
-from trials.program import PROGRAM, TOP, Case, a_test_each, check, ran_words
+from trials.parts.program import PROGRAM, TOP, Case, a_test_each, check, ran_words
 
 TAKES_LONG = True
 # Each table, and the folder of the modules that its rows name.

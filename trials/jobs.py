@@ -17,8 +17,8 @@ import time
 import unicodedata
 from typing import Any, Iterator
 
-from trials.program import DESK, IS_LONG, PROGRAM, Case, Ran, check, printed, ran_words
-from trials.servers import free_port
+from trials.parts.program import DESK, IS_LONG, PROGRAM, Case, Ran, check, printed, ran_words
+from trials.parts.servers import free_port
 
 SCANS, LARGEST = (5_000, 200_000) if IS_LONG else (200, 2_000)
 DEPARTMENTS = {"records": ["letters", "drafts"], "court": ["cases", "notes"], "archive": ["deeds"]}

@@ -31,9 +31,9 @@ import subprocess
 import time
 from typing import Any
 
-from trials.calls import KILLED, needs_strace
-from trials.program import DESK, IS_LONG, OPENED_AT, PROGRAM, Case, check, make_office
-from trials.servers import LIMIT, free_port, reply_to, status_of
+from trials.parts.calls import KILLED, needs_strace
+from trials.parts.program import DESK, IS_LONG, OPENED_AT, PROGRAM, Case, check, make_office
+from trials.parts.servers import LIMIT, free_port, reply_to, status_of
 
 COMMANDS, TIMES = (1_000, 10) if IS_LONG else (40, 2)
 END = "# The journal ends here: no line makes the next change again."

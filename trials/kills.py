@@ -26,9 +26,9 @@ import time
 import unittest
 from typing import Any, Iterator, NamedTuple
 
-from trials.calls import CHANGING, KILLED, needs_strace
-from trials.program import DESK, IS_LONG, OPENED_AT, PROGRAM, Case, Ran, check, make_office, ran_words
-from trials.servers import LIMIT, free_port, reply_to, status_of
+from trials.parts.calls import CHANGING, KILLED, needs_strace
+from trials.parts.program import DESK, IS_LONG, OPENED_AT, PROGRAM, Case, Ran, check, make_office, ran_words
+from trials.parts.servers import LIMIT, free_port, reply_to, status_of
 
 POINTS = int(os.environ.get("TRIALS_KILLS", 50 if IS_LONG else 5))
 CALLS = (*CHANGING, "unlink")

@@ -19,8 +19,8 @@ import subprocess
 
 from trials.html_docs import check_pages
 from trials.pages import printed_as_shown
-from trials.program import EXAMPLES, PROGRAM, TOP, Case, check, needs, ran_words, shared_folder
-from trials.clean_system import Root, needs_system, said
+from trials.parts.program import EXAMPLES, PROGRAM, TOP, Case, check, needs, ran_words, shared_folder
+from trials.parts.clean_system import Root, needs_system, said
 import desk_words
 
 TAKES_LONG = True

@@ -1,7 +1,7 @@
 """S3: the clients that are on this machine work on a vault through its gateway (`vaultdesk s3 serve`).
 
 They are boto3, boto3 whose answers are lost, boto3 through nginx, aws, s3cmd and rclone. boto3 is the one of the Python
-that runs this, and aws is each that is on the path or in /usr/bin; `tools/setup-trials` installs Debian's. Each client
+that runs this, and aws is each that is on the path or in /usr/bin; `trials/setup` installs Debian's. Each client
 has a vault and a gateway of its own; in `Served` a server has the vault meanwhile, and the gateway asks that server's
 door for lines. `Each` has every client do the same there, in its own words: odd keys, pages, many at once, what is
 refused, late, sent again or cut off (s3_each.py). Afterwards the vault is sound, and no refusal has left a version. The
@@ -21,11 +21,11 @@ import unittest.mock
 from concurrent.futures import ThreadPoolExecutor
 
 from trials import s3_each
-from trials.program import PROGRAM, TOP, Case, a_test_each, check, needs
-from trials.s3_each import MANY, ODD, TOO_LARGE
-from trials.s3_gateway import Between, Door, Gateway, made_tree, sent
-from trials.s3_tools import TOOLS, missing
-from trials.servers import free_port
+from trials.parts.program import PROGRAM, TOP, Case, a_test_each, check, needs
+from trials.s3_clients.each import MANY, ODD, TOO_LARGE
+from trials.s3_clients.gateway import Between, Door, Gateway, made_tree, sent
+from trials.s3_clients.tools import TOOLS, missing
+from trials.parts.servers import free_port
 
 TAKES_LONG = True
 END = dt.datetime(2040, 1, 1, tzinfo=dt.timezone.utc)

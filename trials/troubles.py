@@ -23,8 +23,8 @@ from concurrent.futures import ThreadPoolExecutor
 from typing import Any, Callable, Iterable
 
 from trials.door import LIMIT, Server, get, line, put
-from trials.program import IS_LONG, PROGRAM, Case, Ran, check, make_office, needs, printed
-from trials.servers import HOST, answer_to, ended, free_port, read_all, started
+from trials.parts.program import IS_LONG, PROGRAM, Case, Ran, check, make_office, needs, printed
+from trials.parts.servers import HOST, answer_to, ended, free_port, read_all, started
 from trials.trail import request
 from proved import Loaded, first_number
 

@@ -23,8 +23,8 @@ That needs root.
 import os
 import subprocess
 
-from trials.clean_system import Root, needs_system, said
-from trials.program import PROGRAM, TOP, Case, check, needs
+from trials.parts.clean_system import Root, needs_system, said
+from trials.parts.program import PROGRAM, TOP, Case, check, needs
 
 TAKES_LONG = True
 INCLUDED = "python3,curl,sqlite3,systemd-sysv,dbus"

@@ -1,4 +1,4 @@
-/* Which body is chosen, and which bodies are reached, of a program that has them all (`tools/wrong-bodies`).
+/* Which body is chosen, and which bodies are reached, of a program that has them all (`tools/mutate/wrong-bodies`).
 
    The number of the chosen one, 0 if none is, and the path of a file are written into a copy of the program. A body
    that is reached has its byte in that file set to 1; without a path nothing is noted. It asks the system itself, so

@@ -8,7 +8,7 @@ from typing import Iterator, NamedTuple
 TOP = pathlib.Path(__file__).resolve().parent.parent
 # Crates that are for tests alone.
 OF_TESTS = re.compile(r"vault_(tests|failing|transcript)")
-# A crate whose one function answers whether a body is chosen. `tools/chosen_body.c` takes its place.
+# A crate whose one function answers whether a body is chosen. `tools/mutate/chosen_body.c` takes its place.
 CHOSEN = "vault_chosen"
 SOURCE = """//! Which body is chosen.
 #![tactic(auto)]

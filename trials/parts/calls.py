@@ -8,7 +8,7 @@ import subprocess
 import unittest
 from typing import Any, Callable, Iterable, Iterator
 
-from trials.program import Ran, check, ran
+from trials.parts.program import Ran, check, ran
 
 # The calls that change a file, or have its changes kept.
 CHANGING = ("pwrite64", "ftruncate", "fsync", "fdatasync")

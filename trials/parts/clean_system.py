@@ -6,8 +6,8 @@ import shutil
 import subprocess
 import unittest
 
-from trials.program import check, ran_words
-from trials.servers import free_port
+from trials.parts.program import check, ran_words
+from trials.parts.servers import free_port
 
 MIRROR = os.environ.get("MIRROR", "http://deb.debian.org/debian")
 

@@ -14,7 +14,7 @@ import time
 from typing import Any, Iterable, Iterator, Mapping
 
 from trials import program
-from trials.program import PROGRAM, check
+from trials.parts.program import PROGRAM, check
 
 HOST = "127.0.0.1"
 # Seconds that one waits for a server to listen or to end, and for the next bytes of an answer.

@@ -14,8 +14,8 @@ import threading
 import time
 from typing import Any
 
-from trials.program import DESK, LIMIT, PROGRAM, TOP, check, ran_words
-from trials.servers import free_port, free_ports, wait_for
+from trials.parts.program import DESK, LIMIT, PROGRAM, TOP, check, ran_words
+from trials.parts.servers import free_port, free_ports, wait_for
 
 PASSWORD = "correct horse battery"
 HOST = "pages.example.org"

@@ -4,9 +4,9 @@ import json
 import pathlib
 from typing import Any, NamedTuple
 
-from trials.program import check
-from trials.s3_gateway import Gateway
-from trials.s3_tools import Aws, Boto3, Rclone, S3cmd, Tool
+from trials.parts.program import check
+from trials.s3_clients.gateway import Gateway
+from trials.s3_clients.tools import Aws, Boto3, Rclone, S3cmd, Tool
 
 DOCS, NEW = {"Bucket": "docs"}, {"Bucket": "another"}
 DEED, DRAFT = {**DOCS, "Key": "deed"}, {**DOCS, "Key": "draft"}

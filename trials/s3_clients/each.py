@@ -6,9 +6,9 @@ import re
 from typing import Any, Callable, Iterator
 
 from trials import s3_calls
-from trials.program import PROGRAM, check
-from trials.s3_gateway import Between, Door, Gateway, sent
-from trials.s3_tools import TOOLS, Aws, Rclone, S3cmd, Tool, names_of, some_files
+from trials.parts.program import PROGRAM, check
+from trials.s3_clients.gateway import Between, Door, Gateway, sent
+from trials.s3_clients.tools import TOOLS, Aws, Rclone, S3cmd, Tool, names_of, some_files
 
 ODD = ["a b", "a+b", "100%", "%2F", "?", "#", ";=:@&$,!*'()", '"quoted"', " blanks ", "a//b", "ü", "u\u0308", "日本",
        "\U0001f4dc", "<&>", "\\back", "..", "a" * 1_020]

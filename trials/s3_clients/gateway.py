@@ -13,8 +13,8 @@ import time
 from typing import Any, Callable
 
 from trials import program
-from trials.program import DESK, check
-from trials.servers import free_port
+from trials.parts.program import DESK, check
+from trials.parts.servers import free_port
 
 RIGHTS = ["config", "put", "retain", "hold", "get", "list", "delete", "delete-version", "run", "report", "bypass"]
 PLAIN = ["put", "retain", "get", "list", "delete", "delete-version"]

@@ -7,8 +7,8 @@ import shutil
 from concurrent.futures import ThreadPoolExecutor
 from typing import Any, Iterable
 
-from trials.program import check
-from trials.s3_gateway import Gateway
+from trials.parts.program import check
+from trials.s3_clients.gateway import Gateway
 
 REGION = "us-east-1"
 
