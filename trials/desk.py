@@ -1,7 +1,7 @@
 """Desk: its tests on mutants. Each row of the five tables has to make the test fail that is beside it.
 
-The tables are desk_edits.py, records_edits.py (for records officers), door_edits.py (a vault that is served),
-handover_edits.py (what is handed over, on paper too) and s3_edits.py (the gateway for clients of S3). A row of each has
+The tables are those of `trials/edits`: desk.py, records.py (for records officers), door.py (a vault that is served),
+handover.py (what is handed over, on paper too) and s3.py (the gateway for clients of S3). A row of each has
 a module of the desk, a text in it, the text that takes its place, and a test of `desk/tests`. An edit is made in a copy
 of `desk`, which runs over the program. A body that names what isn't there says nothing of the test: it is no edit of
 these. The gate looks only whether each can be made, and its test is there (`CanBeMade`).
@@ -15,13 +15,13 @@ import sys
 from collections.abc import Iterator
 from typing import NamedTuple
 
-from trials import desk_edits, door_edits, handover_edits, records_edits, s3_edits
+from trials.edits import desk, door, handover, records, s3
 from trials.parts.program import PROGRAM, TOP, Case, a_test_each, check, ran_words
 
 TAKES_LONG = True
 # Each table, and the folder of the modules that its rows name.
-OF_DESK = (desk_edits, records_edits, door_edits, handover_edits)
-TABLES = (*((it, "desk/vaultdesk") for it in OF_DESK), (s3_edits, "desk/vaultdesk/s3"))
+OF_DESK = (desk, records, door, handover)
+TABLES = (*((it, "desk/vaultdesk") for it in OF_DESK), (s3, "desk/vaultdesk/s3"))
 
 
 # Errors of a body that isn't one, with which each test fails.

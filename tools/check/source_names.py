@@ -5,7 +5,7 @@ import functools
 import pathlib
 import re
 
-TOP = pathlib.Path(__file__).resolve().parent.parent
+TOP = pathlib.Path(__file__).resolve().parents[2]
 
 FUNCTION = re.compile(r"^(\s*)(?:pub(?:\([a-z]+\))? )?(?:const |unsafe )*fn (\w+)")
 CLAUSE = re.compile(r"^\s*(?:ensures|requires)\s+(\w+)\s*\{")
@@ -118,7 +118,7 @@ def known():
         found.add(path.stem)
         found.update(word for said in TEXT.findall(text) for word in WORD.findall(said))
         found.update(word for line in USE.findall(text) for word in WORD.findall(line))
-    others = ["crates.txt", "vault", "tools/*", "trials/*", "bench/*", ".ci/*", "examples/**/*.*"]
+    others = ["crates.txt", "vault", "tools/*/*", "trials/**/*", "bench/*", ".ci/*", "examples/**/*.*"]
     paths = [it for kind in others for it in files(kind) if it.is_file()]
     # The wrong names that this tool plants are no names.
     return found.union(*(words_in(it) for it in paths if it.name != "check-claims"))

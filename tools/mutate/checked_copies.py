@@ -7,7 +7,7 @@ import shutil
 import subprocess
 from typing import Any
 
-TOP = pathlib.Path(__file__).resolve().parent.parent
+TOP = pathlib.Path(__file__).resolve().parents[2]
 PROVED = "the crate is still proved with it"
 # What `rt check` says at a place of a file; in a proof, that it names what isn't there; that it can't read a text.
 PLACED = re.compile(r"(note: )?\S+:\d+:\d+:")

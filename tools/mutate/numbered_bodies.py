@@ -5,7 +5,7 @@ import re
 import shutil
 from typing import Iterator, NamedTuple
 
-TOP = pathlib.Path(__file__).resolve().parent.parent
+TOP = pathlib.Path(__file__).resolve().parents[2]
 # Crates that are for tests alone.
 OF_TESTS = re.compile(r"vault_(tests|failing|transcript)")
 # A crate whose one function answers whether a body is chosen. `tools/mutate/chosen_body.c` takes its place.

@@ -14,7 +14,7 @@ from importlib.machinery import SourceFileLoader
 from importlib.util import module_from_spec, spec_from_loader
 from typing import NamedTuple, NoReturn
 
-TOP = pathlib.Path(__file__).resolve().parent.parent
+TOP = pathlib.Path(__file__).resolve().parents[2]
 # Whole scripts in memory: they take hundredths of a second.
 EXAMPLES = {it.name: it for it in sorted((TOP / "examples").glob("*.jsonl"))}
 

@@ -4,7 +4,7 @@ import collections
 import pathlib
 import re
 
-TOP = pathlib.Path(__file__).resolve().parent.parent
+TOP = pathlib.Path(__file__).resolve().parents[2]
 
 # A subcommand: its name, what it does, the words of its usage, its arguments and options as (words, text), the
 # paragraphs below, the lines of its example, and what each exit status says.

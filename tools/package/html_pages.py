@@ -98,7 +98,7 @@ class Pages:
 
     def make_search(self) -> None:
         data = json.dumps([self.sections, dict(sorted(self.words.items()))], ensure_ascii=False, separators=(",", ":"))
-        script = (TOP / "tools" / "search.js").read_text(encoding="utf-8")
+        script = pathlib.Path(__file__).with_name("search.js").read_text(encoding="utf-8")
         (self.folder / "search.js").write_text(f"const [SECTIONS, WORDS] = {data};\n{script}", encoding="utf-8")
 
 

@@ -4,7 +4,7 @@ import pathlib
 import re
 import unicodedata
 
-TOP = pathlib.Path(__file__).resolve().parent.parent
+TOP = pathlib.Path(__file__).resolve().parents[2]
 INDEX = TOP / "docs" / "README.md"
 
 

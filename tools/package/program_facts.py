@@ -6,7 +6,7 @@ import re
 import subprocess
 from typing import NamedTuple
 
-TOP = pathlib.Path(__file__).resolve().parent.parent
+TOP = pathlib.Path(__file__).resolve().parents[2]
 
 
 class Facts(NamedTuple):

@@ -1,6 +1,6 @@
 """Mutants of what the desk hands over and takes over, each with the test that has to fail by it (`desk.py`).
 
-A row is as one of `desk_edits.py`.
+A row is as one of `desk.py`.
 """
 
 MADE, CAME, RECEIPTS = "test_bags.Exported.", "test_bags.Delivered.", "test_bags.Receipts."

@@ -13,7 +13,7 @@ import tempfile
 import unittest
 from typing import IO, Any, Callable, Iterable, NamedTuple, TypeVar
 
-TOP = pathlib.Path(__file__).resolve().parent.parent
+TOP = pathlib.Path(__file__).resolve().parents[2]
 EXAMPLES, CONTRIB = TOP / "examples", TOP / "contrib"
 DESK = TOP / "desk" / "bin" / "vaultdesk"
 # The program is the one that `VAULTCTL` names, or else the one that the gate has built.
@@ -27,7 +27,7 @@ OPENED_AT = "2024-01-15T09:00:00Z"
 NOBODY = 65534
 A = TypeVar("A", bound=type)
 
-sys.path[:0] = [str(CONTRIB), str(TOP / "tools")]
+sys.path[:0] = [str(CONTRIB), str(TOP / "tools" / "package")]
 
 
 class Ran(NamedTuple):

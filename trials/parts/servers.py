@@ -7,13 +7,14 @@ import os
 import pathlib
 import resource
 import select
+import signal
 import socket
 import struct
 import subprocess
 import time
 from typing import Any, Iterable, Iterator, Mapping
 
-from trials import program
+from trials.parts import program
 from trials.parts.program import PROGRAM, check
 
 HOST = "127.0.0.1"
@@ -48,10 +49,11 @@ def wait_for(port: int) -> None:
 
 def started(
     file: File, port: int, *words: str, folder: pathlib.Path | None = None, front: Iterable[str] = (),
+    program: File | None = None,
 ) -> subprocess.Popen[bytes]:
     """A server of a vault, once it says that it listens; it says nothing else. Whoever asks for it ends it. `front` are
-    words before its own."""
-    asked = [*front, PROGRAM, "serve", file, str(port), *words]
+    words before its own; another program than the one that is tried may be given."""
+    asked = [*front, program or PROGRAM, "serve", file, str(port), *words]
     server = subprocess.Popen(asked, cwd=folder, stdout=subprocess.DEVNULL, stderr=subprocess.PIPE)
     wanted, said = f"serving {file} at {HOST}:{port}\n".encode(), b""
     end = time.monotonic() + LIMIT
@@ -156,3 +158,53 @@ def status_of(
         peer.request(method, target, content, {"x-vault-caller": "ann", **(headers or {})})
         return peer.getresponse().status
     return None
+
+
+class BothDoors:
+    """A server of a vault with a door of lines too, once it listens at both. `front` are words before its own; another
+    program than the one that is tried may be given. What it says is in the file `said` beside the vault's."""
+
+    def __init__(
+        self, file: pathlib.Path, where: pathlib.Path, *words: object, front: Iterable[object] = (),
+        program: File | None = None,
+    ) -> None:
+        self.file, self.where, self.port, self.said = file, where, free_port(), file.with_name("said")
+        asked = [*front, program or PROGRAM, "serve", file, self.port, "--lines", where, *words]
+        with self.said.open("wb") as said:
+            how: dict[str, Any] = {"stdout": subprocess.DEVNULL, "stderr": said, "start_new_session": True}
+            self.process = subprocess.Popen([str(it) for it in asked], **how)
+        end = time.monotonic() + LIMIT
+        while f"lines at {where}\n" not in self.said.read_text():
+            if self.process.poll() is not None or time.monotonic() > end:
+                self.stop()
+                check(False, f"no server: {self.said.read_text()}")
+            time.sleep(0.02)
+
+    def ask(self, do: str, who: str = "ann", **members: Any) -> Any:
+        """The reply to a line; None where the server ends before it answers."""
+        return reply_to(self.where, {"as": who, "do": do, **members})
+
+    def request(self, method: str, target: str, content: str | None = None, **headers: str) -> int | None:
+        """The status of the answer to a request; None where the server ends before it answers."""
+        return status_of(self.port, method, target, content, {it.replace("_", "-"): text for it, text in headers.items()})
+
+    def done(self, do: str, **members: Any) -> Any:
+        """What is answered to a line that is carried out."""
+        reply = self.ask(do, **members)
+        check(reply and "ok" in reply, f"{do} {members}: {reply}")
+        return reply["ok"]
+
+    def ended(self) -> int:
+        """The status with which it ends by itself."""
+        return self.process.wait(LIMIT)
+
+    def close(self) -> None:
+        """Ends it by its line."""
+        check(self.ask("close", "registrar") == {"ok": {}}, "the line that ends it isn't answered")
+        check(self.ended() == 0, f"the server has the status {self.process.returncode}: {self.said.read_text()}")
+
+    def stop(self) -> None:
+        """Ends it in any case, and the words before it."""
+        with contextlib.suppress(ProcessLookupError):
+            os.killpg(self.process.pid, signal.SIGKILL)
+        self.process.wait()

@@ -4,21 +4,9 @@ import contextlib
 import os
 import pathlib
 import subprocess
-from collections.abc import Callable, Iterator
+from collections.abc import Iterator
 
-TOOLS = pathlib.Path(__file__).resolve().parent
-
-
-def first_number(holds: Callable[[int], bool], below: int = 0) -> int:
-    """The least number above `below` for which that holds. It has to hold for all larger ones too."""
-    step = 1
-    while not holds(below + step):
-        step *= 2
-    low, high = below + step // 2, below + step
-    while high - low > 1:
-        middle = (low + high) // 2
-        low, high = (low, middle) if holds(middle) else (middle, high)
-    return high
+HERE = pathlib.Path(__file__).resolve().parent
 
 
 class Loaded:
@@ -32,7 +20,7 @@ class Loaded:
         self.program = pathlib.Path(program).resolve()
         self.what, self.library = what, pathlib.Path(folder) / f"{what}.so"
         compiler = os.environ.get("CC", "cc")
-        words = [compiler, "-O2", "-shared", "-fPIC", "-o", str(self.library), str(TOOLS / f"{what}.c")]
+        words = [compiler, "-O2", "-shared", "-fPIC", "-o", str(self.library), str(HERE / f"{what}.c")]
         subprocess.run(words, check=True)
 
     def front(self, number: int) -> list[str]:

@@ -5,8 +5,8 @@ import pathlib
 import re
 from typing import Any, Callable, Iterator
 
-from trials import s3_calls
 from trials.parts.program import PROGRAM, check
+from trials.s3_clients.calls import every_call
 from trials.s3_clients.gateway import Between, Door, Gateway, sent
 from trials.s3_clients.tools import TOOLS, Aws, Rclone, S3cmd, Tool, names_of, some_files
 
@@ -83,7 +83,7 @@ def at_once(kind: type[Tool], folder: pathlib.Path) -> None:
 def calls(kind: type[Tool], folder: pathlib.Path) -> None:
     """Every call that it has words for."""
     with made(folder) as gateway:
-        s3_calls.every_call(kind(gateway), gateway, folder)
+        every_call(kind(gateway), gateway, folder)
 
 
 # ---- who isn't let in, and what comes late or again

@@ -12,9 +12,9 @@ import threading
 import time
 from typing import Any, Callable
 
-from trials import program
+from trials.parts import program
 from trials.parts.program import DESK, check
-from trials.parts.servers import free_port
+from trials.parts.servers import BothDoors, free_port
 
 RIGHTS = ["config", "put", "retain", "hold", "get", "list", "delete", "delete-version", "run", "report", "bypass"]
 PLAIN = ["put", "retain", "get", "list", "delete", "delete-version"]
@@ -59,7 +59,7 @@ class Gateway:
         self.keys = {it: json.loads(self.desk("key", "add", it, "--json")) for it in ("ann", "bea")}
         self.scheme = "https" if "certificate" in settings else "http"
         self.child: subprocess.Popen[bytes] | None = None
-        self.server: subprocess.Popen[bytes] | None = None
+        self.server: BothDoors | None = None
 
     def desk(self, *words: object) -> str:
         asked = [str(it) for it in (DESK, "s3", *words, "--settings", self.settings)]
@@ -82,20 +82,13 @@ class Gateway:
 
     def start_server(self) -> None:
         """Has the vault served, with a door where a gateway looks for one."""
-        words = [str(it) for it in (self.program, "serve", self.file, free_port(), "--lines", self.folder / "records.lines")]
-        said = self.folder / "server"
-        with open(said, "w") as log:
-            self.server = subprocess.Popen(words, stderr=log)
-        deadline = time.monotonic() + TRIED
-        while "lines at" not in said.read_text():
-            check(time.monotonic() < deadline and self.server.poll() is None, said.read_text())
-            time.sleep(0.1)
+        self.server = BothDoors(self.file, self.folder / "records.lines")
 
     def end_server(self) -> None:
         """Ends the server by its door, in good order."""
         self.office("close", "--as", "registrar")
         assert self.server
-        check(self.server.wait(TRIED) == 0, f"the server ended with {self.server.returncode}")
+        check(self.server.process.wait(TRIED) == 0, f"the server ended with {self.server.process.returncode}")
         self.server = None
 
     def start(self) -> None:
@@ -153,8 +146,7 @@ class Gateway:
             else:
                 self.kill()
         if self.server:
-            self.server.kill()
-            self.server.wait()
+            self.server.stop()
         if kind is None:
             ran = subprocess.run([self.program, "verify", self.file], capture_output=True, text=True)
             check(ran.stdout == "sound\n", ran.stdout + ran.stderr)
