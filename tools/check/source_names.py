@@ -47,7 +47,7 @@ def listed():
 @functools.cache
 def files(pattern):
     """The paths of the repository's files of that form, without what was built."""
-    return sorted(it for it in TOP.glob(pattern) if "out" not in it.relative_to(TOP).parts)
+    return sorted(it for it in TOP.glob(pattern) if not {"out", "__pycache__"} & set(it.relative_to(TOP).parts))
 
 
 def functions_of(path):
