@@ -74,7 +74,7 @@ def packages():
     """The package and the archive, which come out with the same bytes a second time; and the folder with its files."""
     first, second, unpacked = (shared_folder() / it for it in ("first", "second", "unpacked"))
     for out in (first, second):
-        said(TOP / "tools" / "package" / "package", PROGRAM, out)
+        said(TOP / "tools" / "packaging" / "package", PROGRAM, out)
     for it in first.iterdir():
         check(it.read_bytes() == (second / it.name).read_bytes(), f"{it.name} comes out otherwise a second time")
     (debian,) = first.glob("*.deb")

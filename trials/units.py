@@ -330,7 +330,7 @@ def booted(root, script):
 def prepared(folder, included):
     """A clean system with the package in it, which carries out a script as it is booted."""
     folder.chmod(0o755)
-    said(TOP / "tools" / "package" / "package", PROGRAM, folder / "made")
+    said(TOP / "tools" / "packaging" / "package", PROGRAM, folder / "made")
     root = Root(folder / "root", included)
     (debian,) = (folder / "made").glob("*.deb")
     (root.folder / "trial").mkdir()

@@ -27,7 +27,7 @@ OPENED_AT = "2024-01-15T09:00:00Z"
 NOBODY = 65534
 A = TypeVar("A", bound=type)
 
-sys.path[:0] = [str(CONTRIB), str(TOP / "tools" / "package")]
+sys.path[:0] = [str(CONTRIB), str(TOP / "tools" / "packaging")]
 
 
 class Ran(NamedTuple):
