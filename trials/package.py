@@ -428,6 +428,7 @@ class Files(Case):
     def test_recommended(self):
         recommended = said("dpkg-deb", "-f", self.debian, "Recommends")
         self.assertIn("python3-openpyxl", recommended, "nothing brings what xlsx needs")
+        self.assertIn("python3-crcmod", recommended, "nothing brings what makes checksums quick")
 
     def test_archive(self):
         """The archive has the same files as the package."""

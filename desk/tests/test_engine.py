@@ -3,6 +3,7 @@
 from __future__ import annotations
 
 import argparse
+import json
 import unittest
 from pathlib import Path
 from typing import Any
@@ -13,7 +14,7 @@ from vaultdesk import cases, intake, there
 from vaultdesk.config import Desk
 from vaultdesk.engine import Engine
 from vaultdesk.errors import DeskError, EngineError, Refused
-from vaultdesk.ways import Answer
+from vaultdesk.ways import Answer, text_of
 
 
 class Noting:
@@ -30,6 +31,16 @@ class Noting:
 
     def close(self) -> None:
         """Nothing is open."""
+
+
+class Texts(unittest.TestCase):
+    def test_a_content_is_in_hex_digits(self) -> None:
+        for content in (b"", b"\0\xff\"\\", bytes(range(256))):
+            line = {"as": "ann", "do": "put", "hex": content, "key": 'a"\\ü', "most": None}
+            self.assertEqual(json.loads(text_of(line)), {**line, "hex": content.hex()})
+        plain = {"as": "ann", "hex": "61"}
+        self.assertEqual(json.loads(text_of(plain)), plain)
+        self.assertNotIn("\n", text_of({"as": "a\nb", "hex": b"\n"}))
 
 
 def engine_by(way: Noting) -> Engine:

@@ -147,7 +147,7 @@ class Signed(PaperTest):
 
     def test_a_certificate_is_the_engines_with_what_goes_with_it(self) -> None:
         by_bypass = CERTIFICATE.replace("rule old versions", "bypass gov")
-        text = certificate_page.page([(CERTIFICATE, ""), (by_bypass, "")], "ann")
+        text = certificate_page.page([(CERTIFICATE, "", ""), (by_bypass, "", NOW)], "ann")
         self.assertEqual(html.unescape(text.partition("<pre>")[2].partition("</pre>")[0]), CERTIFICATE)
         said = "removed version 17 of the bucket letters on 5 February 2024, 03:00:00 UTC, "
         self.assertIn(said + "by the lifecycle rule \u201cold versions\u201d, and that no command reads", text)
@@ -156,6 +156,10 @@ class Signed(PaperTest):
         certificate = '<span class="fixed">certificate-0000000017.txt</span>'
         self.assertIn(f"<code>head -n -1 {certificate} | sha256sum</code>", text)
         self.assertEqual((text.count("<section>"), text.count('class="sign"')), (2, 2))
+        unwiped, wiped = text.split("</section>")[:2]
+        self.assertIn("This certificate doesn't show that its bytes were wiped", unwiped)
+        self.assertIn(f"Its bytes were wiped from the vault's file on {paper.in_words(NOW)}; they may stay", wiped)
+        self.assertNotIn("doesn't show that its bytes", wiped)
 
 
 class Printed(PaperTest):
@@ -187,7 +191,7 @@ class Printed(PaperTest):
     def test_qpdf_finds_no_fault_and_what_pdf_a_wants_is_there(self) -> None:
         file = self.folder / "a.pdf"
         keyed = CERTIFICATE.replace("2025/a", "2025/\u00e4 \u0416")
-        file.write_bytes(paper.pdf(certificate_page.page([(CERTIFICATE, ""), (keyed, "")], "ann"), "A4"))
+        file.write_bytes(paper.pdf(certificate_page.page([(CERTIFICATE, "", ""), (keyed, "", "")], "ann"), "A4"))
         words = ["qpdf", "--check", str(file)]
         done = subprocess.run(words, capture_output=True, text=True, check=False)
         self.assertEqual(done.returncode, 0, done.stdout + done.stderr)

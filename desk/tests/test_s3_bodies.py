@@ -4,10 +4,12 @@ from __future__ import annotations
 
 import base64
 import hashlib
+import importlib.util
 import random
 import time
 import unittest
 import zlib
+from unittest import mock
 
 from tests.s3_office import DATE, EMPTY, GatewayTest, read_replies, request, signature
 from vaultdesk.s3.checksums import ALGORITHMS, CRC32C, CRC64NVME, Crc
@@ -62,11 +64,22 @@ def signed(head: bytes, content: bytes, size: int, trailer: str = "") -> bytes:
     return body + b"\r\n"
 
 
+def digest_of(name: str, *pieces: bytes) -> bytes:
+    """The checksum of that name of a content that comes in these pieces."""
+    running = ALGORITHMS[name]()
+    for it in pieces:
+        running.update(it)
+    return running.digest()
+
+
 class Checksums(unittest.TestCase):
     def test_check_values(self) -> None:
         wanted = {"crc32": "cbf43926", "crc32c": "e3069283", "crc64nvme": "ae8b14860a799888"}
         for name, value in wanted.items():
-            self.assertEqual(ALGORITHMS[name](b"123456789").hex(), value)
+            self.assertEqual(digest_of(name, b"123456789").hex(), value)
+            self.assertEqual(digest_of(name, b"12345", b"", b"6789").hex(), value)
+        self.assertEqual((CRC32C.carry_on(b"123456789"), CRC64NVME.carry_on(b"123456789")),
+                         (0xE3069283, 0xAE8B14860A799888))
 
     def test_long_contents_have_the_checks_that_come_byte_by_byte(self) -> None:
         chance = random.Random(7)
@@ -76,20 +89,44 @@ class Checksums(unittest.TestCase):
                 value = crc.ones
                 for it in content:
                     value = crc.table[(value ^ it) & 255] ^ value >> 8
-                self.assertEqual(crc.digest(content), (value ^ crc.ones).to_bytes(crc.size, "big"), size)
+                self.assertEqual(crc.carry_on(content), value ^ crc.ones, size)
+                begun = crc.carry_on(content[:1_000])
+                self.assertEqual(crc.carry_on(content[1_000:], begun), value ^ crc.ones, size)
         content = chance.randbytes(100_001)
-        self.assertEqual(Crc(32, 0xEDB88320).digest(content), zlib.crc32(content).to_bytes(4, "big"))
+        self.assertEqual(Crc(32, 0xEDB88320).carry_on(content), zlib.crc32(content))
 
     def test_a_long_content_takes_less_than_its_bytes_one_by_one(self) -> None:
         content = bytes(MOST)
         for crc in (CRC32C, CRC64NVME):
             begun = time.process_time()
-            crc.digest(content)
+            crc.carry_on(content)
             folded = time.process_time() - begun
             value, begun = 0, time.process_time()
             for it in content:
                 value = crc.table[(value ^ it) & 255] ^ value >> 8
             self.assertLess(folded, (time.process_time() - begun) * 0.7)
+
+    def test_without_crcmod_the_checks_are_the_same(self) -> None:
+        pieces = random.Random(8).randbytes(200_000), b"a", b"", bytes(70_000)
+        for crc in (CRC32C, CRC64NVME):
+            with mock.patch.dict("sys.modules", {"crcmod": None, "crcmod._crcfunext": None}):
+                plain = crc.quick()
+            self.assertEqual(plain, crc.carry_on)
+            value, other = 0, 0
+            for it in pieces:
+                value, other = plain(it, value), crc.quick()(it, other)
+            self.assertEqual(value, other)
+
+    @unittest.skipUnless(importlib.util.find_spec("crcmod"), "there is no crcmod")
+    def test_with_crcmod_each_takes_no_longer_than_the_digest_of_the_vault(self) -> None:
+        content = bytes(4 * MOST)
+        begun = time.process_time()
+        hashlib.sha256(content)
+        most = (time.process_time() - begun) * 3
+        for name in ALGORITHMS:
+            begun = time.process_time()
+            digest_of(name, content)
+            self.assertLess(time.process_time() - begun, most, name)
 
 
 class Bodies(GatewayTest):
@@ -187,11 +224,11 @@ class Bodies(GatewayTest):
         self.left("InvalidRequest", streamed(unknown, unsigned(CONTENT, LEAST, b"x-amz-meta-a:b\r\n")))
 
     def test_each_checksum(self) -> None:
-        for name, algorithm in ALGORITHMS.items():
+        for name in ALGORITHMS:
             with self.subTest(name):
-                header, value = f"x-amz-checksum-{name}", base64.b64encode(algorithm(CONTENT)).decode()
+                header, value = f"x-amz-checksum-{name}", base64.b64encode(digest_of(name, CONTENT)).decode()
                 self.taken(request("PUT", "/docs/a", CONTENT, {header: value}))
-                wrong = base64.b64encode(algorithm(CONTENT + b".")).decode()
+                wrong = base64.b64encode(digest_of(name, CONTENT + b".")).decode()
                 self.left("BadDigest", request("PUT", "/docs/a", CONTENT, {header: wrong}))
                 self.left("InvalidDigest", request("PUT", "/docs/a", CONTENT, {header: "?"}))
         md5 = base64.b64encode(hashlib.md5(CONTENT).digest()).decode()

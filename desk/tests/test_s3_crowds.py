@@ -217,7 +217,7 @@ class Framing(CrowdTest):
             f"Content-Length: 0\r\nContent-Length: {len(hidden)}", f"Content-Length : {len(hidden)}",
             f"content-length: 0\r\nTransfer-Encoding: x\r\nContent-Length: {len(hidden)}", "nonsense",
             f"Content-Length: 0, {len(hidden)}", f"Content-Length: 0\r\n {len(hidden)}",
-            f"Content-Length: +{len(hidden)}",
+            f"Content-Length: +{len(hidden)}", "a: b\0c", "a: b\rc: d", ": b", "a b: c",
         ):  # fmt: skip
             whole = request("DELETE", "/docs/a")
             for head in (whole, whole.replace(b"Signature=", b"Signature=f")):
@@ -227,6 +227,26 @@ class Framing(CrowdTest):
                     self.assertEqual([(it.headers["connection"], it.status // 100) for it in got], [("close", 4)])
         self.assertEqual([it["delete_marker"] for it in self.entries()], [False])
         self.assertTrue(self.noted("- DELETE /docs/a 400 InvalidRequest"), self.log.getvalue())
+
+    def test_a_head_that_ends_early_is_none(self) -> None:
+        self.done("PUT", "/docs/a", b"hello")
+        whole = request("DELETE", "/docs/a")
+        self.assertTrue(whole.endswith(b"\r\n\r\n"))
+        for cut in (2, 4, 30):
+            self.refused("InvalidRequest", 400, self.send(whole[:-cut])[0])
+        self.assertEqual([it["delete_marker"] for it in self.entries()], [False])
+
+    def test_a_connection_ends_where_the_client_wants_it(self) -> None:
+        for lines, count in (
+            (b"", 2), (b"Connection: Close\r\n", 1), (b"connection: keep-alive\r\n", 2),
+            (b"connection: keep-alive, close\r\n", 1),
+        ):  # fmt: skip
+            one = request("GET", "/docs/a").replace(b"\r\nhost", b"\r\n" + lines + b"host", 1)
+            self.assertEqual(len(self.send(one + one)), count, lines)
+        old = request("GET", "/docs/a").replace(b"HTTP/1.1", b"HTTP/1.0")
+        self.assertEqual(len(self.send(old + old)), 1)
+        kept = old.replace(b"\r\nhost", b"\r\nConnection: keep-alive\r\nhost", 1)
+        self.assertEqual(len(self.send(kept + kept)), 2)
 
     def test_a_signature_is_out_of_the_log_by_its_name(self) -> None:
         signature = "0123456789abcdef" * 4

@@ -134,7 +134,7 @@ class Put(GatewayTest):
         for method, target in (
             ("PUT", "/docs/a?tagging"), ("PUT", "/docs/a?acl"), ("GET", "/docs/a?attributes"), ("DELETE", "/docs"),
             ("PUT", "/docs?versioning"), ("PUT", "/docs?policy"), ("POST", "/docs/a?select&select-type=2"),
-            ("POST", "/docs/a?restore"), ("POST", "/docs"), ("GET", "/docs/a?partNumber=1"),
+            ("POST", "/docs/a?restore"), ("POST", "/docs"), ("GET", "/docs/a?uploadId=x"),
             ("PUT", "/docs/a?unknown"), ("DELETE", "/docs/a?unknown"),
         ):  # fmt: skip
             with self.subTest(target):
@@ -168,13 +168,49 @@ class Get(GatewayTest):
             self.assertEqual(head.headers["content-range"], got.headers["content-range"])
         middle = self.done("GET", "/docs/a", headers={"range": "bytes=2-4"})
         self.assertEqual(middle.headers["content-range"], "bytes 2-4/10")
+        self.assertEqual(self.done("GET", "/docs/a", headers={"range": "Bytes= 2-4"}).body, b"234")
         for text in ("bytes=10-", "bytes=-0"):
-            self.refused("InvalidRange", 416, self.ask("GET", "/docs/a", headers={"range": text}))
+            outside = self.ask("GET", "/docs/a", headers={"range": text})
+            self.refused("InvalidRange", 416, outside)
+            self.assertEqual(outside.headers["content-range"], "bytes */10")
+            self.assertEqual(self.ask("HEAD", "/docs/a", headers={"range": text}).status, 416)
+        self.done("PUT", "/docs/empty", b"")
+        for text in ("bytes=0-", "bytes=-1"):
+            self.refused("InvalidRange", 416, self.ask("GET", "/docs/empty", headers={"range": text}))
         for text in ("bytes=4-2", "bytes=0-1,3-4", "lines=0-1", "bytes=-", f"bytes={'0' * 5_000}-"):
             self.assertEqual(self.done("GET", "/docs/a", headers={"range": text}).status, 200, text)
-        other = {"range": "bytes=0-0", "if-range": '"other"'}
-        self.assertEqual(self.done("GET", "/docs/a", headers=other).status, 200)
-        self.assertEqual(self.done("GET", "/docs/a", headers={**other, "if-range": self.etag}).status, 206)
+
+    def test_a_range_of_the_version_that_is_meant(self) -> None:
+        since, before = "Mon, 15 Jan 2024 10:00:00 GMT", "Mon, 15 Jan 2024 09:59:59 GMT"
+        for text, status in (
+            (self.etag, 206), (since, 206), ('"other"', 200), (f"W/{self.etag}", 200), ("*", 200), (before, 200),
+            (since.replace("10:00", "11:00"), 200), ("nonsense", 200), (f'"other", {self.etag}', 200),
+        ):  # fmt: skip
+            for method in ("GET", "HEAD"):
+                got = self.done(method, "/docs/a", headers={"range": "bytes=0-0", "if-range": text})
+                length = "1" if status == 206 else "10"
+                self.assertEqual((got.status, got.headers["content-length"]), (status, length), text)
+
+    def test_each_version_is_of_one_part(self) -> None:
+        checked = {"x-amz-checksum-mode": "ENABLED"}
+        for method in ("GET", "HEAD"):
+            got = self.done(method, "/docs/a?partNumber=1", headers=checked)
+            self.assertEqual((got.status, got.headers["content-range"]), (206, "bytes 0-9/10"))
+            self.assertEqual(got.headers["x-amz-checksum-sha256"], "hNiYd/DUBB77a/kaFvAkjy/Vc+avBcGflr7bn4gveII=")
+            self.assertNotIn("x-amz-mp-parts-count", got.headers)
+        self.assertEqual(self.done("GET", "/docs/a?partNumber=1&versionId=1").body, b"0123456789")
+        self.done("PUT", "/docs/empty", b"")
+        self.assertEqual(self.done("GET", "/docs/empty?partNumber=1").status, 200)
+        for target, code, status in (
+            ("2", "InvalidPartNumber", 416), ("0", "InvalidArgument", 400), ("10001", "InvalidArgument", 400),
+            ("-1", "InvalidArgument", 400), ("", "InvalidArgument", 400),
+        ):  # fmt: skip
+            self.refused(code, status, self.ask("GET", f"/docs/a?partNumber={target}"))
+        both = self.ask("GET", "/docs/a?partNumber=1", headers={"range": "bytes=0-1"})
+        self.refused("InvalidRequest", 400, both)
+        self.refused("NoSuchKey", 404, self.ask("GET", "/docs/none?partNumber=1"))
+        first = self.done("GET", "/docs/a", headers={**checked, "range": "bytes=0-8"})
+        self.assertNotIn("x-amz-checksum-sha256", first.headers)
 
     def test_conditions(self) -> None:
         before, since = "Mon, 15 Jan 2024 09:59:59 GMT", "Mon, 15 Jan 2024 10:00:00 GMT"
@@ -385,7 +421,7 @@ class Noted(unittest.TestCase):
         self.assertEqual(self.path.stat().st_mode & 0o777, 0o600)
         self.path.chmod(0o644)
         noted = etags.Etags(self.path)
-        noted.note(1, self.AT, b"hello")
+        noted.note(1, self.AT, HELLO)
         self.assertEqual(self.path.stat().st_mode & 0o777, 0o600)
         noted.drop([1])
         noted.close()
@@ -395,7 +431,7 @@ class Noted(unittest.TestCase):
         self.path.write_text("".join(f"{it} {self.AT} {HELLO}\n" for it in (1, 2, 3, 3)) + "nonsense")
         noted = etags.Etags(self.path)
         noted.drop([2, 99])
-        noted.note(4, self.AT, b"hello")
+        noted.note(4, self.AT, HELLO)
         noted.close()
         lines = [f"{it} {self.AT} {HELLO}" for it in (1, 3, 4)]
         self.assertEqual(self.path.read_text().splitlines(), lines)
@@ -408,7 +444,7 @@ class Noted(unittest.TestCase):
     def test_a_file_that_cant_be_written_anew_stays(self) -> None:
         noted = etags.Etags(self.path)
         for it in (1, 2):
-            noted.note(it, self.AT, b"hello")
+            noted.note(it, self.AT, HELLO)
         before = self.path.read_text()
         for broken in ("pathlib.Path.replace", "os.fsync"):
             failing = mock.patch(broken, side_effect=OSError(28, "No space left on device"))
@@ -417,14 +453,14 @@ class Noted(unittest.TestCase):
             self.assertIn("No space left on device", log.getvalue())
             self.assertEqual([it.name for it in self.path.parent.iterdir()], ["etags"])
             self.assertEqual(self.path.read_text(), before)
-        noted.note(3, self.AT, b"hello")
+        noted.note(3, self.AT, HELLO)
         self.assertTrue(self.path.read_text().startswith(before))
         noted.close()
 
     def test_what_is_written_is_on_the_disk_before_it_counts(self) -> None:
         done: list[str] = []
         noted = etags.Etags(self.path)
-        noted.note(1, self.AT, b"hello")
+        noted.note(1, self.AT, HELLO)
         with mock.patch("os.fsync", side_effect=lambda _: done.append(self.path.read_text())):
             noted.drop([1])
         self.assertEqual(len(done), 1)
@@ -434,7 +470,7 @@ class Noted(unittest.TestCase):
     def test_what_comes_after_a_line_that_was_cut_is_a_line(self) -> None:
         self.path.write_text(f"1 {self.AT} {HELLO}\n2 {self.AT} {HELLO[:9]}")
         noted = etags.Etags(self.path)
-        noted.note(3, self.AT, b"hello")
+        noted.note(3, self.AT, HELLO)
         noted.close()
         again = etags.Etags(self.path)
         self.assertEqual([again.find(it, self.AT) for it in (1, 2, 3)], [HELLO, None, HELLO])

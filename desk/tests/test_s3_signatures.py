@@ -10,7 +10,7 @@ import unittest
 from unittest import mock
 
 from tests.s3_office import ANN, BEA, CID, DATE, EMPTY, NOW, SECRET, GatewayTest, request, signature
-from vaultdesk.s3 import bodies, request as requests, signature as signatures
+from vaultdesk.s3 import chunks, request as requests, signature as signatures
 from vaultdesk.s3.faults import Fault
 
 # AWS's own examples of signatures of version 4 (S3 API Reference, "Authenticating Requests").
@@ -82,7 +82,8 @@ class Published(unittest.TestCase):
         for method, target, headers, names, wanted in EXAMPLES:
             with self.subTest(target):
                 text = ("authorization", signed_by(names, wanted))
-                asked = requests.read(method, target, [EXAMPLE_HOST, EXAMPLE_DATE, *headers, text])
+                given = requests.joined([EXAMPLE_HOST, EXAMPLE_DATE, *headers, text])
+                asked = requests.read(method, target, given)
                 signed = signatures.read(asked, takes_presigned=False)
                 self.assertEqual(signatures.signature_of(asked, signed, self.key_of(signed)), wanted)
 
@@ -92,27 +93,38 @@ class Published(unittest.TestCase):
             f"X-Amz-Algorithm=AWS4-HMAC-SHA256&X-Amz-Credential={EXAMPLE_SCOPE.replace('/', '%2F')}"
             f"&X-Amz-Date=20130524T000000Z&X-Amz-Expires=86400&X-Amz-SignedHeaders=host&X-Amz-Signature={wanted}"
         )
-        asked = requests.read("GET", f"/test.txt?{query}", [EXAMPLE_HOST])
+        asked = requests.read("GET", f"/test.txt?{query}", requests.joined([EXAMPLE_HOST]))
         signed = signatures.read(asked, takes_presigned=True)
         self.assertEqual(signatures.signature_of(asked, signed, self.key_of(signed)), wanted)
 
-    def chain(self, seed: str) -> bodies.Chain:
+    def test_a_key_is_that_of_its_secret_day_and_region(self) -> None:
+        for secret in ("one", "another"):
+            for day in ("20130524", "20130525"):
+                for region in ("us-east-1", "eu-west-1"):
+                    signed = signatures.Signed("a", day, region, (), "", "")
+                    lines = ["a", "b"]
+                    for _ in range(2):
+                        key = signatures.signing_key(secret, signed)
+                        self.assertEqual(signatures.sign(key, lines), signature(lines, secret, day, region))
+
+    def chain(self, seed: str) -> chunks.Chain:
         scope = EXAMPLE_SCOPE.split("/")
         signed = signatures.Signed(scope[0], scope[1], scope[2], (), seed, EXAMPLE_DATE[1])
-        return bodies.Chain(signed, self.key_of(signed))
+        return chunks.Chain(signed, self.key_of(signed))
 
     def test_chunks(self) -> None:
         chain = self.chain("4f232c4386841ef735655705268965c44a0e4690baa4adea153f7db9fa80a0a9")
         for signed, size in CHUNKS:
-            chain.chunk(b"a" * size, signed)
+            digest = hashlib.sha256(b"a" * size).hexdigest()
+            chain.chunk(digest, signed)
             with self.assertRaises(Fault):
-                chain.chunk(b"a" * size, signed)
+                chain.chunk(digest, signed)
             chain.last = signed
 
     def test_chunks_with_a_trailer(self) -> None:
         chain = self.chain("106e2a8a18243abcf37539882f36619c00e2dfc72633413f02d3b74544bfeb8e")
         for signed, size in TRAILED:
-            chain.chunk(b"a" * size, signed)
+            chain.chunk(hashlib.sha256(b"a" * size).hexdigest(), signed)
         wanted = "d81f82fc3505edab99d459891051a732e8730629a2e4a59689829ca17fe2e435"
         chain.trailer(b"x-amz-checksum-crc32c:sOO8/Q==\n", wanted)
 

@@ -29,7 +29,7 @@ class Status(ServedTest):
         self.assertEqual(
             self.status().out,
             f"served since  {second['since']}\nversion       {second['version']}\nentries       1\n"
-            f"last change   {second['last']}\nfailures      0\n",
+            f"last change   {second['last']}\nfailures      0\nlast wiped    isn't noted\n",
         )
 
     def test_who_has_no_right_to_it_learns_nothing(self) -> None:

@@ -100,6 +100,7 @@ ROWS = {
     "copies": Row("{file} {folder}/copies --audit --version 1", "{file} {folder}/copies --least 9"),
     "night": Row("records --clock-is-right", "recrods"),
     "offline": Row("records true", "recrods true"),
+    "wipe": Row("{file} --yes", "{folder}/none.vault --yes"),
     "restore": Row("records {copy}", "records {folder}/none"),
     "check": Row("records", "recrods"),
     "health": Row(SERVED, "recrods"),
@@ -128,7 +129,7 @@ ROWS = {
 # What changes much, or can't be undone.
 TRIED_FIRST = (
     "hold", "release", "retain", "rm", "delete", "deliver", "expire", "buckets", "callers", "night", "backup",
-    "restore", "users remove", "s3 key",
+    "wipe", "restore", "users remove", "s3 key",
 )  # fmt: skip
 
 

@@ -62,7 +62,7 @@ class YearsEnd(OfficeTest):
         self.assertEqual(sorted(it.name for it in out.glob("*.txt")), [f"certificate-000000000{n}.txt" for n in (1, 2)])
         page = (out / "certificates.html").read_text(encoding="utf-8")
         self.assertIn("Müller", page)
-        self.assertEqual(page.count("The certificate doesn't show that its bytes were wiped"), 2)
+        self.assertEqual(page.count("This certificate doesn't show that its bytes were wiped"), 2)
         there = {it: it.write_bytes(b"mine") for it in out.iterdir()}
         for it in ("certificate-0000000001.txt", "certificate-0000000002.txt", "certificates.html"):
             done = self.desk("certificates", str(out), at=LATER)

@@ -7,7 +7,7 @@ from collections.abc import Iterator, Sequence
 from dataclasses import dataclass, field
 from pathlib import Path
 
-from vaultdesk import __version__, evidence, events, moments, noted, paper, reading, recheck
+from vaultdesk import __version__, evidence, events, moments, noted, paper, reading, recheck, wiped
 from vaultdesk.court_page import WHAT, Page, Part, as_html, as_json, as_text
 from vaultdesk.engine import Engine
 from vaultdesk.errors import DeskError
@@ -230,7 +230,9 @@ def answer(engine: Engine, words: argparse.Namespace) -> None:
     found = events.in_tables(engine.tables, words.number)
     checked = _checked(engine, words.seals)
     parts, name = parts_of(engine, found, at, checked), engine.desk.file.name
-    page = Page(parts, found, name, at, checked.is_good, engine.desk.asker)
+    wipes = wiped.of(engine.desk.file, engine.tables)
+    when = wipes.when(words.number, found[-1].moment) if found[-1].event == "removed" else ""
+    page = Page(parts, found, name, at, checked.is_good, engine.desk.asker, when)
     is_written = paper.write(words, as_html(page))
     if words.json:
         print_json(as_json(page))

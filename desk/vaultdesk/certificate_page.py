@@ -27,7 +27,7 @@ def _certified(it: Mapping[str, str]) -> str:
     return f"{paper.office()} certifies that {what}, {CAUSES[cause].format(by)}, and that no command reads it again."
 
 
-def _sheet(text: str, noted: str, asker: str | None) -> str:
+def _sheet(text: str, noted: str, wiped: str, asker: str | None) -> str:
     it = _members(text)
     number = it["version"]
     checks = paper.listed("How to check it", [
@@ -37,16 +37,15 @@ def _sheet(text: str, noted: str, asker: str | None) -> str:
         "That the office made it: the register of removals has it, and the vault makes it again, "
         f"`vaultdesk certificate {number}`.",
     ])  # fmt: skip
+    of_bytes = paper.of_bytes("certificate", int(number), wiped)
     gone = paper.listed("What of its bytes is gone", [
-        "The vault removed this version; no command reads it again. The certificate doesn't show that its bytes were "
-        "wiped: they may stay readable in unused parts of the vault's files, and in copies of them. "
-        f"`vaultdesk where {number}` lists these.",
+        f"The vault removed this version; no command reads it again. {of_bytes}",
     ])  # fmt: skip
     certified = f"<p>{paper.text(_certified(it))}</p>\n<pre>{html.escape(text, quote=False)}</pre>\n"
     return f"<section>\n{paper.head(TITLE, asker)}{certified}{noted}{checks}{gone}{paper.signature()}</section>\n"
 
 
-def page(certificates: Iterable[tuple[str, str]], asker: str | None) -> str:
-    """The page of these certificates, as the engine has them, each with what the office noted of it as HTML, issued by
-    that caller."""
-    return paper.page(ALL, "".join(_sheet(text, noted, asker) for text, noted in certificates))
+def page(certificates: Iterable[tuple[str, str, str]], asker: str | None) -> str:
+    """The page of these certificates, as the engine has them, each with what the office noted of it as HTML, and when
+    its version's bytes were wiped (empty where that isn't noted), issued by that caller."""
+    return paper.page(ALL, "".join(_sheet(*it, asker) for it in certificates))

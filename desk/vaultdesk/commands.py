@@ -120,6 +120,9 @@ MACHINE: Mapping[str, Mapping[str, str]] = {
     "copies": {
         "copies": "the copies of a vault: where, how old, and whether there are enough",
     },
+    "wipe": {
+        "wipe": "write a vault's file anew without the bytes of what was removed",
+    },
     "restoring": {
         "restore": "put a copy of a vault in the vault's place",
     },

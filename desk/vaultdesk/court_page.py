@@ -30,7 +30,7 @@ class Part:
 @dataclass(frozen=True)
 class Page:
     """The page of a version: its events, the vault's name, the moment that is asked about, whether the checks found
-    nothing against the history, and who issues it."""
+    nothing against the history, who issues it, and when the version's bytes were wiped, as far as that is noted."""
 
     parts: Sequence[Part]
     found: Sequence[Event]
@@ -38,6 +38,7 @@ class Page:
     at: str
     is_good: bool
     asker: str | None
+    wiped: str = ""
 
     @property
     def title(self) -> str:
@@ -107,11 +108,7 @@ def _of_bytes(page: Page) -> str:
         return "A delete marker has no bytes."
     if page.found[-1].event != "removed":
         return "None: the vault holds the whole content."
-    return (
-        "The content was removed, and no command reads it again. This page doesn't show that its bytes were wiped: "
-        "they may stay readable in unused parts of the vault's files, and in copies of them. "
-        f"`vaultdesk where {it.version}` lists these."
-    )
+    return f"The content was removed, and no command reads it again. {paper.of_bytes('page', it.version, page.wiped)}"
 
 
 def _table(part: Part) -> str:

@@ -21,6 +21,7 @@ from vaultdesk.cards import Card
 from vaultdesk.engine import Engine
 from vaultdesk.errors import DeskError, Refused
 from vaultdesk.output import counted_off, print_json, print_table, say
+from vaultdesk.wiped import LEFT
 
 FOLDER = "disposal/"
 MOST, BYTES = 1_000, 600_000  # documents and bytes of a plan, so that its outcome too is a version that can be
@@ -356,6 +357,8 @@ def carry_out(engine: Engine, words: argparse.Namespace) -> None:
     else:
         print_table(rows, OUTCOME, as_json=False)
         print(f"{gone} of {len(rows)} documents of {found.name} are removed: version {version} has what came of it")
+        if gone:
+            print(LEFT)
 
 
 # ---- the words

@@ -14,7 +14,7 @@ import socket
 import struct
 import time
 from collections.abc import Iterator, Mapping
-from contextlib import closing, contextmanager
+from contextlib import contextmanager
 from pathlib import Path
 from typing import Any
 
@@ -111,25 +111,32 @@ class LinesDoor:
             raise EngineError(f"{self.where}: what answers there is no server of a vault") from error
         return reply
 
-    @contextmanager
-    def _connected(self, patience: float) -> Iterator[socket.socket]:
+    def _connected(self, patience: float) -> socket.socket:
         """A connection. `_Nobody` where no server takes lines there, `EngineError` where one may not come."""
         is_port = self.where.isdecimal()
-        with closing(socket.socket(socket.AF_INET if is_port else socket.AF_UNIX)) as connection:
+        place: tuple[str, int] | str = ("127.0.0.1", int(self.where)) if is_port else self.where
+        connection = socket.socket(socket.AF_INET if is_port else socket.AF_UNIX)
+        try:
             connection.settimeout(patience)
-            place: tuple[str, int] | str = ("127.0.0.1", int(self.where)) if is_port else self.where
             until = time.monotonic() + patience
             while (error := _failed(connection, place)) is not None:
-                if isinstance(error, (FileNotFoundError, ConnectionRefusedError, NotADirectoryError)):
-                    why = "no server takes lines there: start it, or give another place by --door"
-                    raise _Nobody(f"{self.where}: {why}") from error
-                if isinstance(error, PermissionError):
-                    cause = "only the vault's owner, and who is of the folder's group, may ask there"
-                    raise EngineError(f"{self.where}: {error.strerror}: {cause}") from error
-                if not isinstance(error, BlockingIOError) or time.monotonic() >= until:
-                    raise EngineError(f"{self.where}: {error.strerror or error}") from error
+                self._look_at_failure(error, is_late=time.monotonic() >= until)
                 time.sleep(0.05)  # as many as may wait there do
-            yield connection
+        except BaseException:
+            connection.close()
+            raise
+        return connection
+
+    def _look_at_failure(self, error: OSError, is_late: bool) -> None:
+        """Raises where a connection that failed isn't tried again."""
+        if isinstance(error, (FileNotFoundError, ConnectionRefusedError, NotADirectoryError)):
+            why = "no server takes lines there: start it, or give another place by --door"
+            raise _Nobody(f"{self.where}: {why}") from error
+        if isinstance(error, PermissionError):
+            cause = "only the vault's owner, and who is of the folder's group, may ask there"
+            raise EngineError(f"{self.where}: {error.strerror}: {cause}") from error
+        if not isinstance(error, BlockingIOError) or is_late:
+            raise EngineError(f"{self.where}: {error.strerror or error}") from error
 
 
 class _Nobody(EngineError):

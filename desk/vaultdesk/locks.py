@@ -18,11 +18,12 @@ from vaultdesk.errors import DeskError, Refused, UsageError
 from vaultdesk.output import counted_off, print_json, print_rows, refusals, say, shown
 from vaultdesk.targets import Target, add_targets, targets
 from vaultdesk.trying import Work, work
+from vaultdesk.wiped import LEFT
 
 UNWIPED = """\
-What is removed isn't wiped: no command reads it again, but its bytes may stay readable in unused parts of the vault's
-files, and in copies of these, older and later ones. Its key and its digest stay in the vault for ever, with who removed
-it and when.
+What is removed isn't wiped: no command reads it again, but its bytes stay readable in unused parts of the vault's files
+until vaultdesk wipe, and in copies of these. Its key and its digest stay in the vault for ever, with who removed it and
+when.
 """
 WIDTH = 96  # columns of a line that says what a refusal means
 UNDER_WAY = "Interrupted: it was under way, and may have been changed: look by vaultdesk info"
@@ -72,12 +73,13 @@ def _print_table(rows: Sequence[Row], words: argparse.Namespace) -> None:
         print(textwrap.fill(shown(text), WIDTH, subsequent_indent="  ", break_on_hyphens=False))
 
 
-def _print(rows: Sequence[Row], words: argparse.Namespace) -> None:
-    """Prints the rows. `DeskError` where one was refused, after all of them."""
+def _print(rows: Sequence[Row], words: argparse.Namespace, last: str = "") -> None:
+    """Prints the rows, and a line below their table. `DeskError` where one was refused, after all of them."""
     if words.json:
         print_json(rows)
     else:
         _print_table(rows, words)
+        print(last, end="\n" if last else "")
     for note in sorted({it["note"] for it in rows if it.get("note")}):
         say(note)
     summary = refusals([it["refused"] for it in rows if it["refused"]], len(rows), words.dry_run)
@@ -251,17 +253,20 @@ def delete(engine: Engine, words: argparse.Namespace) -> None:
             why = "what is removed for good is named by its number"
             raise UsageError(f"{why}: give --version N, or a list with versions")
         noting = reasons.begun(engine, words)
+        contents = list[Target]()
         if not words.dry_run:
             confirm(words, f"{len(found)} versions are removed for good")
 
         def change(it: Target) -> Row:
             removed = done.change("delete-version", **it.place, bypass=words.bypass or None)
+            if removed and not removed["delete_marker"]:
+                contents.append(it)
             return {"is": done.text(f"removed ({removed['cause']})" if removed else "asked for")}
 
         rows = _each(found, change)
     if noting and not words.dry_run:
         reasons.note(engine, noting, [it for it in rows if not it["refused"]])
-    _print(rows, words)
+    _print(rows, words, LEFT if contents and not words.dry_run else "")
 
 
 def _add_holds(commands: argparse._SubParsersAction[argparse.ArgumentParser], common: argparse.ArgumentParser) -> None:

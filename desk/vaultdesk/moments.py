@@ -3,7 +3,9 @@
 from __future__ import annotations
 
 import datetime as dt
+import functools
 import re
+import time
 from collections.abc import Iterator
 
 from vaultdesk.errors import UsageError
@@ -19,6 +21,7 @@ def text_of(moment: dt.datetime) -> str:
     return moment.astimezone(dt.timezone.utc).strftime("%Y-%m-%dT%H:%M:%SZ")
 
 
+@functools.lru_cache(8)
 def of_seconds(seconds: int) -> str:
     """The moment of a number of seconds since 1970, in the engine's form."""
     return text_of(dt.datetime.fromtimestamp(seconds, dt.timezone.utc))
@@ -31,7 +34,7 @@ def seconds_of(moment: str) -> int:
 
 def now() -> str:
     """The machine's clock, in the engine's form."""
-    return text_of(dt.datetime.now(dt.timezone.utc))
+    return of_seconds(int(time.time()))
 
 
 def tomorrow() -> str:

@@ -47,6 +47,8 @@ def is_heard() -> bool:
 
 def shown(text: str) -> str:
     """A text in which what a terminal would obey, or what ends a line, is escaped."""
+    if text.isprintable():
+        return text
     return "".join(it if it.isprintable() else it.encode("unicode_escape").decode() for it in text)
 
 

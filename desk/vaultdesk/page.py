@@ -4,11 +4,12 @@ from __future__ import annotations
 
 import argparse
 import html
+import itertools
 import sys
 from collections.abc import Sequence
 from pathlib import Path
 
-from vaultdesk import config, moments, noted, snapshot
+from vaultdesk import config, moments, noted, snapshot, wiped
 from vaultdesk.documents import write_content
 from vaultdesk.errors import UsageError
 from vaultdesk.facts import (
@@ -17,6 +18,7 @@ from vaultdesk.facts import (
 from vaultdesk.noted import Noted
 from vaultdesk.output import print_json
 from vaultdesk.page_style import HATCH, SCRIPT, STYLE
+from vaultdesk.wiped import Wipes
 
 ENDING = ".html"  # of a file for the page, which no vault's has
 FILLS = ("solid", "open", "hatched")  # of the causes in their order; they differ without colour
@@ -72,7 +74,16 @@ def _departments(found: Sequence[Department]) -> list[str]:
     ]
 
 
-def _removed(found: Sequence[Removal]) -> list[str]:
+def _of_bytes(found: Sequence[Removal], wipes: Wipes) -> str:
+    """Of how many removed documents the bytes were wiped from the vault's file, and of how many that isn't noted."""
+    documents = [it for it in found if it.kind == "version"]
+    count = sum(bool(wipes.when(it.version, it.removed)) for it in documents)
+    last = f", the last time at {wipes.last}" if wipes.last else ""
+    rest = f"of {text(len(documents) - count)} they may still be readable in it"
+    return f"<p>The bytes of {text(count)} documents were wiped from the vault’s file{last}; {rest}.</p>"
+
+
+def _removed(found: Sequence[Removal], wipes: Wipes) -> list[str]:
     months = removed_by_month(found)
     if not months:
         return ["<h2>Removed</h2>", "<p>Nothing was removed.</p>"]
@@ -85,6 +96,7 @@ def _removed(found: Sequence[Removal]) -> list[str]:
         "<h2>Removed</h2>",
         "<p>Documents by the month of their removal: as a caller asked for it, by bypassing a retention in GOVERNANCE,"
         " or by a lifecycle rule. Delete markers, which have no content, are counted apart, in the last column.</p>",
+        _of_bytes(found, wipes),
         f'<ul class="key">{key}</ul>',
         bars("Documents removed by month and cause", [(month, numbers) for month, numbers, _ in months]),
         table(("month", *CAUSES, "all", "markers"), rows, "removed"),
@@ -129,10 +141,14 @@ def _callers(found: Sequence[Caller], notes: Noted) -> list[str]:
     ]
 
 
-def _register(found: Sequence[Removal], notes: Noted) -> list[str]:
-    titles = [notes.facts(it._asdict()).get("title", "") for it in found]
-    head: Sequence[str] = (*Removal._fields, *(["title"] if any(titles) else []))
-    rows = [(*it, title)[:len(head)] for it, title in zip(found, titles, strict=True)]
+def _register(found: Sequence[Removal], notes: Noted, wipes: Wipes) -> list[str]:
+    more = {
+        "title": [notes.facts(it._asdict()).get("title", "") for it in found],
+        "wiped": [wipes.when(it.version, it.removed) if it.kind == "version" else "" for it in found],
+    }
+    shown = {name: it for name, it in more.items() if any(it)}
+    head: Sequence[str] = (*Removal._fields, *shown)
+    rows = [(*it, *last) for it, last in zip(found, zip(*shown.values()) if shown else itertools.repeat(()))]
     markers = sum(it.kind == "marker" for it in found)
     return [
         "<h2>Register of removals</h2>",
@@ -143,7 +159,7 @@ def _register(found: Sequence[Removal], notes: Noted) -> list[str]:
     ]
 
 
-def page_of(facts: Facts, notes: Noted) -> str:
+def page_of(facts: Facts, notes: Noted, wipes: Wipes) -> str:
     """The whole page."""
     return "\n".join(
         [
@@ -157,13 +173,13 @@ def page_of(facts: Facts, notes: Noted) -> str:
             f"<p>As it stood at {facts.at}; its last change is of {facts.last}. The audit of"
             " <code>vaultctl verify</code> isn’t part of this page.</p>",
             *_departments(facts.departments),
-            *_removed(facts.removals),
+            *_removed(facts.removals, wipes),
             *_ending(facts.ending),
             *_holds(facts.holds),
             *_buckets(facts.buckets, facts.rules),
             *_callers(facts.callers, notes),
             '<div class="wide">',
-            *_register(facts.removals, notes),
+            *_register(facts.removals, notes, wipes),
             f"</div><script>{SCRIPT}</script></body></html>",
         ]
     )
@@ -177,12 +193,13 @@ def page(words: argparse.Namespace) -> int:
     if not vault:
         raise UsageError("no vault is named: give FILE, or set $VAULT")
     at = moments.seconds_of(moments.read(words.at) if words.at else moments.now())
-    with snapshot.readable(config.settings().file_of(vault)) as tables:
-        found, notes = facts_of(tables, at), noted.of(tables)
+    file = config.settings().file_of(vault)
+    with snapshot.readable(file) as tables:
+        found, notes, wipes = facts_of(tables, at), noted.of(tables), wiped.of(file, tables)
     if words.json:
         print_json(as_json(found))
         return 0
-    content = page_of(found, notes).encode() + b"\n"
+    content = page_of(found, notes, wipes).encode() + b"\n"
     if words.out:
         write_content(Path(words.out), content, words.force)
     else:

@@ -86,6 +86,16 @@ def _command(words: str) -> str:
     return " ".join(f'<span class="fixed">{text(it)}</span>' if "-" in it[1:] else text(it) for it in words.split(" "))
 
 
+def of_bytes(what: str, version: int, wiped: str) -> str:
+    """What a page of that kind says of the bytes of a removed version: when they were wiped, where that is noted."""
+    if wiped:
+        where = "they may stay readable in older copies of it, and in free parts of its disk"
+        done = f"Its bytes were wiped from the vault's file on {in_words(wiped)}"
+        return f"{done}; {where}. `vaultdesk where {version}` lists the copies."
+    where = "they may stay readable in unused parts of the vault's files, and in copies of them"
+    return f"This {what} doesn't show that its bytes were wiped: {where}. `vaultdesk where {version}` lists these."
+
+
 def cell(given: str, is_value: bool = False) -> str:
     """A cell of a table: a short name or moment stays on its line, a value may be broken where it doesn't fit."""
     is_sentence = " " in given

@@ -15,6 +15,7 @@ from vaultdesk.forecast import COLUMNS as FORESEEN
 from vaultdesk.forecast import Rule, foreseen, rules_of, set_rules
 from vaultdesk.output import print_done, print_json, print_table, say
 from vaultdesk.spelling import nearest, whole
+from vaultdesk.wiped import LEFT
 
 COLUMNS = ("id", "enabled", "prefix", "above", "below", "expires", "noncurrent", "keeps", "lone markers")
 
@@ -170,6 +171,8 @@ def expire(engine: Engine, words: argparse.Namespace) -> None:
         if rows and not words.dry_run:
             confirm(words, f"the rules of {len(buckets)} buckets are carried out as of this moment")
             done += _carried_out(engine, buckets)
+            if not words.json and any(it["removed"] for it in done):
+                print(LEFT)
     finally:
         if words.json:
             print_json({"foreseen": rows, "kept": kept, "done": done})

@@ -1,5 +1,5 @@
-"""What the desk reads in the vault's tables while the engine hasn't the file; it never writes there, and nothing else
-of the desk opens them, or an index of them (`index.py`).
+"""What the desk reads in the vault's tables while the engine hasn't the file; it never changes a row there, and nothing
+else of the desk opens them, or an index of them (`index.py`).
 
 Lists, pasts and sums are asked by the queries that auditors have too (`contrib/queries`), so that stock `sqlite3` gives
 the same answers.
@@ -7,6 +7,7 @@ the same answers.
 
 from __future__ import annotations
 
+import itertools
 import os
 import re
 import sqlite3
@@ -185,3 +186,38 @@ def take_in_log(copy: Path, is_kept: bool = True) -> None:
             raise EngineError(f"{copy}: its log can't be copied into it")
     for end in ("-wal", "-shm"):
         Path(f"{copy}{end}").unlink(missing_ok=True)
+
+
+def write_out(file: Path, new: Path) -> int:
+    """Writes the tables of a vault that no program has into an empty file, by SQLite's VACUUM: so without what no table
+    has any more. The vault's log is copied into its file, and stays. The new file's `user_version`, which is returned,
+    is the vault's and one more.
+
+    `EngineError` where that can't be done."""
+    place = f"file:{urllib.parse.quote(str(file))}?mode=rw"
+    try:
+        with closing(sqlite3.connect(place, uri=True, timeout=0, isolation_level=None)) as opened:
+            is_busy, pages, copied = opened.execute("PRAGMA wal_checkpoint(FULL)").fetchone()
+            if is_busy or pages != copied:
+                raise EngineError(f"{file}: its log can't be copied into it")
+            opened.execute("PRAGMA secure_delete = ON")
+            opened.execute("VACUUM INTO ?", (str(new),))
+            number = int(opened.execute("PRAGMA user_version").fetchone()[0]) + 1
+        with closing(sqlite3.connect(new, isolation_level=None)) as made:
+            made.execute(f"PRAGMA user_version = {number}")
+            made.execute("PRAGMA journal_mode = WAL")
+    except sqlite3.Error as error:
+        raise _error(file, error) from error
+    return number
+
+
+def differing(file: Path, other: Path) -> str:
+    """The first table of which two files don't have the same rows in the same order; that of the tables themselves is
+    `sqlite_schema`. Empty where there is none. `EngineError` as of `rows`."""
+    with _opened(file) as one, _opened(other) as two:
+        named = one.execute("SELECT name FROM sqlite_schema WHERE type = 'table'").fetchall()
+        for name, columns in (("sqlite_schema", "type, name, tbl_name, sql"), *((name, "*") for (name,) in named)):
+            rows = (it.execute(f'SELECT {columns} FROM "{name}"') for it in (one, two))
+            if any(those[0] != those[1] for those in itertools.zip_longest(*rows)):
+                return str(name)
+    return ""

@@ -44,6 +44,19 @@ def is_taken(file: Path) -> bool:
     return bool(struct.unpack(LOCK, found)[0] != fcntl.F_UNLCK)
 
 
+@contextmanager
+def kept_still(file: Path) -> Iterator[BinaryIO]:
+    """No engine opens the vault within the `with` block, which gets the file, while SQLite may read it. `EngineError`
+    where a program has it."""
+    asked = struct.pack(LOCK, fcntl.F_RDLCK, os.SEEK_SET, *READERS, 0)
+    with file.open("rb") as opened:
+        try:
+            fcntl.fcntl(opened, fcntl.F_OFD_SETLK, asked)
+        except BlockingIOError as error:
+            raise EngineError(f"{file}: a server or another program has the vault") from error
+        yield opened
+
+
 def log_of(file: Path) -> Path:
     """The log of a vault's file, or of a copy."""
     return Path(f"{file}-wal")

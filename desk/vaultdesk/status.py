@@ -7,19 +7,20 @@ from collections.abc import Mapping
 from pathlib import Path
 from typing import Any
 
-from vaultdesk import conf
+from vaultdesk import conf, wiped
 from vaultdesk.engine import Engine
 from vaultdesk.errors import DeskError, UsageError
 from vaultdesk.health import Health, moved
 from vaultdesk.output import print_json
 
 ABOUT = """Says how a vault is that a server has: since when it is served and by which version, how many entries were
-ever admitted, when the last change was, how often its file failed since then, and whether its files are where the
-server opened them. It takes a caller with the right admin. Where the file failed or isn't there the status is 1, and a
-line says what to do."""
+ever admitted, when the last change was, how often its file failed since then, when the bytes of what was removed were
+wiped from it last, and whether its files are where the server opened them. It takes a caller with the right admin.
+Where the file failed or isn't there the status is 1, and a line says what to do."""
 # What is said of each, in this order.
 NAMED = (("since", "served since"), ("version", "version"), ("entries", "entries"), ("last", "last change"),
-         ("failures", "failures"))  # fmt: skip
+         ("failures", "failures"), ("wiped", "last wiped"))  # fmt: skip
+UNKNOWN = {"since": "unknown, as the clock showed no moment", "wiped": "isn't noted"}
 
 
 def asked(engine: Engine, do: str, **members: Any) -> Mapping[str, Any]:
@@ -51,11 +52,12 @@ def status(engine: Engine, words: argparse.Namespace) -> None:
     assert engine.door
     file = engine.desk.vault
     away = moved(file, engine.door.process()) if file else ()
+    found = {**found, "wiped": (wiped.of(file).last if file else "") or None}
     if words.json:
         print_json({**found, "moved": [str(it) for it in away]})
     else:
         for name, label in NAMED:
-            value = "unknown, as the clock showed no moment" if found[name] is None else found[name]
+            value = UNKNOWN.get(name, "unknown") if found[name] is None else found[name]
             print(f"{label:12}  {value}")
     fault = Health(away, found["failures"]).fault(unit_of(file) if file else "")
     if fault:

@@ -6,25 +6,28 @@ import argparse
 import hashlib
 import json
 from collections.abc import Iterator, Sequence
+from contextlib import contextmanager
 from dataclasses import dataclass
 from pathlib import Path
 from typing import Any
 
-from vaultdesk import conf, copies, moments, reading, snapshot
+from vaultdesk import conf, copies, moments, reading, snapshot, wiped
 from vaultdesk.engine import Engine
 from vaultdesk.errors import DeskError, UsageError
 from vaultdesk.output import counted_off, print_json, print_rows, shown
+from vaultdesk.wiped import Wipes
 
 HAS, MAY, NONE, UNKNOWN = "has them", "may have them", "has none", "isn't known"
 COLUMNS = ("bytes", "kind", "versions", "place")
 ENTRIES = "SELECT id, bucket, key, lower(hex(digest)), removed FROM entries WHERE digest IS NOT NULL AND "
 SAME = "SELECT id, removed FROM entries WHERE digest = ? ORDER BY id"
+OF_WIPE = ".wiping"  # after the vault's name: a file that a wipe was ended at
 UNREAD = ": it can't be read: "
 ELSEWHERE = "Not looked at: what was exported, printed, mailed or copied otherwise, as no vault knows of that."
 ABOUT = """Says which files have the bytes of a version, by its digest, so under whichever key: the vault's, its copies
 in BACKUP and in each --folder, and what restores, journals and a standby keep beside it. What holds the content in a
-version has them. Where such a version was removed they may be in parts of the file that nothing uses, until others take
-their place. Of a second machine nothing is known here: ask there, with --vault."""
+version has them. Where such a version was removed they may be in parts of the file that nothing uses, until it is
+wiped. Of a second machine nothing is known here: ask there, with --vault."""
 Row = dict[str, Any]
 
 
@@ -87,22 +90,27 @@ def _within(folder: Path, *names: str) -> Iterator[Path]:
     yield from (it / name for it in there for name in names if (it / name).is_file())
 
 
-def _places(file: Path, folders: Sequence[Path]) -> Iterator[Place]:
+def places(file: Path, folders: Sequence[Path]) -> Iterator[Place]:
     """The files beside a vault, and in the folders of its copies, that may have what it has or had."""
     name, beside = file.name.removesuffix(".vault"), file.parent
     for folder in folders:
         yield from (Place("copy", it) for it in copies.found_in(folder, name) if it.suffix != ".vault-wal")
     replaced = (it for it in _within(beside, file.name) if it.parent.name.endswith(".replaced"))
     yield from (Place("replaced", it) for it in replaced if it.parent.name.startswith(f"{name}-"))
-    for ending in (".restored", ".whole"):
+    for ending, kind in ((".restored", "restore"), (".whole", "restore"), (OF_WIPE, "wipe")):
         left = beside / f"{file.name}{ending}"
-        yield from [Place("left of a restore", left)] if left.is_file() else []
+        yield from [Place(f"left of a {kind}", left)] if left.is_file() else []
     for it in _within(beside / f"{name}.journals", file.name, "journal"):
         yield Place("journal" if it.name == "journal" else "copy of a journal", it)
     yield from (Place("standby", it) for it in _within(beside / f"{name}.standby", file.name))
 
 
-def _configured(file: Path) -> conf.Configuration | None:
+def on_other(machine: str, file: Path) -> str:
+    """Where a second machine has the copies with which it follows a vault."""
+    return f"{machine}: {conf.vaults_folder()}/{file.name.removesuffix('.vault')}.standby: ask there"
+
+
+def configured(file: Path) -> conf.Configuration | None:
     """The configuration of a vault with units; none of another one."""
     name = file.name.removesuffix(".vault")
     is_one = conf.is_configured(name) and file.resolve() == (conf.vaults_folder() / f"{name}.vault").resolve()
@@ -112,21 +120,30 @@ def _configured(file: Path) -> conf.Configuration | None:
 # ---- what they have
 
 
-def _in_tables(file: Path, digest: str) -> tuple[str, Sequence[int]]:
+def _in_tables(file: Path, digest: str, wipes: Wipes) -> tuple[str, Sequence[int]]:
     """Whether a vault's file has the bytes of that digest, and in which versions it had them."""
     found = reading.rows(file, SAME, (bytes.fromhex(digest),))
     held = [number for number, removed in found if removed is None]
-    return (HAS, held) if held else (MAY, [number for number, _ in found]) if found else (NONE, [])
+    if held:
+        return HAS, held
+    is_wiped = all(wipes.when(number, moments.of_seconds(removed)) for number, removed in found)
+    return NONE if is_wiped else MAY, [number for number, _ in found]
 
 
-def _in_copy(file: Path, digest: str) -> tuple[str, Sequence[int]]:
-    index = Path(f"{file}-shm")
+@contextmanager
+def tables_of(copy: Path) -> Iterator[Path]:
+    """A file whose tables can be read, as `snapshot.readable` has it, of a copy, beside which nothing is left."""
+    index = Path(f"{copy}-shm")
     had_index = index.exists()
-    with snapshot.readable(file) as there:
-        found = _in_tables(there, digest)
+    with snapshot.readable(copy) as there:
+        yield there
     if not had_index:  # SQLite leaves it beside a file whose log it reads
         index.unlink(missing_ok=True)
-    return found
+
+
+def _in_copy(file: Path, digest: str, vault: Path) -> tuple[str, Sequence[int]]:
+    with tables_of(file) as there:
+        return _in_tables(there, digest, wiped.of(vault, file))
 
 
 def _content(line: bytes) -> bytes | None:
@@ -138,17 +155,23 @@ def _content(line: bytes) -> bytes | None:
         return None
 
 
+def digests_in(journal: Path) -> Iterator[str]:
+    """The digests of the contents that the lines of a journal put."""
+    with journal.open("rb") as lines:
+        for content in map(_content, lines):
+            if content is not None:
+                yield hashlib.sha256(content).hexdigest()
+
+
 def _in_journal(file: Path, digest: str) -> tuple[str, Sequence[int]]:
-    with file.open("rb") as lines:
-        contents = (_content(it) for it in lines)
-        is_there = any(it is not None and hashlib.sha256(it).hexdigest() == digest for it in contents)
-    return (HAS if is_there else NONE), []
+    return (HAS if digest in digests_in(file) else NONE), []
 
 
-def _row(place: Place, digest: str) -> Row:
+def _row(place: Place, digest: str, vault: Path) -> Row:
     """What a file has. One that can't be read may have anything."""
     try:
-        state, versions = (_in_journal if place.kind == "journal" else _in_copy)(place.path, digest)
+        is_journal = place.kind == "journal"
+        state, versions = _in_journal(place.path, digest) if is_journal else _in_copy(place.path, digest, vault)
     except (DeskError, OSError) as error:
         return _line(UNKNOWN, place.kind, [], f"{place.path}{UNREAD}{error}")
     return _line(state, place.kind, versions, str(place.path))
@@ -159,13 +182,13 @@ def _line(state: str, kind: str, versions: Sequence[int], place: str) -> Row:
 
 
 def _rows(engine: Engine, there: Sequence[Place], digest: str, machine: str) -> Iterator[Row]:
-    state, versions = _in_tables(engine.tables, digest)
-    yield _line(state, "vault", versions, str(engine.desk.file))
+    vault = engine.desk.file
+    state, versions = _in_tables(engine.tables, digest, wiped.of(vault, engine.tables))
+    yield _line(state, "vault", versions, str(vault))
     for it in counted_off(there, "files were looked at"):
-        yield _row(it, digest)
+        yield _row(it, digest, vault)
     if machine:
-        where = f"{machine}: {conf.vaults_folder()}/{engine.desk.file.name.removesuffix('.vault')}.standby"
-        yield _line(UNKNOWN, "standby", [], f"{where}: ask there")
+        yield _line(UNKNOWN, "standby", [], on_other(machine, vault))
 
 
 def _print(answers: Sequence[tuple[Sequence[Version], Sequence[Row]]]) -> None:
@@ -180,9 +203,9 @@ def _print(answers: Sequence[tuple[Sequence[Version], Sequence[Row]]]) -> None:
 def where(engine: Engine, words: argparse.Namespace) -> None:
     """Prints which files have the bytes of the versions that are meant. `DeskError` where one can't be read."""
     meant, file = _meant(engine, words), engine.desk.file
-    found = _configured(file)
+    found = configured(file)
     folders = [*map(Path, words.folder or []), *([found.backup()] if found and found.backup().is_dir() else [])]
-    there, machine = list(_places(file, folders)), found.standby() if found else ""
+    there, machine = list(places(file, folders)), found.standby() if found else ""
     by_digest: dict[str, list[Version]] = {}
     for it in meant:
         by_digest.setdefault(it.digest, []).append(it)

@@ -10,7 +10,7 @@ from collections.abc import Callable, Iterable, Iterator, Mapping, Sequence
 from pathlib import Path
 from typing import Any
 
-from vaultdesk import certificate_page, evidence, moments, noted, paper, parts, reading, spreadsheet
+from vaultdesk import certificate_page, evidence, moments, noted, paper, parts, reading, spreadsheet, wiped
 from vaultdesk.documents import look_free, write_content
 from vaultdesk.engine import Engine
 from vaultdesk.errors import DeskError, Refused, UsageError, of_file
@@ -67,14 +67,14 @@ def certificates(engine: Engine, words: argparse.Namespace) -> None:
     since, before = _span(words)
     rows = reading.query(engine.tables, "removed", since=since, before=before)
     callers = _callers(engine) if words.any_caller else {}
-    notes = noted.of(engine.tables)
     folder = Path(words.folder)
     names = [f"certificate-{it['version']:010}.txt" for it in rows]
     names += ["certificates.html", *(["certificates.pdf"] if words.pdf else [])]
     paths = [folder / it for it in names]
     look_free(paths, words.force)
     texts = list(counted_off(_certified(engine, rows, callers), "certificates", len(rows)))
-    described = zip(texts, (noted.as_html(notes.of_removed(it)) for it in rows), strict=True)
+    beside = _beside(engine, rows)
+    described = [(text, *beside[it["version"]]) for text, it in zip(texts, rows, strict=True)]
     made = certificate_page.page(described, engine.desk.asker)
     contents = [it.encode() for it in (*texts, made)]
     if words.pdf:
@@ -91,13 +91,21 @@ def certificates(engine: Engine, words: argparse.Namespace) -> None:
         print(f"{len(rows)} certificates in {folder}")
 
 
-def _noted(engine: Engine, words: argparse.Namespace) -> str:
-    """What the office noted of a removed version, for its page; empty where no page is asked for."""
+def _beside(engine: Engine, rows: Sequence[reading.Row]) -> dict[int, tuple[str, str]]:
+    """What stands beside the certificate of each of these removed versions: what the office noted of it as HTML, and
+    when its bytes were wiped."""
+    notes, wipes = noted.of(engine.tables), wiped.of(engine.desk.file, engine.tables)
+    return {
+        it["version"]: (noted.as_html(notes.of_removed(it)), wipes.when(it["version"], it["removed"])) for it in rows
+    }
+
+
+def _beside_one(engine: Engine, words: argparse.Namespace) -> tuple[str, str]:
+    """The same of the version that is meant; nothing where no page is asked for."""
     if not (words.html or words.pdf):
-        return ""
+        return "", ""
     rows = reading.query(engine.tables, "removed", since=None, before=None)
-    notes = noted.of(engine.tables)
-    return next((noted.as_html(notes.of_removed(it)) for it in rows if it["version"] == words.number), "")
+    return _beside(engine, [it for it in rows if it["version"] == words.number]).get(words.number, ("", ""))
 
 
 def certificate(engine: Engine, words: argparse.Namespace) -> None:
@@ -109,7 +117,8 @@ def certificate(engine: Engine, words: argparse.Namespace) -> None:
         raise DeskError(f"version {words.number} {what}: a certificate is of a removed version")
     row = {"bucket": str(found[0][0]), "version": words.number}
     [text] = _certified(engine, [row], _callers(engine) if words.any_caller else {})
-    is_written = paper.write(words, certificate_page.page([(text, _noted(engine, words))], engine.desk.asker))
+    made = certificate_page.page([(text, *_beside_one(engine, words))], engine.desk.asker)
+    is_written = paper.write(words, made)
     if words.json:
         print_json({**row, "text": text})
     elif not is_written:

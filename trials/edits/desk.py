@@ -21,6 +21,7 @@ LOCK, COLUMN, SHEETS = "test_inventory.Locks.", "test_inventory.Columns.", "test
 DATES, PATHS = "test_inventory.Dates.", "test_inventory.Paths."
 REFUSALS, SPELLING, BROKEN_OFF = "test_refusals.", "test_spelling.", "test_breaking_off."
 EDITS = [
+    ("ways", "{it.hex()}", "{it[:9].hex()}", "test_engine.Texts.test_a_content_is_in_hex_digits"),
     # keys that are altered
     ("contrib/queries/find.sql", "substr(key, 1, length(:prefix)) = :prefix", "key LIKE :prefix || '%'",
      FIND + "test_a_prefix_and_a_text_are_taken_letter_by_letter"),

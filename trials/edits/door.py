@@ -38,7 +38,7 @@ EDITS = [
     ("door", "if len(os.fsencode(it)) <= LONGEST]", "]", DOORS + "test_a_path_that_is_too_long_for_a_socket_is_no_door"),
     ("door", "(FileNotFoundError, ConnectionRefusedError, NotADirectoryError)", "FileNotFoundError",
      DOORS + "test_a_socket_that_a_killed_server_left_is_none"),
-    ("door", "                if isinstance(error, PermissionError):\n", "                if False:\n",
+    ("door", "        if isinstance(error, PermissionError):\n", "        if False:\n",
      DOORS + "test_who_may_not_come_is_told_so"),
     ("door", "socket.AF_INET if is_port else socket.AF_UNIX", "socket.AF_UNIX", DOORS + "test_a_door_at_a_port"),
     # what is answered there

@@ -75,7 +75,7 @@ EDITS = [
     ("noted", "noted = {**self.facts(row), ", "noted = {", SHOWN + "test_beside_certificates_and_in_the_register"),
     ("years_end", "(*COLUMNS, *facts), words.force", "COLUMNS, words.force",
      SHOWN + "test_beside_certificates_and_in_the_register"),
-    ("page", "*([\"title\"] if any(titles) else [])", "", SHOWN + "test_on_the_page_of_the_vault"),
+    ("page", "if any(it)}", "if any(it) and name != \"title\"}", SHOWN + "test_on_the_page_of_the_vault"),
     ("cards", "if not (it[\"key\"].endswith(ENDING) and it[\"key\"].removesuffix(ENDING) in keys)]", "]",
      SHOWN + "test_in_the_list_of_an_export_and_not_as_files"),
     ("exporting", "\"legal_hold\": found[\"hold\"], **facts}", "\"legal_hold\": found[\"hold\"]}",

@@ -11,6 +11,7 @@ from __future__ import annotations
 
 import hashlib
 import json
+import os
 import re
 import secrets
 import threading
@@ -42,7 +43,7 @@ def name_of(*parts: str) -> str:
 
 
 def what_of(caller: str, members: Mapping[str, Any]) -> str:
-    """A digest of who puts what, where, and with which locks."""
+    """A digest of who puts what, where, and with which locks. The members of its line have the content's digest."""
     return _digest(caller, json.dumps(members, sort_keys=True))
 
 
@@ -151,7 +152,11 @@ class Unanswered:
         self.puts[put.name] = put
         if self.folder:
             try:
-                (self.folder / put.name).write_text(f"{put.what}\n", encoding="ascii")
+                note = os.open(f"{self.folder}/{put.name}", os.O_WRONLY | os.O_CREAT | os.O_TRUNC, 0o600)
+                try:
+                    os.write(note, f"{put.what}\n".encode("ascii"))
+                finally:
+                    os.close(note)
             except OSError as error:
                 self._give_up(error)
 
@@ -159,7 +164,9 @@ class Unanswered:
         del self.puts[name]
         if self.folder:
             try:
-                (self.folder / name).unlink(missing_ok=True)
+                os.unlink(f"{self.folder}/{name}")
+            except FileNotFoundError:
+                pass
             except OSError as error:
                 self._give_up(error)
 

@@ -7,7 +7,6 @@ admission tells a version from one that had its number before an older copy of t
 
 from __future__ import annotations
 
-import hashlib
 import os
 import re
 import threading
@@ -21,11 +20,6 @@ from vaultdesk.output import say
 from vaultdesk.replacing import write_anew
 
 LINE = re.compile(r"(\d{1,10}) (\d{4}-\d\d-\d\dT\d\d:\d\d:\d\dZ) ([0-9a-f]{32})\n")
-
-
-def md5_of(content: bytes) -> str:
-    """The MD5 of a content, in hex digits."""
-    return hashlib.md5(content, usedforsecurity=False).hexdigest()
 
 
 class Etags:
@@ -85,9 +79,8 @@ class Etags:
         there, md5 = self.known.get(version, ("", ""))
         return md5 if there == admitted else None
 
-    def note(self, version: int, admitted: str, content: bytes) -> str:
+    def note(self, version: int, admitted: str, md5: str) -> str:
         """Notes the MD5 of a version's content, and returns it. A file that can't be written is given up."""
-        md5 = md5_of(content)
         with self.turn:
             if self.known.get(version) == (admitted, md5):
                 return md5

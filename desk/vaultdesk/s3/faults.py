@@ -14,6 +14,7 @@ STATUSES = {
     "InternalError": 500,
     "InvalidAccessKeyId": 403,
     "InvalidChunkSizeError": 403,
+    "InvalidPartNumber": 416,
     "InvalidRange": 416,
     "MethodNotAllowed": 405,
     "MissingContentLength": 411,

@@ -15,6 +15,7 @@ from vaultdesk.s3 import bodies, heads, routes, signature, xml
 from vaultdesk.s3.again import Client
 from vaultdesk.s3.asked import Asked, Vault
 from vaultdesk.s3.faults import Fault
+from vaultdesk.s3.framing import Source
 from vaultdesk.s3.keys import Key, Keys
 from vaultdesk.s3.request import Answer, Request
 from vaultdesk.s3.signature import Signed
@@ -70,7 +71,7 @@ class Gateway:
             raise Fault("SlowDown", f"other large documents took {WAIT} seconds")
 
     def carry_out(
-        self, request: Request, begin: Callable[[float], bodies.Source], client: Client | None = None
+        self, request: Request, begin: Callable[[float], Source], client: Client | None = None
     ) -> tuple[str, Answer]:
         """The caller, and the answer. `begin` has the client send its body, within that many seconds. `Fault` where the
         request is refused."""

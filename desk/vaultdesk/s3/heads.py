@@ -40,8 +40,8 @@ def look_at_names(request: Request, known: set[str]) -> None:
     if request.method in ("GET", "HEAD"):
         return
     allowed = PLAIN | known | {"x-amz-expected-bucket-owner"}
-    for it in request.headers:
-        if it.startswith("x-amz-") and it not in allowed and not it.startswith(checksums.PREFIX):
+    for it in request.own:
+        if it not in allowed and not it.startswith(checksums.PREFIX):
             raise refused_upload(it)
 
 
@@ -54,7 +54,7 @@ def look_at_change(request: Request) -> None:
 
 def look_at_upload(request: Request, settings: Settings) -> set[str]:
     """The names of S3's headers that are dropped. `Fault` where one of the upload's can't be kept."""
-    headers = request.headers
+    headers, own = request.headers, request.own
     look_at_change(request)
     codings = headers.get("content-encoding", "").lower().replace(" ", "").split(",")
     if any(it not in ("", "aws-chunked", "identity") for it in codings):
@@ -62,13 +62,13 @@ def look_at_upload(request: Request, settings: Settings) -> set[str]:
     for it in DESCRIBING:
         if headers.get(it):
             raise refused_upload(it)
-    if any(it.startswith("x-amz-server-side-encryption") for it in headers):
+    if any(it.startswith("x-amz-server-side-encryption") for it in own):
         raise Fault("InvalidEncryptionAlgorithmError", "the vault doesn't encrypt, so nothing was put")
-    if headers.get("x-amz-acl", "private") not in ACLS or any(it.startswith("x-amz-grant-") for it in headers):
+    if headers.get("x-amz-acl", "private") not in ACLS or any(it.startswith("x-amz-grant-") for it in own):
         raise Fault("AccessControlListNotSupported", "the vault has no access control lists, so nothing was put")
     if ("x-amz-object-lock-mode" in headers) != ("x-amz-object-lock-retain-until-date" in headers):
         raise Fault("InvalidRequest", ONE_ALONE)
-    metadata = {it for it in headers if it.startswith("x-amz-meta-")}
+    metadata = {it for it in own if it.startswith("x-amz-meta-")}
     kept = {it for it in metadata if it.removeprefix("x-amz-meta-") not in settings.dropped_metadata}
     if kept:
         raise refused_upload(min(kept))

@@ -58,12 +58,17 @@ class Incoming(io.RawIOBase):
         try:
             if seconds <= 0:
                 raise TimeoutError
-            self.connection.settimeout(min(self.patience, seconds))
+            self._have(min(self.patience, seconds))
             return self.connection.recv_into(buffer)
         except TimeoutError as error:
             raise Fault("RequestTimeout", "the request came too slowly") from error
         finally:
-            self.connection.settimeout(self.patience)
+            self._have(self.patience)
+
+    def _have(self, seconds: float) -> None:
+        """Has a call of the connection take that long at most; each change is a call of the system."""
+        if self.connection.gettimeout() != seconds:
+            self.connection.settimeout(seconds)
 
     def _begin_head(self, buffer: memoryview) -> int:
         """The first bytes of a next head; none where it doesn't come, or another connection has the place by now."""

@@ -82,6 +82,7 @@ class Keys:
 
     def __init__(self, path: Path) -> None:
         self.path = path
+        self.place = str(path)
         self.seen: tuple[int, int, int] | None = None
         self.keys: dict[str, Key] = {}
         self.look()
@@ -89,7 +90,7 @@ class Keys:
     def look(self) -> None:
         """Reads the file, if it has changed. `DeskError` as of `read`."""
         try:
-            there = self.path.stat()
+            there = os.stat(self.place)
         except OSError as error:
             raise DeskError(f"{self.path}: {error.strerror}") from error
         seen = there.st_mtime_ns, there.st_ino, there.st_mode

@@ -4,22 +4,23 @@ from __future__ import annotations
 
 import datetime as dt
 import email.utils
-import hashlib
 import re
 from collections.abc import Mapping
 from contextlib import suppress
 from dataclasses import replace
 from typing import Any, NamedTuple
 
-from vaultdesk.s3 import again, etags, heads, xml
+from vaultdesk.s3 import again, heads, xml
 from vaultdesk.s3.asked import Asked, xml_answer
+from vaultdesk.s3.bodies import Body, body_of
 from vaultdesk.s3.checksums import base64_of
 from vaultdesk.s3.door import Told
 from vaultdesk.s3.faults import Fault
 from vaultdesk.s3.request import Answer, Request, look_at_key, number, read as read_request
 
 MOST_DELETED = 1_000  # keys of one DeleteObjects
-RANGE = re.compile(r"bytes=(\d{0,19})-(\d{0,19})")
+RANGE = re.compile(r"bytes=[ \t]*(\d{0,19})-(\d{0,19})[ \t]*", re.ASCII | re.IGNORECASE)
+MOST_PARTS = 10_000  # parts of an upload, as S3 numbers them
 DESCRIBING = (
     "cache-control", "content-disposition", "content-encoding", "content-language", "content-type", "expires",
 )  # fmt: skip
@@ -54,13 +55,14 @@ def _is_newest(asked: Asked, version: int) -> bool:
         return fault.code == "AccessDenied"
 
 
-def _take_in_signed(asked: Asked, own: str, members: Mapping[str, Any]) -> Told:
-    """Has a put without an id admitted, in its own batch or in that of the same put whose answer was lost.
+def _take_in_signed(asked: Asked, own: str, members: Mapping[str, Any], what: str) -> Told:
+    """Has a put without an id admitted, in its own batch or in that of the same put whose answer was lost; `what` is
+    the same of both.
 
     `Fault` where this very request was carried out before, and another version of the key came since: nobody knows
     whether it was put again or sent again."""
     notes = asked.vault.unanswered
-    put = notes.begin(again.what_of(asked.caller, members), own, asked.signature, asked.client.is_lost)
+    put = notes.begin(what, own, asked.signature, asked.client.is_lost)
     try:
         told = _take_in(asked, put.name, members)
         is_overtaken = told.value["again"] and not _is_newest(asked, told.value["version_id"])
@@ -75,17 +77,18 @@ def _take_in_signed(asked: Asked, own: str, members: Mapping[str, Any]) -> Told:
     notes.end(put)
     if put.is_own:
         raise Fault("OperationAborted", OVERTAKEN)
-    return _take_in_signed(asked, own, members)
+    return _take_in_signed(asked, own, members, what)
 
 
-def _put_once(asked: Asked, content: bytes) -> Told:
+def _put_once(asked: Asked, body: Body) -> Told:
     """Has a put admitted as one version, also if it was sent before."""
-    members = {**asked.place, "hex": content.hex(), **heads.locks_of(asked.request)}
+    members: dict[str, Any] = {**asked.place, "hex": body.content, **heads.locks_of(asked.request)}
     asked.vault.unanswered.look(asked.signature, asked.invocation)
     if asked.invocation:
         return _take_in(asked, again.name_of("id", asked.caller, asked.invocation), members)
-    signs = ("signature", asked.caller, asked.signature, hashlib.sha256(content).hexdigest()) if asked.signature else ()
-    return _take_in_signed(asked, again.name_of(*signs), members)
+    signs = ("signature", asked.caller, asked.signature, body.sha256) if asked.signature else ()
+    what = again.what_of(asked.caller, {**members, "hex": body.sha256})
+    return _take_in_signed(asked, again.name_of(*signs), members, what)
 
 
 class Admitted(NamedTuple):
@@ -104,22 +107,22 @@ def _admission(asked: Asked, version: int) -> str | None:
         return None
 
 
-def _admitted(asked: Asked, content: bytes) -> Admitted:
+def _admitted(asked: Asked, body: Body) -> Admitted:
     """Has a content admitted with the locks that are asked for."""
     if xml.UNWRITABLE.search(asked.request.key):
         raise Fault("InvalidArgument", "no list could show a key with U+FFFE or U+FFFF")
-    told = _put_once(asked, content)
+    told = _put_once(asked, body)
     version = int(told.value["version_id"])
     if not told.value["again"]:
         _look_at_guard(asked, version)
     if told.value["again"]:
         # Admitted by an earlier request; it may be gone by now, so nothing more is asked of it.
-        return Admitted(version, etags.md5_of(content), told.at)
+        return Admitted(version, body.md5, told.at)
     moment = told.at if told.is_certain else _admission(asked, version)
     if moment is None:
         # By a second the MD5 would be noted of another moment: it is noted as the version is read.
-        return Admitted(version, etags.md5_of(content), told.at)
-    return Admitted(version, asked.vault.etags.note(version, moment, content), moment)
+        return Admitted(version, body.md5, told.at)
+    return Admitted(version, asked.vault.etags.note(version, moment, body.md5), moment)
 
 
 def _look_at_guard(asked: Asked, version: int) -> None:
@@ -135,7 +138,7 @@ def _look_at_guard(asked: Asked, version: int) -> None:
 
 def put(asked: Asked) -> Answer:
     """A new version of a key."""
-    done = _admitted(asked, asked.body.content)
+    done = _admitted(asked, asked.body)
     return Answer(200, {"ETag": f'"{done.md5}"', "x-amz-version-id": str(done.version), **asked.body.checksums})
 
 
@@ -143,7 +146,7 @@ def _source(text: str) -> Request:
     """What a copy is made of, as a request for it."""
     path, _, version = text.partition("?versionId=")
     query = f"?versionId={version}" if version else ""
-    source = read_request("GET", f"/{path.removeprefix('/')}{query}", [])
+    source = read_request("GET", f"/{path.removeprefix('/')}{query}", {})
     if "?" in path or not source.key:
         raise Fault("InvalidArgument", "x-amz-copy-source is BUCKET/KEY, or BUCKET/KEY?versionId=ID")
     look_at_key(source.key)
@@ -157,10 +160,10 @@ def copy(asked: Asked) -> Answer:
     if (source.bucket, source.key) == (asked.request.bucket, asked.request.key) and not source.version:
         raise Fault("InvalidRequest", TO_ITSELF)
     found = asked.ask("get", bucket=source.bucket, key=source.key, **source.version)
-    content = bytes.fromhex(found["hex"])
+    content = body_of(bytes.fromhex(found["hex"]))
     prefix = "x-amz-copy-source-"
     conditions = {name.removeprefix(prefix): value for name, value in headers.items() if name.startswith(prefix)}
-    if _condition(conditions, etags.md5_of(content), found["admitted"]):
+    if _condition(conditions, content.md5, found["admitted"]):
         raise Fault("PreconditionFailed", "the source isn't what x-amz-copy-source-if says")
     done = _admitted(asked, content)
     answer = xml_answer("CopyObjectResult", [("LastModified", stamp(done.moment)), ("ETag", f'"{done.md5}"')])
@@ -205,15 +208,34 @@ def _condition(headers: Mapping[str, str], md5: str, admitted: str) -> int:
     return 0
 
 
-def _range(request: Request, size: int, md5: str) -> tuple[int, int] | None:
-    """The first byte and the one after the last of the range that is asked for; none: the whole.
+def _is_still(text: str, md5: str, admitted: str) -> bool:
+    """Whether `If-Range` names this version, by its ETag or by the second of its admission (RFC 9110, 13.1.5)."""
+    return text == _date(admitted) or text.strip('"') == md5
+
+
+def _part(request: Request, size: int) -> tuple[int, int] | None:
+    """The part of that number: each version is one of one part. `Fault` where it has no such part."""
+    part = number(request.query["partNumber"], "partNumber")
+    if not 1 <= part <= MOST_PARTS:
+        raise Fault("InvalidArgument", f"partNumber is a number from 1 to {MOST_PARTS:,}")
+    if "range" in request.headers:
+        raise Fault("InvalidRequest", "a Range and a partNumber can't both be asked for")
+    if part > 1:
+        raise Fault("InvalidPartNumber", "the version is of one part")
+    return (0, size) if size else None
+
+
+def _range(request: Request, size: int, md5: str, admitted: str) -> tuple[int, int] | None:
+    """The first byte and the one after the last of the range or the part that is asked for; none: the whole.
 
     `Fault` where it lies outside. Several ranges are answered by the whole, as by S3."""
+    if "partNumber" in request.query:
+        return _part(request, size)
     text = request.headers.get("range")
     found = RANGE.fullmatch(text) if text else None
     if not found or (found[1] == "" and found[2] == ""):
         return None
-    if "if-range" in request.headers and not _is_listed(request.headers["if-range"], md5):
+    if "if-range" in request.headers and not _is_still(request.headers["if-range"], md5, admitted):
         return None
     if found[1] == "":
         first, last = max(0, size - int(found[2])), size - 1
@@ -259,7 +281,7 @@ def _told(asked: Asked) -> tuple[dict[str, Any], bytes, str]:
         line["id"] = told["version_id"]
     told = asked.ask("get", **line)
     content = bytes.fromhex(told["hex"])
-    return told, content, asked.vault.etags.note(told["version_id"], told["admitted"], content)
+    return told, content, asked.vault.etags.note(told["version_id"], told["admitted"], body_of(content).md5)
 
 
 def get(asked: Asked) -> Answer:
@@ -272,15 +294,13 @@ def get(asked: Asked) -> Answer:
         return Answer(304, {it: headers[it] for it in ("ETag", "Last-Modified", "x-amz-version-id")})
     if status:
         raise Fault("PreconditionFailed", "the version isn't what the condition says")
-    part = _range(request, told["size"], md5)
-    if part is None:
-        if request.headers.get("x-amz-checksum-mode", "").upper() == "ENABLED":
-            headers["x-amz-checksum-sha256"] = base64_of(bytes.fromhex(told["sha256"]))
-            headers["x-amz-checksum-type"] = "FULL_OBJECT"
-        first, end = 0, told["size"]
-    else:
-        first, end = part
+    part = _range(request, told["size"], md5, told["admitted"])
+    first, end = part or (0, told["size"])
+    if part:
         headers["Content-Range"] = f"bytes {first}-{end - 1}/{told['size']}"
+    if end - first == told["size"] and request.headers.get("x-amz-checksum-mode", "").upper() == "ENABLED":
+        headers["x-amz-checksum-sha256"] = base64_of(bytes.fromhex(told["sha256"]))
+        headers["x-amz-checksum-type"] = "FULL_OBJECT"
     headers["Content-Length"] = str(end - first)
     return Answer(200 if part is None else 206, headers, b"" if request.method == "HEAD" else content[first:end])
 

@@ -6,6 +6,7 @@ import re
 import urllib.parse
 from collections.abc import Mapping, Sequence
 from dataclasses import dataclass, field
+from functools import cached_property
 
 from vaultdesk.s3.faults import Fault
 
@@ -24,6 +25,8 @@ class Answer:
 def _text(part: str, is_form: bool = False) -> str:
     """What a part of a target stands for. `Fault` where it isn't UTF-8."""
     raw = part.replace("+", " ") if is_form else part
+    if "%" not in raw and raw.isascii():
+        return raw
     try:
         return urllib.parse.unquote_to_bytes(raw.encode("latin-1")).decode("utf-8")
     except UnicodeError as error:
@@ -35,14 +38,14 @@ def _pairs(query: str) -> list[tuple[str, str]]:
     return [(_text(name, is_form=True), _text(value, is_form=True)) for name, _, value in parts]
 
 
-def _joined(headers: Sequence[tuple[str, str]]) -> dict[str, str]:
-    """Values by lower-case names; those of a name that stands twice are joined, so that none counts alone."""
-    joined: dict[str, str] = {}
+def joined(headers: Sequence[tuple[str, str]]) -> dict[str, str]:
+    """Values by lower-case names; those of a name that comes twice are joined, so that none counts alone."""
+    found: dict[str, str] = {}
     for name, value in headers:
         lower = name.lower()
         value = value.strip(" \t")
-        joined[lower] = f"{joined[lower]},{value}" if lower in joined else value
-    return joined
+        found[lower] = f"{found[lower]},{value}" if lower in found else value
+    return found
 
 
 @dataclass(frozen=True)
@@ -57,10 +60,15 @@ class Request:
     bucket: str
     key: str
 
-    @property
+    @cached_property
     def query(self) -> dict[str, str]:
         """The values of the query by their names, each of which stands once."""
         return dict(self.pairs)
+
+    @cached_property
+    def own(self) -> Sequence[str]:
+        """The names of S3's own headers."""
+        return [it for it in self.headers if it.startswith("x-amz-")]
 
     @property
     def version(self) -> dict[str, int]:
@@ -92,8 +100,10 @@ def look_at_key(key: str) -> None:
         raise Fault("InvalidArgument", f"{why}, and no key may have one: name it otherwise")
 
 
-def read(method: str, target: str, headers: Sequence[tuple[str, str]]) -> Request:
-    """The request of a head. `Fault` where its target can't be read, or a name of its query stands twice."""
+def read(method: str, target: str, headers: Mapping[str, str]) -> Request:
+    """The request of a head, whose headers are by lower-case names.
+
+    `Fault` where its target can't be read, or a name of its query comes twice."""
     path, _, raw_query = target.partition("?")
     if not path.startswith("/") or "#" in target:
         raise Fault("InvalidURI", "the target is a path with its query")
@@ -101,4 +111,4 @@ def read(method: str, target: str, headers: Sequence[tuple[str, str]]) -> Reques
     if len({name for name, _ in pairs}) < len(pairs):
         raise Fault("InvalidArgument", "a name stands twice in the query")
     bucket, _, key = path[1:].partition("/")
-    return Request(method, path, raw_query, _joined(headers), pairs, _text(bucket), _text(key))
+    return Request(method, path, raw_query, headers, pairs, _text(bucket), _text(key))

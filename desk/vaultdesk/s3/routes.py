@@ -49,6 +49,7 @@ class Call:
 
 
 VERSION = frozenset({"versionId"})
+READ = VERSION | {"partNumber"} | set(objects.OVERRIDES)
 LISTED = frozenset({"prefix", "delimiter", "max-keys", "encoding-type"})
 UPLOADS = frozenset({"key-marker", "upload-id-marker", "max-uploads"})
 # By method, what the target names (a service, a bucket, or a key), and the name in its query that selects the call.
@@ -76,8 +77,8 @@ CALLS: Mapping[tuple[str, str, str], Call] = {
     ),
     ("DELETE", "bucket", "lifecycle"): Call("DeleteBucketLifecycle", lifecycle.drop, look=_change),
     ("POST", "bucket", "delete"): Call("DeleteObjects", objects.delete_many, look=_change, most=DOCUMENT),
-    ("GET", "key", ""): Call("GetObject", objects.get, VERSION | set(objects.OVERRIDES)),
-    ("HEAD", "key", ""): Call("HeadObject", objects.get, VERSION | set(objects.OVERRIDES)),
+    ("GET", "key", ""): Call("GetObject", objects.get, READ),
+    ("HEAD", "key", ""): Call("HeadObject", objects.get, READ),
     ("PUT", "key", ""): Call("PutObject", objects.put, look=_upload, most=CONTENT),
     ("DELETE", "key", ""): Call("DeleteObject", objects.delete, VERSION, look=_change),
     ("GET", "key", "retention"): Call("GetObjectRetention", locks.get_retention, VERSION),
@@ -110,7 +111,7 @@ def _target(request: Request) -> str:
 def call_of(request: Request) -> Call:
     """The call that a request is. `Fault` where it is none of those that are translated."""
     names = set(request.query) - SIGNING
-    if {"uploads", "uploadId", "partNumber"} & names and request.method != "GET":
+    if {"uploads", "uploadId", "partNumber"} & names and request.method not in ("GET", "HEAD"):
         raise Fault("EntityTooLarge", bodies.IN_PARTS)
     target = _target(request)
     look_at_key(request.key)

@@ -2,7 +2,9 @@
 
 from __future__ import annotations
 
+import email.utils
 import fcntl
+import functools
 import http.server
 import io
 import re
@@ -18,17 +20,16 @@ import threading
 import time
 import urllib.parse
 from contextlib import suppress
-from http import HTTPStatus
 from typing import Any
 
 from vaultdesk import moments
 from vaultdesk.output import say, shown
 from vaultdesk.s3 import request as requests
 from vaultdesk.s3.again import Client, Put
-from vaultdesk.s3.bodies import Source
+from vaultdesk.s3.framing import Head, Source, read_head
 from vaultdesk.s3.faults import Fault
 from vaultdesk.s3.gateway import Gateway, of_fault, without_body
-from vaultdesk.s3.incoming import Incoming
+from vaultdesk.s3.incoming import LARGEST, Incoming
 from vaultdesk.s3.places import CONNECTIONS, Guest, Places
 from vaultdesk.s3.request import Answer, Request
 from vaultdesk.s3.settings import Settings
@@ -37,6 +38,7 @@ PATIENCE = 60  # seconds for the next bytes of a client, and between two request
 HEAD = 10  # seconds for a whole head
 LINGER = 5  # seconds in which a body that isn't wanted is read past, so that the answer arrives
 PAST = 33_554_432  # bytes of it, at most
+VALUES = re.compile("(?<=[?&])([^=&? ]*)=([^& ]*)")  # in a query
 BUSY = b"HTTP/1.1 503 Service Unavailable\r\nConnection: close\r\nContent-Length: 0\r\n\r\n"
 
 
@@ -48,7 +50,13 @@ def _noted(text: str) -> str:
         is_signature = urllib.parse.unquote(found[1]).lower() == "x-amz-signature"
         return f"{found[1]}=.." if is_signature else found[0]
 
-    return shown(re.sub("(?<=[?&])([^=&? ]*)=([^& ]*)", said, text))
+    return shown(VALUES.sub(said, text))
+
+
+@functools.lru_cache(2)
+def _date(moment: int) -> str:
+    """A second as headers have it."""
+    return email.utils.formatdate(moment, usegmt=True)
 
 
 class _Arriving:
@@ -74,6 +82,9 @@ class Handler(http.server.BaseHTTPRequestHandler):
     disable_nagle_algorithm = True
     server: Server
     rfile: io.BufferedReader
+    raw_requestline: bytes
+    head = Head()
+    target = ""
     idle: float | None = None  # seconds between two requests; before the first of a connection there are none
     is_begun = False
     is_answered = False
@@ -88,12 +99,28 @@ class Handler(http.server.BaseHTTPRequestHandler):
 
     def handle_one_request(self) -> None:
         """One request: its head, which has its time, and its answer."""
-        self.requestline, self.command, self.headers = "", "", self.MessageClass()
+        self.requestline, self.command, self.head = "", "", Head()
         self.incoming.await_head(HEAD, self.idle)
         try:
             super().handle_one_request()
         except Fault as fault:
             self._turn_away(fault)
+
+    def parse_request(self) -> bool:
+        """Reads the head. False where nothing came, `Fault` where its first line is none; whether the others are lines
+        of a head is looked at as the request is."""
+        self.close_connection = True
+        self.requestline = str(self.raw_requestline, "latin-1").rstrip("\r\n")
+        words = self.requestline.split()
+        if not words:
+            return False
+        if len(words) != 3 or words[2] not in ("HTTP/1.1", "HTTP/1.0"):
+            raise Fault("InvalidRequest", "the head can't be read")
+        self.command, self.target, self.request_version = words
+        self.head = read_head(self.rfile, LARGEST)
+        wishes = self._said("connection").replace(" ", "").split(",")
+        self.close_connection = "close" in wishes or self.request_version == "HTTP/1.0" and "keep-alive" not in wishes
+        return True
 
     def _turn_away(self, fault: Fault) -> None:
         """Answers a head that doesn't come, or is none, notes that in the log, and ends the connection."""
@@ -142,22 +169,22 @@ class Handler(http.server.BaseHTTPRequestHandler):
         if put and not self._has_arrived():
             self.server.gateway.vault.unanswered.lose(put)
 
-    def handle_expect_100(self) -> bool:
-        """The client goes on once the head has nothing that is refused."""
-        return True
-
     def _begin(self, seconds: float) -> Source:
         """Has the client send its body, for which it has that many seconds."""
         self.is_begun = True
         self.incoming.await_body(seconds)
-        if self.headers.get("Expect", "").lower() == "100-continue" and self.request_version != "HTTP/1.0":
+        if self._said("expect") == "100-continue" and self.request_version != "HTTP/1.0":
             self.wfile.write(b"HTTP/1.1 100 Continue\r\n\r\n")
         return _Arriving(self.rfile)
 
+    def _said(self, name: str, default: str = "") -> str:
+        """The value of a header, in lower case."""
+        return self.head.headers.get(name, default).lower()
+
     def _has_body(self) -> bool:
         """Whether a body may come, by any of what the head says of its length."""
-        lengths = [it.strip() for it in self.headers.get_all("Content-Length", ["0"])]
-        return lengths != ["0"] or "Transfer-Encoding" in self.headers
+        is_said = self._said("content-length", "0") != "0" or "transfer-encoding" in self.head.headers
+        return is_said or not self.head.is_whole
 
     def _may_send(self) -> bool:
         """Whether more may come of the request: what is left of a body is no next request."""
@@ -165,11 +192,9 @@ class Handler(http.server.BaseHTTPRequestHandler):
 
     def _read(self) -> Request:
         """The head as it came. `Fault` where it can't be read."""
-        # BaseHTTPRequestHandler.path has slashes taken away in front; what is signed has them.
-        target = self.requestline.split()[1]
-        if self.headers.defects or self.headers.get_payload():
-            raise Fault("InvalidRequest", "the head has a line that is no header")
-        return requests.read(self.command, target, list(self.headers.items()))
+        if not self.head.is_whole:
+            raise Fault("InvalidRequest", "the head has a line that is no header, or too many lines")
+        return requests.read(self.command, self.target, self.head.headers)
 
     def _answer(self) -> None:
         """Carries out the request, answers it, and notes it in the log."""
@@ -198,8 +223,7 @@ class Handler(http.server.BaseHTTPRequestHandler):
             try:
                 self._send(answer)
             finally:
-                target = _noted(self.requestline.split()[1])
-                self.server.note(f"{caller} {self.command} {target} {answer.status} {code}")
+                self.server.note(f"{caller} {self.command} {_noted(self.target)} {answer.status} {code}")
 
     def _send(self, answer: Answer) -> None:
         if self.command == "HEAD":
@@ -208,7 +232,7 @@ class Handler(http.server.BaseHTTPRequestHandler):
         # Whoever waits has the place next: there is no other request over this connection.
         self.close_connection = self.close_connection or self.server.places.is_wanted(self.client_address[0])
         headers = {
-            "Date": self.date_time_string(),
+            "Date": _date(int(time.time())),
             "Server": "vaultdesk",
             "x-amz-request-id": secrets.token_hex(8),
             "Connection": "close" if self.close_connection else "keep-alive",
@@ -216,7 +240,7 @@ class Handler(http.server.BaseHTTPRequestHandler):
         }
         if answer.status not in (204, 304):
             headers.setdefault("Content-Length", str(len(answer.body)))
-        first = f"HTTP/1.1 {answer.status} {HTTPStatus(answer.status).phrase}"
+        first = f"HTTP/1.1 {answer.status} {self.responses[answer.status][0]}"
         head = "\r\n".join([first, *(f"{name}: {value}" for name, value in headers.items()), "", ""])
         self.is_answered = True
         self.wfile.write(head.encode("latin-1") + answer.body)

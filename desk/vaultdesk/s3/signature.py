@@ -2,11 +2,11 @@
 
 from __future__ import annotations
 
-import calendar
+import datetime as dt
+import functools
 import hashlib
 import hmac
 import re
-import time
 import urllib.parse
 from collections.abc import Sequence
 from dataclasses import dataclass
@@ -19,7 +19,8 @@ UNSIGNED = "UNSIGNED-PAYLOAD"
 EMPTY = hashlib.sha256(b"").hexdigest()
 SKEW = 900  # seconds that a client's clock may differ
 LONGEST = 604_800  # seconds for which a presigned URL may be good
-DATE = re.compile(r"\d{8}T\d{6}Z")
+DATE = re.compile(r"\d{8}T\d{6}Z", re.ASCII)
+SPACES = re.compile("  +")
 SCOPE = re.compile(r"([^/]+)/(\d{8})/([^/]+)/s3/aws4_request")
 PARTS = re.compile(r"Credential=([^,\s]+),\s*SignedHeaders=([^,\s]+),\s*Signature=([0-9a-f]{64})")
 NO_PAYLOAD = f"x-amz-content-sha256 is missing: send and sign it, with the SHA-256 of the body or {UNSIGNED}"
@@ -113,7 +114,7 @@ def _canonical_query(request: Request) -> str:
 
 
 def _canonical_headers(request: Request, names: Sequence[str]) -> str:
-    return "".join(f"{it}:{re.sub(' +', ' ', request.headers.get(it, ''))}\n" for it in names)
+    return "".join(f"{it}:{SPACES.sub(' ', request.headers.get(it, ''))}\n" for it in names)
 
 
 def payload_of(request: Request, signed: Signed) -> str:
@@ -122,17 +123,22 @@ def payload_of(request: Request, signed: Signed) -> str:
     return request.headers.get("x-amz-content-sha256", default)
 
 
-def signing_key(secret: str, signed: Signed) -> bytes:
-    """The key that signs on that day, in that region."""
+@functools.lru_cache(256)
+def _derived(secret: str, day: str, region: str) -> bytes:
     key = f"AWS4{secret}".encode()
-    for part in (signed.day, signed.region, "s3", "aws4_request"):
+    for part in (day, region, "s3", "aws4_request"):
         key = hmac.digest(key, part.encode(), "sha256")
     return key
 
 
+def signing_key(secret: str, signed: Signed) -> bytes:
+    """The key that signs on that day, in that region."""
+    return _derived(secret, signed.day, signed.region)
+
+
 def sign(key: bytes, lines: Sequence[str]) -> str:
     """The signature of these lines."""
-    return hmac.new(key, "\n".join(lines).encode("latin-1"), hashlib.sha256).hexdigest()
+    return hmac.digest(key, "\n".join(lines).encode("latin-1"), "sha256").hex()
 
 
 def signature_of(request: Request, signed: Signed, key: bytes) -> str:
@@ -156,7 +162,7 @@ def _look_at_headers(request: Request, signed: Signed) -> None:
     """`Fault` where a header that says what is to be done isn't signed: anyone on the way could have set it."""
     if "host" not in signed.headers:
         raise Fault("AccessDenied", "the header host has to be signed")
-    unsigned = [it for it in request.headers if it.startswith("x-amz-") and it not in signed.headers]
+    unsigned = [it for it in request.own if it not in signed.headers]
     if unsigned:
         raise Fault("AccessDenied", f"these headers aren't signed: {', '.join(unsigned)}")
 
@@ -166,7 +172,7 @@ def _look_at_time(signed: Signed, now: float) -> None:
     if not DATE.fullmatch(signed.date) or signed.date[:8] != signed.day:
         raise Fault("AccessDenied", "x-amz-date is a moment, YYYYMMDDTHHMMSSZ, of the day of the credential")
     try:
-        begun = calendar.timegm(time.strptime(signed.date, "%Y%m%dT%H%M%SZ"))
+        begun = dt.datetime.fromisoformat(signed.date).timestamp()
     except ValueError as error:
         raise Fault("AccessDenied", "x-amz-date is no moment of the calendar") from error
     if signed.expires is None:
