@@ -1,7 +1,7 @@
 """Requests over HTTP on loopback, each with a connection of its own. The clients are Python."""
 
+import pathlib
 import socket
-import subprocess
 import sys
 import threading
 import time
@@ -10,6 +10,9 @@ import fixture
 import talk
 from turns import PROGRAM
 
+sys.path.append(str(pathlib.Path(__file__).resolve().parents[1]))
+from trials.parts.servers import HOST, ended, free_port, started
+
 GET = "GET /docs/%s HTTP/1.1\r\nx-vault-caller: ann\r\n\r\n"
 PUT = "PUT /docs/%s HTTP/1.1\r\nx-vault-caller: ann\r\ncontent-length: %d\r\n\r\n"
 
@@ -17,7 +20,7 @@ PUT = "PUT /docs/%s HTTP/1.1\r\nx-vault-caller: ann\r\ncontent-length: %d\r\n\r\
 def request(port, text):
     """The seconds that a request takes, until its whole answer is there."""
     began = time.perf_counter()
-    with socket.create_connection(("127.0.0.1", port)) as connection:
+    with socket.create_connection((HOST, port)) as connection:
         connection.sendall(text)
         answer = connection.recv(65_536)
         start = answer[:40]
@@ -33,10 +36,8 @@ class Server:
 
     def __init__(self, vaults, shape):
         path = fixture.copy(vaults.of(shape), vaults.folder / "served.vault")
-        self.port, self.shape, self.count = talk.free_port(), shape, 0
-        words = [vaults.program, "serve", path, str(self.port)]
-        self.process = subprocess.Popen(words, stdout=subprocess.DEVNULL, stderr=subprocess.DEVNULL)
-        talk.wait_for(self.port, self.process)
+        self.port, self.shape, self.count = free_port(), shape, 0
+        self.process = started(path, self.port, program=vaults.program)
 
     def put(self, size):
         self.count += 1
@@ -66,8 +67,7 @@ class Server:
 
     def end(self):
         most = talk.peak(self.process.pid)
-        self.process.terminate()
-        self.process.wait()
+        ended(self.process)
         return most
 
 

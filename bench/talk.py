@@ -5,9 +5,7 @@ import contextlib
 import os
 import re
 import resource
-import socket
 import subprocess
-import sys
 import threading
 import time
 
@@ -104,20 +102,3 @@ def run(words):
     done.set()
     watcher.join()
     return printed, seconds, used.ru_utime + used.ru_stime, max(peaks, default=0)
-
-
-def free_port():
-    """A port of 127.0.0.1 that nobody has."""
-    with socket.socket() as it:
-        it.bind(("127.0.0.1", 0))
-        return it.getsockname()[1]
-
-
-def wait_for(port, process):
-    """Waits until the port takes a connection, which counts as a request."""
-    while process.poll() is None:
-        with contextlib.suppress(OSError):
-            socket.create_connection(("127.0.0.1", port)).close()
-            return
-        time.sleep(0.01)
-    sys.exit("serve ended at once")

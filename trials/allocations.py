@@ -42,15 +42,14 @@ import sys
 from concurrent.futures import ThreadPoolExecutor
 from typing import NamedTuple
 
-from trials.program import EXAMPLES, IS_LONG, PROGRAM, Case, Ran, check, make_office, needs, printed, ran_words
-from proved import Loaded, first_number
+from trials.parts.in_turn import NEVER, each_in_turn, first_number
+from trials.parts.program import EXAMPLES, IS_LONG, PROGRAM, Case, Ran, check, make_office, needs, printed, ran_words
+from trials.preload.loaded import Loaded
 
 SCRIPT = EXAMPLES / "every-command.jsonl"
 JOBS = len(os.sched_getaffinity(0))
 # How many runs in a row that nothing troubles end the search.
 ENOUGH = 100
-# The number of an allocation that no run comes to.
-NEVER = 0
 # How long one run may take, in seconds.
 LIMIT = 60
 
@@ -232,22 +231,22 @@ def count_refused(reference, here, line, how):
 def sweep(program, lines, reference):
     """Judges each run. Fails where one is wrong, or a line is troubled by no refusal."""
     troubled, ways, last, untroubled = set(), collections.Counter(), 0, 0
-    with ThreadPoolExecutor(JOBS) as pool:
-        for begin in itertools.count(1, ENOUGH):
-            numbers = range(begin, begin + ENOUGH)
-            for number, here in zip(numbers, pool.map(lambda it: program.run(lines, it), numbers)):
-                line, how = judge(reference, here)
-                if how == "none":
-                    untroubled += 1
-                    continue
-                check(line >= last, f"allocation {number} troubles line {line + 1}, after line {last + 1}")
-                ways["none"] += untroubled
-                last, untroubled = line, 0
-                troubled.add(line)
-                ways[how] += 1
-                ways["altered outcomes, each refused"] += count_refused(reference, here, line, how)
-            if untroubled >= ENOUGH:
-                break
+
+    def judged(number):
+        here = program.run(lines, number)
+        return here, *judge(reference, here)
+
+    runs = each_in_turn(JOBS, judged, itertools.count(1), ENOUGH, lambda came: came[2] == "none")
+    for number, (here, line, how) in runs:
+        if how == "none":
+            untroubled += 1
+            continue
+        check(line >= last, f"allocation {number} troubles line {line + 1}, after line {last + 1}")
+        ways["none"] += untroubled
+        last, untroubled = line, 0
+        troubled.add(line)
+        ways[how] += 1
+        ways["altered outcomes, each refused"] += count_refused(reference, here, line, how)
     passed = sorted(it + 1 for it in set(range(len(lines))) - troubled)
     check(not passed, f"no allocation of lines {passed} was refused")
     return ways
@@ -385,29 +384,26 @@ class Jobs(Case):
         """The first allocation of a job after its vault is open."""
         return first_number(lambda it: not self.carried_out(name, it).ran.err.startswith("open: Memory"), EARLIEST)
 
-    def look_at(self, name: str, numbers: range, pool: ThreadPoolExecutor) -> collections.Counter[str]:
+    def look_at(self, name: str, numbers: range) -> collections.Counter[str]:
         """Judges a run for each of these allocations, up to the last one of the job; how often each ending came."""
         before, whole = tables_in(self.made), self.carried_out(name, NEVER)
         # Of the intake a row is refused.
         check(whole.ran.status == (name == "intake"), f"{name}: {whole.ran}")
-        ways, untroubled = collections.Counter[str](), 0
-        for some in (numbers[at:at + UNTROUBLED] for at in itertools.count(0, UNTROUBLED)):
-            for number, here in zip(some, pool.map(lambda it: self.carried_out(name, it), some)):
-                try:
-                    way = judge_job(name, before, whole, here)
-                except AssertionError as wrong:
-                    raise AssertionError(f"{name}, allocation {number}: {wrong}: {here.ran}") from None
-                untroubled = untroubled + 1 if way == "none" else 0
-                ways[way] += 1
-            if untroubled >= UNTROUBLED:
-                break
-        return ways
+
+        def judged(number: int) -> str:
+            here = self.carried_out(name, number)
+            try:
+                return judge_job(name, before, whole, here)
+            except AssertionError as wrong:
+                raise AssertionError(f"{name}, allocation {number}: {wrong}: {here.ran}") from None
+
+        runs = each_in_turn(JOBS, judged, numbers, UNTROUBLED, lambda way: way == "none")
+        return collections.Counter(way for _, way in runs)
 
     def test_jobs(self) -> None:
-        with ThreadPoolExecutor(JOBS) as pool:
-            for name in WORDS_OF:
-                is_whole = name in WHOLE
-                numbers = range(1 if is_whole else self.first(name), sys.maxsize, STEPS[not is_whole])
-                ways = self.look_at(name, numbers, pool)
-                check(len(ways) > 1, f"no allocation of {name} was refused")
-                print(f"allocations of {name}:", dict(ways))
+        for name in WORDS_OF:
+            is_whole = name in WHOLE
+            numbers = range(1 if is_whole else self.first(name), sys.maxsize, STEPS[not is_whole])
+            ways = self.look_at(name, numbers)
+            check(len(ways) > 1, f"no allocation of {name} was refused")
+            print(f"allocations of {name}:", dict(ways))

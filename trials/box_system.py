@@ -10,8 +10,8 @@ That needs root.
 """
 
 from trials.boxes import shown
-from trials.clean_system import needs_system
-from trials.program import Case, needs
+from trials.parts.clean_system import needs_system
+from trials.parts.program import Case, needs
 from trials.units import booted, prepared
 
 TAKES_LONG = True

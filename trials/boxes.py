@@ -12,7 +12,7 @@ import re
 import sys
 from typing import Iterator, Mapping, NamedTuple
 
-from trials.program import TOP, Case, check
+from trials.parts.program import TOP, Case, check
 
 BOXED = ("ENGINEER", "S3", "OFFICES", "AUDITOR")
 # The trials that take boxes from these pages.

@@ -18,7 +18,7 @@ import shutil
 import sqlite3
 import subprocess
 
-from trials.program import (
+from trials.parts.program import (
     CONTRIB, DESK, NOBODY, OPENED_AT, TOP, Case, carry_out, check, needs, printed, ran_words, shared_folder
 )
 

@@ -16,7 +16,7 @@ import functools
 import re
 import shlex
 
-from trials.program import EXAMPLES, Case, Ran, a_test_each, carry_out, check, ran, shared_folder
+from trials.parts.program import EXAMPLES, Case, Ran, a_test_each, carry_out, check, ran, shared_folder
 
 DAMAGES = EXAMPLES / "damages"
 EARLIER = ("schema1", "schema2")

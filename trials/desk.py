@@ -1,13 +1,12 @@
-"""Desk: its tests on mutants. Each row of the seven tables has to make the test fail that is beside it.
+"""Desk: its tests on mutants. Each row of the tables in `trials/edits` has to make the test fail that is beside it.
 
-The tables are desk_edits.py, records_edits.py (for records officers), door_edits.py (a vault that is served),
-handover_edits.py (what is handed over, on paper too), wipe_edits.py (bytes of what was removed), s3_edits.py (the
-gateway for clients of S3) and bodies_edits.py (documents' bytes outside the vault). A row of each has a module of the
-desk, a text in it, the text that takes its place, and a test of `desk/tests`. An edit is made in a copy of `desk`, which
-runs over the program. A body that names what isn't there says nothing of the test: it is no edit of these. The gate looks
-only whether each can be made, and its test is there (`CanBeMade`).
+A row has a module of the desk, a text in it, the text that takes its place, and a test of `desk/tests`. A table with the
+name of a folder of the desk's modules is about that folder. An edit is made in a copy of `desk`, which runs over the
+program. A body that names what isn't there says nothing of the test: it is no edit of these. The gate looks only whether
+each can be made, and its test is there (`CanBeMade`).
 """
 
+import importlib
 import os
 import pathlib
 import re
@@ -16,16 +15,10 @@ import sys
 from collections.abc import Iterator
 from typing import NamedTuple
 
-from trials import bodies_edits, desk_edits, door_edits, handover_edits, records_edits, s3_edits, wipe_edits
-from trials.program import PROGRAM, TOP, Case, a_test_each, check, ran_words
+from trials.parts.program import PROGRAM, TOP, Case, a_test_each, check, ran_words
 
 TAKES_LONG = True
-# Each table, and the folder of the modules that its rows name.
-OF_DESK = (desk_edits, records_edits, door_edits, handover_edits, wipe_edits)
-OF_PARTS = ((s3_edits, "desk/vaultdesk/s3"), (bodies_edits, "desk/vaultdesk/bodies"))
-TABLES = (*((it, "desk/vaultdesk") for it in OF_DESK), *OF_PARTS)
-
-
+TABLES = sorted(it.stem for it in (TOP / "trials" / "edits").glob("[a-z]*.py"))
 # Errors of a body that isn't one, with which each test fails.
 NO_BODY = re.compile(r"\b(NameError|UnboundLocalError|SyntaxError|IndentationError|ImportError|ModuleNotFoundError)\b.*")
 
@@ -60,8 +53,10 @@ class Edit(NamedTuple):
 
 def edits() -> Iterator[Edit]:
     """The rows of all tables."""
-    for table, folder in TABLES:
-        for module, old, new, test in table.EDITS:
+    for table in TABLES:
+        own = f"desk/vaultdesk/{table}"
+        folder = own if (TOP / own).is_dir() else "desk/vaultdesk"
+        for module, old, new, test in importlib.import_module(f"trials.edits.{table}").EDITS:
             # A query of contrib/ is named by its path.
             yield Edit(module if module.endswith(".sql") else f"{folder}/{module}.py", old, new, test)
 
@@ -71,6 +66,7 @@ EDITS = {f"{number} {it.file} {it.test}": it for number, it in enumerate(edits()
 
 class CanBeMade(Case):
     def test_edits(self) -> None:
+        self.assertLess(700, len(EDITS))
         self.assertEqual([why for it in EDITS.values() if (why := it.unmade(TOP))], [])
 
 

@@ -16,7 +16,7 @@ from pathlib import Path
 from typing import Any
 from unittest import mock
 
-from trials.program import EXAMPLES, PROGRAM, TOP, Case, Ran, check, ran
+from trials.parts.program import EXAMPLES, PROGRAM, TOP, Case, Ran, check, ran
 from trials.transcripts import make_or_read, steps, what_differs
 
 sys.path.insert(0, str(TOP / "desk"))

@@ -20,8 +20,8 @@ import time
 from collections.abc import Callable
 from typing import Any, Iterable
 
-from trials.program import PROGRAM, Case, a_test_each, carry_out, check, make_office, printed
-from trials.servers import HOST, free_port, leave_descriptors, leave_no_descriptors, read_all
+from trials.parts.program import PROGRAM, Case, a_test_each, carry_out, check, make_office, printed
+from trials.parts.servers import HOST, free_port, leave_descriptors, leave_no_descriptors, read_all
 
 # The deadlines, in seconds: for a line from its first byte; for silence where another waits; and how long a client waits
 # at most, whatever the server does.

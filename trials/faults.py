@@ -30,9 +30,9 @@ import sqlite3
 import stat
 import unittest
 
-from trials.calls import CHANGING, KILLED, LOOKING, injected, kills, needs_strace
-from trials.program import EXAMPLES, NOBODY, OPENED_AT, PROGRAM, TOP, Case, Ran, check, make_office, ran_words
-from trials.servers import serving
+from trials.parts.calls import CHANGING, KILLED, LOOKING, injected, kills, needs_strace
+from trials.parts.program import EXAMPLES, NOBODY, OPENED_AT, PROGRAM, TOP, Case, Ran, check, make_office, ran_words
+from trials.parts.servers import serving
 
 AT = ["--at", OPENED_AT]
 LINE = '{"at":"2024-01-15T09:00:00Z","as":"registrar","do":"add-dept","dept":"other"}\n'

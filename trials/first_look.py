@@ -9,7 +9,7 @@ import os
 import shutil
 import time
 
-from trials.program import OPENED_AT, TOP, Case, Ran, check, ran_words
+from trials.parts.program import OPENED_AT, TOP, Case, Ran, check, ran_words
 
 TAKES_LONG = True
 SAYS = "vault: unproved\n"

@@ -22,7 +22,7 @@ from concurrent.futures import ProcessPoolExecutor
 from multiprocessing import get_context
 from typing import Any, NamedTuple
 
-from trials.program import TOP, Case, check, printed
+from trials.parts.program import TOP, Case, check, printed
 from trials.recheck import DAY, FORGERIES, SEED, Office, answers_alike, grow, judged_alike, recheck
 
 TAKES_LONG = True

@@ -5,8 +5,8 @@ Each test serves a new vault. A put for another host is refused, and leaves no v
 
 import socket
 
-from trials.program import Case, check, make_office
-from trials.servers import HOST, answer_to, serving
+from trials.parts.program import Case, check, make_office
+from trials.parts.servers import HOST, answer_to, serving
 
 FILE = "records.vault"
 # The hosts that a server of `--host vault.example.org --host vault` answers for, and others; PORT is the server's.

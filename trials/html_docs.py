@@ -5,7 +5,7 @@ import pathlib
 import re
 import shutil
 
-from trials.program import Case, check, needs, ran_words
+from trials.parts.program import Case, check, needs, ran_words
 import html_pages
 import packaged_pages
 

@@ -12,13 +12,12 @@ import json
 import os
 import pathlib
 import random
-import subprocess
 import time
 import unicodedata
 from typing import Any, Iterator
 
-from trials.program import DESK, IS_LONG, PROGRAM, Case, Ran, check, printed, ran_words
-from trials.servers import free_port
+from trials.parts.program import DESK, IS_LONG, PROGRAM, Case, Ran, check, printed, ran_words
+from trials.parts.servers import BothDoors
 
 SCANS, LARGEST = (5_000, 200_000) if IS_LONG else (200, 2_000)
 DEPARTMENTS = {"records": ["letters", "drafts"], "court": ["cases", "notes"], "archive": ["deeds"]}
@@ -47,15 +46,12 @@ class Office:
     @contextlib.contextmanager
     def served(self) -> Iterator[None]:
         """Has the vault served meanwhile, with lines at the usual place beside it."""
-        words = [PROGRAM, "serve", self.file, str(free_port()), "--lines", self.folder / "records.lines"]
-        with subprocess.Popen(words, stderr=subprocess.PIPE, text=True) as server:
-            assert server.stderr
-            check("lines at" in server.stderr.readline(), "it isn't served")
-            try:
-                yield
-                check(server.poll() is None, "the server ended")
-            finally:
-                server.kill()
+        server = BothDoors(self.file, self.folder / "records.lines")
+        try:
+            yield
+            check(server.process.poll() is None, "the server ended")
+        finally:
+            server.stop()
 
     def asked(self, *words: object, caller: str = "ann") -> Ran:
         """What the desk does with these words; how long that takes is printed."""

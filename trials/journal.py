@@ -31,9 +31,9 @@ import subprocess
 import time
 from typing import Any
 
-from trials.calls import KILLED, needs_strace
-from trials.program import DESK, IS_LONG, OPENED_AT, PROGRAM, Case, check, make_office
-from trials.servers import LIMIT, free_port, reply_to, status_of
+from trials.parts.calls import KILLED, needs_strace
+from trials.parts.program import DESK, IS_LONG, OPENED_AT, PROGRAM, Case, check, make_office
+from trials.parts.servers import LIMIT, BothDoors, free_port
 
 COMMANDS, TIMES = (1_000, 10) if IS_LONG else (40, 2)
 END = "# The journal ends here: no line makes the next change again."
@@ -71,43 +71,12 @@ REQUESTS: list[tuple[str, str, Any, dict[str, str], dict[str, Any]]] = [
 ]
 
 
-class Server:
+class Server(BothDoors):
     """A server of the vault in a folder, with both doors and a journal; `front` are words before its own."""
 
     def __init__(self, folder: pathlib.Path, journal: pathlib.Path, *front: object) -> None:
-        self.file, self.journal, self.where, self.port = folder / "records.vault", journal, folder / "lines", free_port()
-        words = [PROGRAM, "serve", self.file, str(self.port), "--lines", self.where, "--journal", journal]
-        self.said = folder / "said"
-        with self.said.open("wb") as said:
-            how: dict[str, Any] = {"stdout": subprocess.DEVNULL, "stderr": said, "start_new_session": True}
-            self.process = subprocess.Popen([*map(str, front), *map(str, words)], **how)
-        end = time.monotonic() + LIMIT
-        while "lines at" not in self.said.read_text():
-            check(self.process.poll() is None and time.monotonic() < end, f"no server: {self.said.read_text()}")
-            time.sleep(0.02)
-
-    def ask(self, do: str, who: str = "ann", **members: Any) -> Any:
-        """The reply to a line; None where the server ends before it answers."""
-        return reply_to(self.where, {"as": who, "do": do, **members})
-
-    def request(self, method: str, target: str, content: str | None = None, **headers: str) -> int | None:
-        """The status of the answer to a request; None where the server ends before it answers."""
-        return status_of(self.port, method, target, content, {it.replace("_", "-"): text for it, text in headers.items()})
-
-    def ended(self) -> int:
-        """The status with which it ends by itself."""
-        return self.process.wait(LIMIT)
-
-    def close(self) -> None:
-        """Ends it by its line."""
-        check(self.ask("close", "registrar") == {"ok": {}}, "the line that ends it isn't answered")
-        check(self.ended() == 0, f"the server has the status {self.process.returncode}: {self.said.read_text()}")
-
-    def stop(self) -> None:
-        """Ends it in any case, and the words before it."""
-        with contextlib.suppress(ProcessLookupError):
-            os.killpg(self.process.pid, signal.SIGKILL)
-        self.process.wait()
+        self.journal = journal
+        super().__init__(folder / "records.vault", folder / "lines", "--journal", journal, front=front)
 
 
 class Work:

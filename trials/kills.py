@@ -20,15 +20,13 @@ import json
 import os
 import pathlib
 import shutil
-import subprocess
 import threading
-import time
 import unittest
 from typing import Any, Iterator, NamedTuple
 
-from trials.calls import CHANGING, KILLED, needs_strace
-from trials.program import DESK, IS_LONG, OPENED_AT, PROGRAM, Case, Ran, check, make_office, ran_words
-from trials.servers import LIMIT, free_port, reply_to, status_of
+from trials.parts.calls import CHANGING, KILLED, needs_strace
+from trials.parts.program import DESK, IS_LONG, OPENED_AT, PROGRAM, Case, Ran, check, make_office, ran_words
+from trials.parts.servers import BothDoors
 
 POINTS = int(os.environ.get("TRIALS_KILLS", 50 if IS_LONG else 5))
 CALLS = (*CHANGING, "unlink")
@@ -69,53 +67,16 @@ def spread(points: list[Point]) -> list[Point]:
     return [points[at * (len(points) - 1) // max(1, POINTS - 1)] for at in range(POINTS)]
 
 
-class Server:
+class Server(BothDoors):
     """A server of the vault in a folder, at whose calls one looks; with a point, it is killed before that call."""
 
     def __init__(self, folder: pathlib.Path, kill: Point | None = None) -> None:
-        self.file, self.trace = folder / "records.vault", folder / "trace"
-        self.where = folder / "run" / "records" / "lines"
-        self.where.parent.mkdir(parents=True, exist_ok=True)
-        at = [it for end in ("", "-wal") for it in ("-P", f"{self.file}{end}")]
+        file, self.trace, where = folder / "records.vault", folder / "trace", folder / "run" / "records" / "lines"
+        where.parent.mkdir(parents=True, exist_ok=True)
+        at = [it for end in ("", "-wal") for it in ("-P", f"{file}{end}")]
         killing = ["-e", f"inject={kill.call}:signal=KILL:when={kill.number}"] if kill else []
         front = ["strace", "-qq", "-o", self.trace, *at, "-e", f"trace={','.join(CALLS)}", *killing]
-        self.port = free_port()
-        words = [PROGRAM, "serve", self.file, str(self.port), "--lines", self.where]
-        self.said = folder / "said"
-        with self.said.open("wb") as said:
-            self.process = subprocess.Popen([*front, *words], stdout=subprocess.DEVNULL, stderr=said)
-        end = time.monotonic() + LIMIT
-        while f"lines at {self.where}" not in self.said.read_text():
-            check(self.process.poll() is None and time.monotonic() < end, f"no server: {self.said.read_text()}")
-            time.sleep(0.02)
-
-    def ask(self, do: str, who: str = "ann", **members: Any) -> Any:
-        """The reply to a line; None where the server is killed before it answers."""
-        return reply_to(self.where, {"as": who, "do": do, **members})
-
-    def request(self, method: str, what: str, content: str | None = None) -> int | None:
-        """The status of the answer to a request; None where the server is killed before it answers."""
-        return status_of(self.port, method, f"/docs/{what}", content)
-
-    def done(self, do: str, **members: Any) -> Any:
-        """What is answered to a line that is carried out."""
-        reply = self.ask(do, **members)
-        check(reply and "ok" in reply, f"{do} {members}: {reply}")
-        return reply["ok"]
-
-    def ended(self) -> int:
-        """The status with which it ends."""
-        return self.process.wait(LIMIT)
-
-    def close(self) -> None:
-        """Ends it by its line."""
-        check(self.ask("close", "registrar") == {"ok": {}}, "the line that ends it isn't answered")
-        check(self.ended() == 0, f"the server has the status {self.process.returncode}: {self.said.read_text()}")
-
-    def stop(self) -> None:
-        """Ends it in any case."""
-        self.process.kill()
-        self.process.wait()
+        super().__init__(file, where, front=front)
 
 
 @needs_strace
@@ -179,13 +140,13 @@ class AtChanges(Kills):
         key, text = f"new/{number}", f"{number} " * 300
         if number % 2 == 0:
             return is_answered(server.ask("put", bucket="docs", key=key, text=text))
-        return is_answered(server.request("PUT", key, text))
+        return is_answered(server.request("PUT", f"/docs/{key}", text))
 
     def remove(self, server: Server, number: int) -> bool:
         """Removes it, at the other door; whether that was answered."""
         key, version = f"new/{number}", 2 * len(KEYS) + 1 + number
         if number % 2 == 0:
-            return is_answered(server.request("DELETE", f"{key}?versionId={version}"))
+            return is_answered(server.request("DELETE", f"/docs/{key}?versionId={version}"))
         return is_answered(server.ask("delete-version", bucket="docs", key=key, id=version))
 
     def changes(self, server: Server) -> Iterator[tuple[set[int], bool]]:
@@ -298,8 +259,8 @@ class AtNight(Kills):
         def client(number: int) -> list[int | None]:
             found: list[int | None] = []
             while not found or not is_over.is_set():
-                key = f"night/{number}-{len(found)}"
-                found += [server.request("PUT", key, "by night"), server.request("GET", key)]
+                target = f"/docs/night/{number}-{len(found)}"
+                found += [server.request("PUT", target, "by night"), server.request("GET", target)]
             return found
 
         with concurrent.futures.ThreadPoolExecutor(CLIENTS) as pool:

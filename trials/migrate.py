@@ -24,9 +24,9 @@ import stat
 import subprocess
 import time
 
-from trials.calls import KILLED, LOOKING, injected, kills, needs_strace
+from trials.parts.calls import KILLED, LOOKING, injected, kills, needs_strace
 from trials.pages import printed_as_shown
-from trials.program import EXAMPLES, PROGRAM, Case, Ran, check
+from trials.parts.program import EXAMPLES, PROGRAM, Case, Ran, check
 
 EARLIER = EXAMPLES / "earlier"
 # The number of the schema in each of them, and the ids that its intake got.

@@ -15,8 +15,8 @@ import os
 import re
 import subprocess
 
-from trials.program import DESK, OPENED_AT, PROGRAM, TOP, Case, check, needs, printed, ran_words
-from trials.servers import ended, free_port, free_ports, started, wait_for
+from trials.parts.program import DESK, OPENED_AT, PROGRAM, TOP, Case, check, needs, printed, ran_words
+from trials.parts.servers import ended, free_port, free_ports, started, wait_for
 
 PACKAGING = TOP / "packaging"
 PASSWORD = "a long one"

@@ -19,8 +19,8 @@ import subprocess
 
 from trials.html_docs import check_pages
 from trials.pages import printed_as_shown
-from trials.program import EXAMPLES, PROGRAM, TOP, Case, check, needs, ran_words, shared_folder
-from trials.clean_system import Root, needs_system, said
+from trials.parts.program import EXAMPLES, PROGRAM, TOP, Case, check, needs, ran_words, shared_folder
+from trials.parts.clean_system import Root, needs_system, said
 import desk_words
 
 TAKES_LONG = True
@@ -74,7 +74,7 @@ def packages():
     """The package and the archive, which come out with the same bytes a second time; and the folder with its files."""
     first, second, unpacked = (shared_folder() / it for it in ("first", "second", "unpacked"))
     for out in (first, second):
-        said(TOP / "tools" / "package", PROGRAM, out)
+        said(TOP / "tools" / "packaging" / "package", PROGRAM, out)
     for it in first.iterdir():
         check(it.read_bytes() == (second / it.name).read_bytes(), f"{it.name} comes out otherwise a second time")
     (debian,) = first.glob("*.deb")

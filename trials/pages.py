@@ -25,8 +25,8 @@ import subprocess
 import tempfile
 import time
 
-from trials.program import CONTRIB, DESK, NOBODY, PROGRAM, TOP, Case, a_test_each, check
-from trials.servers import free_port
+from trials.parts.program import CONTRIB, DESK, NOBODY, PROGRAM, TOP, Case, a_test_each, check
+from trials.parts.servers import free_port
 
 # The pages whose commands are tried here; others need vaults beside them, or a system in which the package is.
 PAGES = """

@@ -12,8 +12,8 @@ import socket
 import time
 
 from trials.door import Server, get, ok_puts, put
-from trials.program import Case, check, make_office
-from trials.servers import HOST, LIMIT, answer_to, ended, free_port, read_all, reset, started
+from trials.parts.program import Case, check, make_office
+from trials.parts.servers import HOST, LIMIT, answer_to, ended, free_port, read_all, reset, started
 
 TAKES_LONG = True
 COUNT = int(os.environ.get("TRIALS_PEERS", 1_000))

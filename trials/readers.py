@@ -12,7 +12,7 @@ import hashlib
 import re
 import sqlite3
 
-from trials.program import EXAMPLES, Case
+from trials.parts.program import EXAMPLES, Case
 
 SCRIPT = """\
 {"at":"2024-01-15T09:00:00Z","as":"registrar","do":"add-dept","dept":"records"}

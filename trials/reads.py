@@ -17,9 +17,9 @@ import sqlite3
 import subprocess
 import unittest
 
-from trials.calls import injected, needs_strace
+from trials.parts.calls import injected, needs_strace
 from trials.door import Server
-from trials.program import Case, Ran, check, printed, shared_folder
+from trials.parts.program import Case, Ran, check, printed, shared_folder
 
 # How many pages a vault keeps in memory, the bytes of content that one of them takes, and how many pages the content
 # has whose reading drops the first ones.

@@ -36,7 +36,7 @@ import subprocess
 from typing import Any, NamedTuple, Optional
 
 from trials import damages
-from trials.program import (
+from trials.parts.program import (
     CONTRIB, EXAMPLES, IS_LONG, LIMIT, PROGRAM, Case, Ran, a_test_each, carry_out, check, printed, ran, ran_words,
     shared_folder,
 )

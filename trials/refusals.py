@@ -6,7 +6,7 @@ quota of a terabyte or the end of all numbers. So the table in the sources is co
 
 import re
 
-from trials.program import EXAMPLES, TOP, Case
+from trials.parts.program import EXAMPLES, TOP, Case
 
 WORDS = TOP / "crates" / "vaultctl_remedies" / "src" / "remedies.rt"
 OF_LINES = WORDS.with_name("line_remedies.rt")

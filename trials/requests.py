@@ -16,8 +16,8 @@ written beside it too.
 import re
 from datetime import datetime, timedelta, timezone
 
-from trials.program import EXAMPLES, PROGRAM, Case, a_test_each, check, needs, ran_words
-from trials.servers import answer_to, serving
+from trials.parts.program import EXAMPLES, PROGRAM, Case, a_test_each, check, needs, ran_words
+from trials.parts.servers import answer_to, serving
 
 REQUESTS = EXAMPLES / "requests"
 FILE = "records.vault"

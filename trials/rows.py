@@ -20,8 +20,8 @@ import select
 import subprocess
 import tempfile
 
-from trials.long_rows import long_rows
-from trials.program import EXAMPLES, LIMIT, PROGRAM, Case, a_test_each, check, ran
+from trials.parts.long_rows import long_rows
+from trials.parts.program import EXAMPLES, LIMIT, PROGRAM, Case, a_test_each, check, ran
 
 # A piece has at most the bytes that a pipe hands on as one packet.
 PIECES = (1, 2, 3, 5, 7, 11, 13, 61, 251, 1_021, 4_093)

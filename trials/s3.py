@@ -1,10 +1,10 @@
 """S3: the clients that are on this machine work on a vault through its gateway (`vaultdesk s3 serve`).
 
 They are boto3, boto3 whose answers are lost, boto3 through nginx, aws, s3cmd and rclone. boto3 is the one of the Python
-that runs this, and aws is each that is on the path or in /usr/bin; `tools/setup-trials` installs Debian's. Each client
+that runs this, and aws is each that is on the path or in /usr/bin; `trials/setup` installs Debian's. Each client
 has a vault and a gateway of its own; in `Served` a server has the vault meanwhile, and the gateway asks that server's
 door for lines. `Each` has every client do the same there, in its own words: odd keys, pages, many at once, what is
-refused, late, sent again or cut off (s3_each.py). Afterwards the vault is sound, and no refusal has left a version. The
+refused, late, sent again or cut off (s3_clients/each.py). Afterwards the vault is sound, and no refusal has left a version. The
 requests that these clients sent once, byte for byte, are in `desk/tests`, which need none of them and no network.
 """
 
@@ -20,12 +20,12 @@ import unittest
 import unittest.mock
 from concurrent.futures import ThreadPoolExecutor
 
-from trials import s3_each
-from trials.program import PROGRAM, TOP, Case, a_test_each, check, needs
-from trials.s3_each import MANY, ODD, TOO_LARGE
-from trials.s3_gateway import Between, Door, Gateway, made_tree, sent
-from trials.s3_tools import TOOLS, missing
-from trials.servers import free_port
+from trials.s3_clients import each as in_words
+from trials.parts.program import PROGRAM, TOP, Case, a_test_each, check, needs
+from trials.s3_clients.each import MANY, ODD, TOO_LARGE
+from trials.s3_clients.gateway import Between, Door, Gateway, made_tree, sent
+from trials.s3_clients.tools import TOOLS, missing
+from trials.parts.servers import free_port
 
 TAKES_LONG = True
 END = dt.datetime(2040, 1, 1, tzinfo=dt.timezone.utc)
@@ -425,7 +425,7 @@ class Served(S3):
     is_served = True
 
 
-NAMED = {name: (tool, case) for name, tool, case in s3_each.named()}
+NAMED = {name: (tool, case) for name, tool, case in in_words.named()}
 
 
 @a_test_each(NAMED)
@@ -449,7 +449,7 @@ class Flood(Case):
     """Whoever has no right signature gets no further than the gateway, and costs the server nothing."""
 
     def test_wrong_signatures(self):
-        gateway, door = s3_each.made(self.folder, door=str(self.folder / "between.lines")), Door(self.folder)
+        gateway, door = in_words.made(self.folder, door=str(self.folder / "between.lines")), Door(self.folder)
         with gateway:
             deadline = time.monotonic() + 60
             while not any(b'"register"' in it for it in door.lines):  # which is the last that it asks as it begins

@@ -24,9 +24,9 @@ import tempfile
 import threading
 import time
 
-from trials.program import PROGRAM, Case, a_test_each, check, make_office, printed
-from trials.servers import HOST, ended, free_port, leave_descriptors, leave_no_descriptors, read_all, reset, started
-from proved import Loaded
+from trials.parts.program import PROGRAM, Case, a_test_each, check, make_office, printed
+from trials.parts.servers import HOST, ended, free_port, leave_descriptors, leave_no_descriptors, read_all, reset, started
+from trials.preload.loaded import Loaded
 
 # The server's deadlines, in seconds: for the head of a request, and for all of it, from when the connection was taken;
 # for a client that takes nothing of its answer; behind an answer, for one that sends nothing, and for one that goes on.

@@ -21,9 +21,9 @@ import time
 import urllib.request
 from typing import Iterable, Iterator
 
-from trials.calls import needs_strace
-from trials.program import EXAMPLES, OPENED_AT, PROGRAM, Case, Ran, check, make_office
-from trials.servers import HOST, free_port, serving
+from trials.parts.calls import needs_strace
+from trials.parts.program import EXAMPLES, OPENED_AT, PROGRAM, Case, Ran, check, make_office
+from trials.parts.servers import HOST, free_port, serving
 
 FILES = 1_000
 AT = ["--at", OPENED_AT]

@@ -14,7 +14,7 @@ import threading
 from typing import Iterator
 
 from trials.boxes import shown
-from trials.program import CONTRIB, Case, Ran, check, needs, ran_words
+from trials.parts.program import CONTRIB, Case, Ran, check, needs, ran_words
 
 # The commands of the page: of the day, those that ask for a stamp, and the one that looks at it.
 COMMANDS = shown("ENGINEER", "day=$(date -u +%Y%m%d)").strip().splitlines()

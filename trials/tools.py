@@ -1,15 +1,15 @@
 """Tools: those that take long and say by their status what they found."""
 
-from trials.program import PROGRAM, TOP, Case, a_test_each, ran_words
+from trials.parts.program import PROGRAM, TOP, Case, a_test_each, ran_words
 
 TAKES_LONG = True
-GROWTHS = "tools/refuse-growths"
+GROWTHS = "tools/faults/refuse-growths"
 TOOLS = {
-    "kill_while_serving": ["bench/kill-while-serving", "--program", str(PROGRAM), "--rounds", "100"],
+    "kill_while_serving": ["tools/faults/kill-while-serving", "--program", str(PROGRAM), "--rounds", "100"],
     "growths_of_requests": [GROWTHS, "vault_tests_http", "growths::a_refused_growth_is_no_other_answer"],
-    "wrong_answers": ["tools/wrong-bodies"],
-    "turned_lines": ["tools/wrong-bodies", "--lines", "--seconds", "60"],
-    "edits": ["tools/try-edits"],
+    "wrong_answers": ["tools/mutate/wrong-bodies"],
+    "turned_lines": ["tools/mutate/wrong-bodies", "--lines", "--seconds", "60"],
+    "edits": ["tools/mutate/try-edits"],
 }
 
 

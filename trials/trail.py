@@ -11,8 +11,8 @@ import time
 from typing import Any
 
 from trials.door import LINE, SLACK, Server, get, line, put
-from trials.program import PROGRAM, Case, check, make_office
-from trials.servers import HOST, LIMIT, answer_to, ended, free_port, read_all, started, wait_for
+from trials.parts.program import PROGRAM, Case, check, make_office
+from trials.parts.servers import HOST, LIMIT, answer_to, ended, free_port, read_all, started, wait_for
 
 FILE = "records.vault"
 LONG = "x" * 1_000_000

@@ -19,7 +19,7 @@ import shlex
 import sqlite3
 from typing import Any, Iterator
 
-from trials.program import EXAMPLES, Case, Ran, a_test_each, check, ran
+from trials.parts.program import EXAMPLES, Case, Ran, a_test_each, check, ran
 
 # The marks of what is made beside files of a few bytes.
 OTHERS = ("*", "@", "|", "/")

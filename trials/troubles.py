@@ -19,14 +19,14 @@ import signal
 import socket
 import subprocess
 import time
-from concurrent.futures import ThreadPoolExecutor
 from typing import Any, Callable, Iterable
 
 from trials.door import LIMIT, Server, get, line, put
-from trials.program import IS_LONG, PROGRAM, Case, Ran, check, make_office, needs, printed
-from trials.servers import HOST, answer_to, ended, free_port, read_all, started
+from trials.parts.in_turn import each_in_turn, first_number
+from trials.parts.program import IS_LONG, PROGRAM, Case, Ran, check, make_office, needs, printed
+from trials.parts.servers import HOST, answer_to, ended, free_port, read_all, started
+from trials.preload.loaded import Loaded
 from trials.trail import request
-from proved import Loaded, first_number
 
 FILE = "records.vault"
 JOBS = len(os.sched_getaffinity(0))
@@ -204,22 +204,20 @@ class Failing(Case):
 
     def sweep(self, what: str, step: int, judge: Callable[[Run, bool], str]) -> set[str]:
         """Judges a run for every call, or every `step`th, after the server listens. Returns what the runs came to."""
-        loaded, ways, untroubled = Loaded(PROGRAM, self.folder, what), collections.Counter[str](), 0
-        with ThreadPoolExecutor(JOBS) as pool:
-            for begin in itertools.count(self.first(loaded), step * ENOUGH):
-                numbers = range(begin, begin + step * ENOUGH, step)
-                for number, (run, is_there) in zip(numbers, pool.map(lambda it: self.run_once(loaded, it), numbers)):
-                    try:
-                        check(run.status == 0, "its status")
-                        way = judge(run, is_there)
-                    except AssertionError as wrong:
-                        raise AssertionError(f"{what} {number}: {wrong}: {vars(run)}") from None
-                    untroubled = untroubled + 1 if way == "none" else 0
-                    ways[way] += 1
-                if untroubled >= ENOUGH:
-                    print(f"{what}:", dict(ways))
-                    return set(ways)
-        raise AssertionError("no end")
+        loaded = Loaded(PROGRAM, self.folder, what)
+
+        def judged(number: int) -> str:
+            run, is_there = self.run_once(loaded, number)
+            try:
+                check(run.status == 0, "its status")
+                return judge(run, is_there)
+            except AssertionError as wrong:
+                raise AssertionError(f"{what} {number}: {wrong}: {vars(run)}") from None
+
+        numbers = itertools.count(self.first(loaded), step)
+        ways = collections.Counter(way for _, way in each_in_turn(JOBS, judged, numbers, ENOUGH, lambda way: way == "none"))
+        print(f"{what}:", dict(ways))
+        return set(ways)
 
     def test_allocations(self) -> None:
         found = self.sweep("refused_allocation", 1 if IS_LONG else 13, of_allocation)

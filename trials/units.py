@@ -23,8 +23,8 @@ That needs root.
 import os
 import subprocess
 
-from trials.clean_system import Root, needs_system, said
-from trials.program import PROGRAM, TOP, Case, check, needs
+from trials.parts.clean_system import Root, needs_system, said
+from trials.parts.program import PROGRAM, TOP, Case, check, needs
 
 TAKES_LONG = True
 INCLUDED = "python3,curl,sqlite3,systemd-sysv,dbus"
@@ -330,7 +330,7 @@ def booted(root, script):
 def prepared(folder, included):
     """A clean system with the package in it, which carries out a script as it is booted."""
     folder.chmod(0o755)
-    said(TOP / "tools" / "package", PROGRAM, folder / "made")
+    said(TOP / "tools" / "packaging" / "package", PROGRAM, folder / "made")
     root = Root(folder / "root", included)
     (debian,) = (folder / "made").glob("*.deb")
     (root.folder / "trial").mkdir()

@@ -26,8 +26,8 @@ import time
 import unittest
 import urllib.parse
 
-from trials.program import LIMIT, Case, check, needs, ran_words
-from trials.web_pages import HOST, LACKING, PASSWORD, Browser, Office, StandIn, together
+from trials.parts.program import LIMIT, Case, check, needs, ran_words
+from trials.parts.web_pages import HOST, LACKING, PASSWORD, Browser, Office, StandIn, together
 
 TAKES_LONG = True
 SHOTS = os.environ.get("WEB_SHOTS")
@@ -48,7 +48,7 @@ class Pages(Case):
     def setUp(self) -> None:
         super().setUp()
         if LACKING:
-            self.skipTest(f"this interpreter has no {LACKING[0]}: /usr/bin/python3 has, after tools/setup-trials")
+            self.skipTest(f"this interpreter has no {LACKING[0]}: /usr/bin/python3 has, after trials/setup")
         self.office = Office(self.folder, self.KNOWN)
         self.addCleanup(self.office.close)
 
@@ -420,7 +420,7 @@ class Crowd(Pages):
 
     def test_a_hundred_users_beside_a_busy_gateway(self) -> None:
         if importlib.util.find_spec("boto3") is None:
-            self.skipTest("this interpreter has no boto3: /usr/bin/python3 has, after tools/setup-trials")
+            self.skipTest("this interpreter has no boto3: /usr/bin/python3 has, after trials/setup")
         self.office.start_gateway()
         slowest = self.slowest()
         print(f"requests that the gateway answered meanwhile: {self.office.end_load()}")

@@ -2,10 +2,9 @@
 
 from __future__ import annotations
 
-import contextlib
 import hashlib
 import re
-from collections.abc import Callable, Collection, Iterator, Mapping
+from collections.abc import Callable, Collection, Mapping
 from dataclasses import dataclass
 from pathlib import Path
 from typing import BinaryIO
@@ -32,23 +31,6 @@ MOST_NAMED = 10  # faults that are named
 # ---- a bag that is written
 
 
-class Hashed:
-    """A file that is written, and the digest of what was written to it."""
-
-    def __init__(self, file: BinaryIO) -> None:
-        self._file, self._digest = file, hashlib.sha256()
-
-    def write(self, content: bytes) -> int:
-        """Writes all of it, and returns how many bytes these are."""
-        self._digest.update(content)
-        return self._file.write(content)
-
-    @property
-    def digest(self) -> str:
-        """The SHA-256 of all that was written, in hex digits."""
-        return self._digest.hexdigest()
-
-
 class Writer:
     """A bag that is written; `opened` makes a file below its folder.
 
@@ -67,14 +49,6 @@ class Writer:
     def tag(self, name: str, content: bytes) -> None:
         """Writes a file that says something of the documents."""
         self._write(self._tags, name, content)
-
-    @contextlib.contextmanager
-    def tag_file(self, name: str) -> Iterator[Hashed]:
-        """Such a file, to be written piece by piece."""
-        with self._opened(name) as file:
-            hashed = Hashed(file)
-            yield hashed
-        self._tags[name] = hashed.digest
 
     def _write(self, manifest: dict[str, str], name: str, content: bytes) -> None:
         with self._opened(name) as file:

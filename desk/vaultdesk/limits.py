@@ -15,7 +15,6 @@ from vaultdesk import moments
 from vaultdesk.errors import UsageError
 
 PERIOD = re.compile(r"(\d{1,6}) (day|year)s?")
-SECONDS = 86_400
 LONGEST_KEY = 1_024  # bytes of UTF-8 that a key has at most
 
 

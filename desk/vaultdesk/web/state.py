@@ -13,7 +13,6 @@ from vaultdesk.web.visit import form, page, visit
 
 LOOKS = ("verify", "lawful", "check-seals")  # each audits the whole vault, on a copy
 SHOWN = 10  # copies on the page
-Row = dict[str, Any]
 
 
 def _nights() -> dict[str, str]:

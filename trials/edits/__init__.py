@@ -1,0 +1,1 @@
+"""Mutants of the desk, a table each; `desk.py` tries them."""
