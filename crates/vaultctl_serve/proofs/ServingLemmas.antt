@@ -6,6 +6,7 @@ use Rattle.vault_core_model.specs.Vault.{Vault}
 use Rattle.vault_core_model.specs.declared.command.Timed.{Timed}
 use Rattle.vault_core_model.specs.declared.reply.Reply.{Reply}
 use Rattle.vault_core_laws.proofs.Runs.{IsRun-append}
+use Rattle.vault_core.proofs.StepLemmas.{run-reached}
 use Rattle.vault_core.specs.Hearing.{AreHeard, HearsAll, HearsOnce, HearsSome}
 use Rattle.vault_core.specs.Hearing.{AtMostOne}
 use Rattle.vaultctl_serve.specs.Serving.{Missed, Next, ReadsAs, Stepped, SteppedAt, SteppedOnTime, SteppedWhile, Taken, Tries, Try}
@@ -34,8 +35,7 @@ pub Stepped-more : (few most : ℕ) (old new : Vault) → few ≤ most → Stepp
 Stepped-more few most old new within stepped = (stepped.0, stepped.1, omega (arith, stepped.2, within), stepped.3)
 
 pub Stepped-reached : (most : ℕ) (old new : Vault) → Stepped most old new → Reached old → Reached new
-Stepped-reached most old new stepped before =
-    (before.0 ++ stepped.0, before.1 ++ stepped.1, IsRun-append _ _ _ before.0 stepped.0 before.1 stepped.1 before.2 stepped.3)
+Stepped-reached most old new stepped before = run-reached old new stepped.0 stepped.1 before stepped.3
 
 -- ---- steps of tries
 
