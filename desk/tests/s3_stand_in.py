@@ -48,7 +48,7 @@ class StandIn(http.server.ThreadingHTTPServer):
         threading.Thread(target=self.serve_forever, args=(0.01,), daemon=True).start()
 
     def handle_error(self, *_: Any) -> None:
-        """A client that goes away is none."""
+        """Says nothing where a client has gone."""
 
     @property
     def endpoint(self) -> str:

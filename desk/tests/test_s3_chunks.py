@@ -38,7 +38,7 @@ def body_of(is_signed: bool, is_trailed: bool, content: bytes = CONTENT, size: i
 
 
 class Pieces:
-    """A body of which so many bytes come at once, and how many came."""
+    """A body of which at most n bytes come at once. It counts the bytes that came."""
 
     def __init__(self, body: bytes, size: int = 1_000_000) -> None:
         self.body = memoryview(body)

@@ -213,7 +213,7 @@ def write_out(file: Path, new: Path) -> int:
 
 def differing(file: Path, other: Path) -> str:
     """The first table of which two files don't have the same rows in the same order; that of the tables themselves is
-    `sqlite_schema`. Empty where there is none. `EngineError` as of `rows`."""
+    `sqlite_schema`. Empty where there is no such table. `EngineError` as of `rows`."""
     with _opened(file) as one, _opened(other) as two:
         named = one.execute("SELECT name FROM sqlite_schema WHERE type = 'table'").fetchall()
         for name, columns in (("sqlite_schema", "type, name, tbl_name, sql"), *((name, "*") for (name,) in named)):

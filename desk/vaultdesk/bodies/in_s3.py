@@ -48,7 +48,7 @@ class Bucket:
 
 def client_of(endpoint: str | None, region: str | None) -> Any:
     """A client of boto3 for an S3 store, with the keys of its own environment and files. `DeskError` where boto3 isn't
-    installed, or the endpoint is none."""
+    installed, or the endpoint is no address."""
     style = library("botocore.config").Config(s3={"addressing_style": "path"}) if endpoint else None
     try:
         return library("boto3").client("s3", endpoint_url=endpoint, region_name=region, config=style)

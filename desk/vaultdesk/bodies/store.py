@@ -163,7 +163,7 @@ class Bodies(abc.ABC):
         """Guards a body until a moment, where the store can: never for less time than before. This one can't."""
 
     def drop(self, received: Received) -> None:
-        """Gives up what was received. `DeskError` where that fails."""
+        """Removes what was received. `DeskError` where that fails."""
         with self._failing(self.folder / INCOMING), self._inside(INCOMING) as folder:
             os.unlink(received.name, dir_fd=folder)
 

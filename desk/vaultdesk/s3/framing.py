@@ -47,7 +47,7 @@ class Head(NamedTuple):
 
 def read_head(source: Source, most: int) -> Head:
     """The lines up to the empty one, each of that many bytes at most, which are all read, also where one isn't a line
-    of a head: a line that is folded is none, and a head that ends early isn't whole."""
+    of a head: a folded line is no line of a head, and a head that ends early isn't whole."""
     lines = []
     while (line := source.readline(most)) not in (b"\r\n", b"\n", b""):
         lines.append(line)
