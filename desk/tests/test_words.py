@@ -282,7 +282,7 @@ class Pages(unittest.TestCase):
         self.out = Path(self.enterContext(tempfile.TemporaryDirectory()))
 
     def made_by(self, tool: str) -> None:
-        words = [sys.executable, "-B", TOP / "tools" / "packaging" / tool, self.out]
+        words: list[str | Path] = [sys.executable, "-B", TOP / "tools" / "packaging" / tool, self.out]
         subprocess.run(words, check=True, stdout=subprocess.DEVNULL)
 
     def test_each_has_a_man_page_with_all_of_its_words(self) -> None:
