@@ -15,6 +15,7 @@ ARM = re.compile(r"(?m)^ +\(?Refusal::(\w+)(?:\((\w+)\))?(?:, Command::(\w+)\(_\
 REASON = re.compile(r"Reason::(\w+)(?:\(_\))? " + TEXT)
 STOP = re.compile(r"Stop::(\w+) " + TEXT)
 LINE = re.compile(r"(?m)^ +\(?((?:Refusal|Command)::[^\n\"]*) " + TEXT)
+CONST = re.compile(r'const (\w+): &str = "((?:[^"\\]|\\.)*)"')
 
 
 def words_of(source: str) -> dict[str, str]:
@@ -29,8 +30,10 @@ def words_of(source: str) -> dict[str, str]:
 
 
 def words_of_lines(source: str) -> dict[str, str]:
-    """The words for a line of a script where it has others: by the refusal, or by the commands whose value isn't allowed."""
-    return {"line " + ", ".join(re.findall(r"::(\w+)", arm)): words for arm, words in LINE.findall(source)}
+    """The words for a line of a script where it has others: by the refusal, by the commands whose value isn't allowed, or by
+    the member that several of these name."""
+    found = {"line " + ", ".join(re.findall(r"::(\w+)", arm)): words for arm, words in LINE.findall(source)}
+    return found | {f"line {name.lower()}": words for name, words in CONST.findall(source)}
 
 
 class Refusals(Case):
