@@ -121,7 +121,7 @@ EDITS = [
      PARTS + "test_a_seal_counts_the_events_of_all_parts"),
     ("evidence", "    if verdict != \"lawful\":\n", "    if False:\n", PARTS + "test_the_first_breach_of_all_parts"),
     # the gateway
-    ("s3/objects", "told.at if told.is_certain else _admission(asked, version)", "told.at",
+    ("s3/objects", "reply.at if reply.is_certain else _admission(asked, version)", "reply.at",
      S3 + "Served.test_an_etag_is_noted_for_just_the_second_of_the_admission"),
     ("s3/door", "        if self.engine.is_served:\n", "        if False:\n",
      S3 + "Served.test_a_bucket_that_is_made_meanwhile_is_in_the_next_list"),

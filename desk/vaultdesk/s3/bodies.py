@@ -120,7 +120,7 @@ def _look_at_form(request: Request, payload: str) -> None:
 def opened(request: Request, signed: Signed, key: bytes, most: int, begin: Callable[[], Source]) -> Content:
     """The content of a request whose signature is right, at most that many bytes.
 
-    `begin` tells the client to send it, as its first bytes are read. `Fault` where the head has what is refused."""
+    `begin` asks the client to send it, as its first bytes are read. `Fault` where the head has what is refused."""
     payload = payload_of(request, signed)
     _look_at_form(request, payload)
     if declared(request) > most:

@@ -64,8 +64,8 @@ def _take_in_signed(asked: Asked, own: str, members: Mapping[str, Any], what: st
     notes = asked.vault.unanswered
     put = notes.begin(what, own, asked.signature, asked.client.is_lost)
     try:
-        told = _take_in(asked, put.name, members)
-        is_overtaken = told.value["again"] and not _is_newest(asked, told.value["version_id"])
+        reply = _take_in(asked, put.name, members)
+        is_overtaken = reply.value["again"] and not _is_newest(asked, reply.value["version_id"])
     except Fault as fault:
         # An engine that gave no answer may have admitted it.
         (notes.lose if fault.code == "InternalError" else notes.end)(put)
@@ -73,7 +73,7 @@ def _take_in_signed(asked: Asked, own: str, members: Mapping[str, Any], what: st
     if not is_overtaken:
         asked.client.put = put
         notes.name(put, asked.signature)
-        return told
+        return reply
     notes.end(put)
     if put.is_own:
         raise Fault("OperationAborted", OVERTAKEN)
@@ -111,17 +111,17 @@ def _admitted(asked: Asked, body: Body) -> Admitted:
     """Has a content admitted with the locks that are asked for."""
     if xml.UNWRITABLE.search(asked.request.key):
         raise Fault("InvalidArgument", "no list could show a key with U+FFFE or U+FFFF")
-    told = _put_once(asked, body)
-    version = int(told.value["version_id"])
-    if not told.value["again"]:
+    reply = _put_once(asked, body)
+    version = int(reply.value["version_id"])
+    if not reply.value["again"]:
         _look_at_guard(asked, version)
-    if told.value["again"]:
+    if reply.value["again"]:
         # Admitted by an earlier request; it may be gone by now, so nothing more is asked of it.
-        return Admitted(version, body.md5, told.at)
-    moment = told.at if told.is_certain else _admission(asked, version)
+        return Admitted(version, body.md5, reply.at)
+    moment = reply.at if reply.is_certain else _admission(asked, version)
     if moment is None:
         # By a second the MD5 would be noted of another moment: it is noted as the version is read.
-        return Admitted(version, body.md5, told.at)
+        return Admitted(version, body.md5, reply.at)
     return Admitted(version, asked.vault.etags.note(version, moment, body.md5), moment)
 
 
@@ -248,19 +248,19 @@ def _range(request: Request, size: int, md5: str, admitted: str) -> tuple[int, i
     return first, last + 1
 
 
-def _headers(asked: Asked, told: Mapping[str, Any], md5: str) -> dict[str, str]:
+def _headers(asked: Asked, reply: Mapping[str, Any], md5: str) -> dict[str, str]:
     """The headers of a version's answer."""
     headers = {
         "Accept-Ranges": "bytes",
         "Content-Type": "application/octet-stream",
         "ETag": f'"{md5}"',
-        "Last-Modified": _date(told["admitted"]),
-        "x-amz-version-id": str(told["version_id"]),
-        "x-amz-object-lock-legal-hold": told["hold"],
+        "Last-Modified": _date(reply["admitted"]),
+        "x-amz-version-id": str(reply["version_id"]),
+        "x-amz-object-lock-legal-hold": reply["hold"],
     }
-    if told["retention"]:
-        headers["x-amz-object-lock-mode"] = told["retention"]["mode"]
-        headers["x-amz-object-lock-retain-until-date"] = told["retention"]["until"]
+    if reply["retention"]:
+        headers["x-amz-object-lock-mode"] = reply["retention"]["mode"]
+        headers["x-amz-object-lock-retain-until-date"] = reply["retention"]["until"]
     for name, header in OVERRIDES.items():
         value = asked.request.query.get(name)
         if value is not None:
@@ -270,36 +270,36 @@ def _headers(asked: Asked, told: Mapping[str, Any], md5: str) -> dict[str, str]:
     return headers
 
 
-def _told(asked: Asked) -> tuple[dict[str, Any], bytes, str]:
+def _version_meant(asked: Asked) -> tuple[dict[str, Any], bytes, str]:
     """What the engine says of the version that is meant, its content, which is empty for a HEAD, and its MD5."""
     line: dict[str, Any] = {**asked.place, **asked.request.version}
     if asked.request.method == "HEAD":
-        told = asked.ask("head", **line)
-        md5 = asked.vault.etags.find(told["version_id"], told["admitted"])
+        reply = asked.ask("head", **line)
+        md5 = asked.vault.etags.find(reply["version_id"], reply["admitted"])
         if md5:
-            return told, b"", md5
-        line["id"] = told["version_id"]
-    told = asked.ask("get", **line)
-    content = bytes.fromhex(told["hex"])
-    return told, content, asked.vault.etags.note(told["version_id"], told["admitted"], body_of(content).md5)
+            return reply, b"", md5
+        line["id"] = reply["version_id"]
+    reply = asked.ask("get", **line)
+    content = bytes.fromhex(reply["hex"])
+    return reply, content, asked.vault.etags.note(reply["version_id"], reply["admitted"], body_of(content).md5)
 
 
 def get(asked: Asked) -> Answer:
     """A version: its content or a part of it, or for HEAD its headers alone."""
     request = asked.request
-    told, content, md5 = _told(asked)
-    headers = _headers(asked, told, md5)
-    status = _condition(request.headers, md5, told["admitted"])
+    reply, content, md5 = _version_meant(asked)
+    headers = _headers(asked, reply, md5)
+    status = _condition(request.headers, md5, reply["admitted"])
     if status == 304:
         return Answer(304, {it: headers[it] for it in ("ETag", "Last-Modified", "x-amz-version-id")})
     if status:
         raise Fault("PreconditionFailed", "the version isn't what the condition says")
-    part = _range(request, told["size"], md5, told["admitted"])
-    first, end = part or (0, told["size"])
+    part = _range(request, reply["size"], md5, reply["admitted"])
+    first, end = part or (0, reply["size"])
     if part:
-        headers["Content-Range"] = f"bytes {first}-{end - 1}/{told['size']}"
-    if end - first == told["size"] and request.headers.get("x-amz-checksum-mode", "").upper() == "ENABLED":
-        headers["x-amz-checksum-sha256"] = base64_of(bytes.fromhex(told["sha256"]))
+        headers["Content-Range"] = f"bytes {first}-{end - 1}/{reply['size']}"
+    if end - first == reply["size"] and request.headers.get("x-amz-checksum-mode", "").upper() == "ENABLED":
+        headers["x-amz-checksum-sha256"] = base64_of(bytes.fromhex(reply["sha256"]))
         headers["x-amz-checksum-type"] = "FULL_OBJECT"
     headers["Content-Length"] = str(end - first)
     return Answer(200 if part is None else 206, headers, b"" if request.method == "HEAD" else content[first:end])
