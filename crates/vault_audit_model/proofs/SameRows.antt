@@ -28,7 +28,7 @@ use Rattle.vault_audit_model.specs.declared.rows.MetaRow.{MetaRow}
 use Rattle.vault_audit_model.specs.declared.rows.RuleRow.{RuleRow}
 use Rattle.vault_audit_model.specs.declared.rows.SettingRow.{SettingRow}
 use Rattle.vault_audit_model.specs.declared.rows.TenureRow.{TenureRow}
-use Rattle.vault_audit_model.specs.Rows.{mode_number, days_of, years_of, default_mode, default_days, default_years, retention_mode, retention_until, author_kind, author_name, cause_number, cause_text, removal_at, removal_cause, removal_by, noncurrent_days, noncurrent_newer, meta_row, caller_row, bucket_row, rule_row, entry_row, content_row, setting_row, note_row, tenure_row}
+use Rattle.vault_audit_model.specs.Rows.{mode_number, days_of, years_of, default_mode, default_days, default_years, retention_mode, retention_until, author_kind, author_name, cause_number, cause_text, removal_at, removal_cause, removal_by, noncurrent_days, noncurrent_newer, meta_row, caller_row, bucket_row, rule_row, entry_row, content_row, setting_row, note_row, tenure_row, external_row}
 use Rattle.vault_audit_model.specs.Values.{number, number_or_null, text_or_null, bytes_or_null, flag, flag_or_null}
 
 -- ---- values
@@ -218,3 +218,6 @@ pub same_tenure : (x y : TenureRow) → tenure_row x ≡ tenure_row y → x ≡ 
 same_tenure x y e =
     let one = cell (tenure_row x) (tenure_row y) in
     rw (number_same x.id y.id (one 0 e), text_same x.tenure.dept y.tenure.dept (one 2 e), number_same x.tenure.from y.tenure.from (one 3 e), number_same x.tenure.number y.tenure.number (one 1 e)) refl
+
+pub same_external : (x y : ℕ) → external_row x ≡ external_row y → x ≡ y
+same_external x y e = number_same x y (cell (external_row x) (external_row y) 0 e)

@@ -21,6 +21,7 @@ use Rattle.vault_core_model.specs.declared.records.History.{History}
 use Rattle.vault_core_model.specs.declared.records.Note.{Note}
 use Rattle.vault_core_model.specs.declared.records.Setting.{Setting}
 use Rattle.vault_core_model.specs.declared.records.Tenure.{Tenure}
+use Rattle.vault_core_model.specs.Sound.{most_bytes}
 use Rattle.vault_core_model.specs.Vault.{Vault}
 use Rattle.vault_audit_model.specs.declared.rows.MetaRow.{MetaRow}
 use Rattle.vault_audit_model.specs.declared.rows.DepartmentRow.{DepartmentRow}
@@ -90,17 +91,17 @@ pub record IsBucket (b : Bucket) : Type 0 where
   pub config : IsBucketConfig b.config
   pub rules : IfSome b.rules AreRules
 
--- a marker has no size and no digest; a version has a size in its limit and a digest of 32 bytes
-abbrev pub IsSizedAs : Bool → ℕ → Option (List ℕ) → Type 0
-IsSizedAs true size digest = (size ≡ 0) × (digest ≡ None)
-IsSizedAs false size None = ⊥
-IsSizedAs false size (Some digest) = (size ≤ most_content) × (length digest ≡ 32)
+-- a marker has no size and no digest; a version has a digest of 32 bytes, and a size in its limit, which is greater where the vault registers contents that are kept outside
+abbrev pub IsSizedAs : Bool → Bool → ℕ → Option (List ℕ) → Type 0
+IsSizedAs true external size digest = (size ≡ 0) × (digest ≡ None)
+IsSizedAs false external size None = ⊥
+IsSizedAs false external size (Some digest) = (size ≤ most_bytes external None) × (length digest ≡ 32)
 
-pub record IsEntry (e : Entry) : Type 0 where
+pub record IsEntry (external : Bool) (e : Entry) : Type 0 where
   pub id : IsTrue (is_version_id e.id)
   pub bucket : IsBucketName e.bucket
   pub key : IsObjectKey e.key
-  pub sized : IsSizedAs e.marker e.size e.digest
+  pub sized : IsSizedAs e.marker external e.size e.digest
   pub admitted : e.admitted ≤ last_moment
   pub by : IsAuthor e.by
   pub removal : IfSome e.removal IsRemoval
@@ -115,18 +116,18 @@ pub record IsTenure (t : Tenure) : Type 0 where
   pub from : t.from ≤ last_moment
   pub number : t.number ≤ most_moves
 
-pub record IsNote (n : Note) : Type 0 where
+pub record IsNote (external : Bool) (n : Note) : Type 0 where
   pub bucket : IsBucketName n.bucket
   pub batch : IsPlainName n.batch
   pub line : (1 ≤ n.line) × (n.line ≤ 4294967295)
   pub key : IsObjectKey n.key
-  pub size : n.size ≤ most_content
+  pub size : n.size ≤ most_bytes external None
   pub digest : length n.digest ≡ 32
   pub retention : IfSome n.retention IsRetention
   pub id : IsTrue (is_version_id n.id)
 
-pub record IsHistory (h : History) : Type 0 where
-  pub entry : IsEntry h.entry
+pub record IsHistory (external : Bool) (h : History) : Type 0 where
+  pub entry : IsEntry external h.entry
   pub settings : AllByRecursion IsSetting h.settings
 
 -- every value of a vault but those of its tenures and its number of moves, whose limits follow where it is sound
@@ -135,14 +136,18 @@ pub record IsInLimits (v : Vault) : Type 0 where
   pub departments : AllByRecursion IsPlainName v.departments
   pub callers : AllByRecursion IsCaller v.callers
   pub buckets : AllByRecursion IsBucket v.buckets
-  pub notes : AllByRecursion IsNote v.notes
-  pub histories : AllByRecursion IsHistory v.histories
+  pub notes : AllByRecursion (IsNote v.external) v.notes
+  pub histories : AllByRecursion (IsHistory v.external) v.histories
 
 -- ---- the records that only rows have
 
 pub record IsMetaRow (m : MetaRow) : Type 0 where
   pub last : m.last ≤ last_moment
   pub moves : m.moves ≤ most_moves
+
+-- the id of a version whose bytes are kept outside
+abbrev pub IsExternalRow : ℕ → Type 0
+IsExternalRow id = IsTrue (is_version_id id)
 
 abbrev pub IsDepartmentRow : DepartmentRow → Type 0
 IsDepartmentRow d = IsPlainName d.name

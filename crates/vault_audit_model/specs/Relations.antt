@@ -11,14 +11,15 @@ use Rattle.vault_core_model.specs.declared.records.Entry.{Entry}
 use Rattle.vault_core_model.specs.declared.records.History.{History}
 use Rattle.vault_core_model.specs.declared.records.Note.{Note}
 use Rattle.vault_core_model.specs.Order.{IsAscending, name_cmp, caller_cmp, bucket_cmp, note_cmp}
-use Rattle.vault_core_model.specs.Sound.{AreTenures, HasItsContent, HasPlace, IsNoted, IsWithBucket, LiesBetween}
+use Rattle.vault_core_model.specs.Sound.{AreTenures, HasItsContent, HasRoom, IsNoted, IsWithBucket, LiesBetween}
 use Rattle.vault_core_model.specs.Totals.{items_in}
 use Rattle.vault_core_model.specs.Vault.{Vault}
 use Rattle.vault_audit_model.specs.declared.rows.DepartmentRow.{DepartmentRow}
 use Rattle.vault_audit_model.specs.declared.schema.SchemaVersion.{SchemaVersion}
 use Rattle.vault_audit_model.specs.Limits.{IsCaller, IsBucket, IsEntry, IsNote, IsPlainName, IsSetting, IsTenure}
 use Rattle.vault_audit_model.specs.Rows.{caller_row, bucket_row, rule_row, entry_row, content_row, setting_row, note_row, department_row, head_row, caller_columns, bucket_columns, rule_columns_as, entry_columns, content_columns, setting_columns, note_columns, department_columns_as, head_columns}
-use Rattle.vault_audit_model.specs.Spells.{bucket_of, rules_in, contents_in, settings_in, entries_in, tenure_rows_of, tenure_rows_in, sums_over, heads_in}
+use Rattle.vault_audit_model.specs.SchemaVersions.{is_external}
+use Rattle.vault_audit_model.specs.Spells.{bucket_of, rules_in, contents_in, external_rows_of, external_rows_in, settings_in, entries_in, tenure_rows_of, tenure_rows_in, sums_over, heads_in}
 use Rattle.vault_audit_model.specs.Tenures.{IsUnmovedIn}
 use Rattle.vault_audit_model.specs.Tables.{departments_tree, callers_tree, buckets_tree, rules_tree, entries_tree, contents_tree, settings_tree, intake_tree, heads_tree}
 
@@ -42,34 +43,35 @@ abbrev pub IsNextEntry : ℕ → ℕ → Entry → Type 0
 IsNextEntry next low e = (e.id ≡ next) × (low ≤ e.admitted)
 
 -- the ids go on from `next` without a gap, and no admission goes back
-abbrev pub AreNumbered : ℕ → ℕ → List Entry → Type 0
-AreNumbered next low [] = Unit {0}
-AreNumbered next low (e ∷ es) = (IsEntry e × IsNextEntry next low e) × AreNumbered (next + 1) e.admitted es
+abbrev pub AreNumbered : Bool → ℕ → ℕ → List Entry → Type 0
+AreNumbered external next low [] = Unit {0}
+AreNumbered external next low (e ∷ es) = (IsEntry external e × IsNextEntry next low e) × AreNumbered external (next + 1) e.admitted es
 
 -- the rows of the entries are these, which have the ids 1, 2, 3 and so on
-abbrev pub AreEntries : Database → List Entry → Type 0
-AreEntries db es = IsPermutation (map entry_row es) (map entry_columns (db.trees entries_tree)) × AreNumbered 1 0 es
+abbrev pub AreEntries : Bool → Database → List Entry → Type 0
+AreEntries external db es = IsPermutation (map entry_row es) (map entry_columns (db.trees entries_tree)) × AreNumbered external 1 0 es
 
 -- ---- contents
 
--- a held version has its content, all of it in the tables; a removed one and a marker have none
-abbrev pub HasContentAs : Bool → History → Type 0
-HasContentAs true h = h.content ≡ None
-HasContentAs false h = HasPlace false h.content × HasItsContent h.entry.removal h.content h.entry
+-- a held version has its content, which may be kept where it is; a removed one and a marker have none
+abbrev pub HasContentAs : Bool → Bool → History → Type 0
+HasContentAs true external h = h.content ≡ None
+HasContentAs false external h = HasRoom external h.content h.entry.size × HasItsContent h.entry.removal h.content h.entry
 
-abbrev pub HasContent : History → Type 0
-HasContent h = HasContentAs h.entry.marker h
+abbrev pub HasContent : Bool → History → Type 0
+HasContent external h = HasContentAs h.entry.marker external h
 
--- the rows of contents are the bytes of these histories of the entries
-abbrev pub AreContents : Database → List Entry → List History → Type 0
-AreContents db es hs =
-    (map (λ h. h.entry) hs ≡ es) × IsPermutation (map content_row (flat_map contents_in hs)) (map content_columns (db.trees contents_tree))
-    × AllByRecursion HasContent hs
+-- the rows of contents are the bytes of these histories of the entries, and those of external are the versions whose bytes are kept outside
+pub record AreContents (n : SchemaVersion) (db : Database) (es : List Entry) (hs : List History) : Type 0 where
+  pub entries : map (λ h. h.entry) hs ≡ es
+  pub contents : IsPermutation (map content_row (flat_map contents_in hs)) (map content_columns (db.trees contents_tree))
+  pub external : IsPermutation (external_rows_of n hs) (external_rows_in n db)
+  pub each : AllByRecursion (HasContent (is_external n)) hs
 
 -- whether there are such histories
-abbrev pub DecidesContents : Database → List Entry → Bool → Type 0
-DecidesContents db es true = (hs : List History) × AreContents db es hs
-DecidesContents db es false = (hs : List History) → ¬ AreContents db es hs
+abbrev pub DecidesContents : SchemaVersion → Database → List Entry → Bool → Type 0
+DecidesContents n db es true = (hs : List History) × AreContents n db es hs
+DecidesContents n db es false = (hs : List History) → ¬ AreContents n db es hs
 
 -- ---- settings
 
@@ -98,14 +100,14 @@ abbrev pub NamesOneOf : List Entry → Note → Type 0
 NamesOneOf es n = IsNoted n (find (λ e. e.id == n.id) es)
 
 -- the rows of intake are these notes, each of a version
-abbrev pub AreNotes : Database → List Entry → List Note → Type 0
-AreNotes db es ns =
-    IsPermutation (map note_row ns) (map note_columns (db.trees intake_tree)) × IsAscending note_cmp ns × AllByRecursion IsNote ns
+abbrev pub AreNotes : Bool → Database → List Entry → List Note → Type 0
+AreNotes external db es ns =
+    IsPermutation (map note_row ns) (map note_columns (db.trees intake_tree)) × IsAscending note_cmp ns × AllByRecursion (IsNote external) ns
     × AllByRecursion (NamesOneOf es) ns
 
-abbrev pub DecidesNotes : Database → List Entry → Bool → Type 0
-DecidesNotes db es true = (ns : List Note) × AreNotes db es ns
-DecidesNotes db es false = (ns : List Note) → ¬ AreNotes db es ns
+abbrev pub DecidesNotes : Bool → Database → List Entry → Bool → Type 0
+DecidesNotes external db es true = (ns : List Note) × AreNotes external db es ns
+DecidesNotes external db es false = (ns : List Note) → ¬ AreNotes external db es ns
 
 -- ---- tenures
 

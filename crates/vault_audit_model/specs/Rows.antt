@@ -28,7 +28,7 @@ use Rattle.vault_audit_model.specs.declared.rows.SettingRow.{SettingRow}
 use Rattle.vault_audit_model.specs.declared.rows.HeadRow.{HeadRow}
 use Rattle.vault_audit_model.specs.declared.rows.TenureRow.{TenureRow}
 use Rattle.vault_audit_model.specs.declared.schema.SchemaVersion.{SchemaVersion}
-use Rattle.vault_audit_model.specs.declared.schema.SchemaVersion.TheVariants.{First, Second, Third}
+use Rattle.vault_audit_model.specs.declared.schema.SchemaVersion.TheVariants.{First, Second, Third, Fourth}
 use Rattle.vault_audit_model.specs.SchemaVersions.{newest}
 use Rattle.vault_audit_model.specs.Values.{number, number_or_null, text_or_null, bytes_or_null, flag, flag_or_null}
 
@@ -109,9 +109,9 @@ noncurrent_newer noncurrent = number_or_null (option_and_then (λ n. n.newer) no
 
 -- ---- rows
 
--- the first number distinguishes the one row, the second is that of the schema
+-- The first number distinguishes the one row, the second is that of the schema. The last two are those of a vault that doesn't follow a list of commands: it is at place 0, and that is done.
 abbrev pub meta_row : MetaRow → Row
-meta_row m = number 1 ∷ number m.schema ∷ number m.last ∷ number m.next ∷ number m.moves ∷ []
+meta_row m = number 1 ∷ number m.schema ∷ number m.last ∷ number m.next ∷ number m.moves ∷ number 0 ∷ number 1 ∷ []
 
 abbrev pub department_row : DepartmentRow → Row
 department_row d =
@@ -158,16 +158,21 @@ head_row h = Text h.bucket ∷ Text h.key ∷ number h.head.newest ∷ number h.
 abbrev pub tenure_row : TenureRow → Row
 tenure_row t = number t.id ∷ number t.tenure.number ∷ Text t.tenure.dept ∷ number t.tenure.from ∷ []
 
+-- the row of a version whose bytes are kept outside: its id
+abbrev pub external_row : ℕ → Row
+external_row id = number id ∷ []
+
 -- ---- the columns of a row as it is stored: its number in the file and then each column, where the number is the key of a table whose key is a number
 
--- in a schema version without a column for it, no bucket was moved
-abbrev pub moves_in : SchemaVersion → Row → Row
-moves_in First r = number 0 ∷ []
-moves_in Second r = number 0 ∷ []
-moves_in Third r = column r 5 ∷ []
+-- in a schema version without columns for them, no bucket was moved, and no list is followed
+abbrev pub later_in_meta : SchemaVersion → Row → Row
+later_in_meta First r = number 0 ∷ number 0 ∷ number 1 ∷ []
+later_in_meta Second r = number 0 ∷ number 0 ∷ number 1 ∷ []
+later_in_meta Third r = column r 5 ∷ number 0 ∷ number 1 ∷ []
+later_in_meta Fourth r = column r 5 ∷ column r 6 ∷ column r 7 ∷ []
 
 abbrev pub meta_columns_as : SchemaVersion → Row → Row
-meta_columns_as n r = column r 0 ∷ column r 2 ∷ column r 3 ∷ column r 4 ∷ moves_in n r
+meta_columns_as n r = column r 0 ∷ column r 2 ∷ column r 3 ∷ column r 4 ∷ later_in_meta n r
 
 abbrev pub meta_columns : Row → Row
 meta_columns = meta_columns_as newest
@@ -177,6 +182,7 @@ abbrev pub exchanged_in : SchemaVersion → Row → Row
 exchanged_in First r = number 0 ∷ number 0 ∷ []
 exchanged_in Second r = number 0 ∷ number 0 ∷ []
 exchanged_in Third r = column r 7 ∷ column r 8 ∷ []
+exchanged_in Fourth r = column r 7 ∷ column r 8 ∷ []
 
 abbrev pub department_columns_as : SchemaVersion → Row → Row
 department_columns_as n r =
@@ -196,6 +202,7 @@ abbrev pub bounds_in : SchemaVersion → Row → Row
 bounds_in First r = Null ∷ Null ∷ []
 bounds_in Second r = column r 10 ∷ column r 11 ∷ []
 bounds_in Third r = column r 10 ∷ column r 11 ∷ []
+bounds_in Fourth r = column r 10 ∷ column r 11 ∷ []
 
 abbrev pub rule_columns_as : SchemaVersion → Row → Row
 rule_columns_as n r =
@@ -227,3 +234,6 @@ head_columns r = column r 1 ∷ column r 2 ∷ column r 3 ∷ column r 4 ∷ []
 
 abbrev pub tenure_columns : Row → Row
 tenure_columns r = column r 1 ∷ column r 2 ∷ column r 3 ∷ column r 4 ∷ []
+
+abbrev pub external_columns : Row → Row
+external_columns r = column r 0 ∷ []

@@ -26,10 +26,10 @@ use Rattle.vault_audit_model.specs.declared.rows.SettingRow.{SettingRow}
 use Rattle.vault_audit_model.specs.declared.rows.HeadRow.{HeadRow}
 use Rattle.vault_audit_model.specs.declared.rows.TenureRow.{TenureRow}
 use Rattle.vault_audit_model.specs.declared.schema.SchemaVersion.{SchemaVersion}
-use Rattle.vault_audit_model.specs.declared.schema.SchemaVersion.TheVariants.{First, Second, Third}
-use Rattle.vault_audit_model.specs.SchemaVersions.{number_of, newest}
-use Rattle.vault_audit_model.specs.Tables.{schema_of, meta_tree, departments_tree, callers_tree, buckets_tree, rules_tree, entries_tree, contents_tree, settings_tree, intake_tree, heads_tree, tenures_tree}
-use Rattle.vault_audit_model.specs.Rows.{meta_row, department_row, caller_row, bucket_row, rule_row, entry_row, content_row, setting_row, note_row, head_row, tenure_row, meta_columns_as, department_columns_as, caller_columns, bucket_columns, rule_columns_as, entry_columns, content_columns, setting_columns, note_columns, head_columns, tenure_columns}
+use Rattle.vault_audit_model.specs.declared.schema.SchemaVersion.TheVariants.{First, Second, Third, Fourth}
+use Rattle.vault_audit_model.specs.SchemaVersions.{number_of, is_external, newest}
+use Rattle.vault_audit_model.specs.Tables.{schema_of, meta_tree, departments_tree, callers_tree, buckets_tree, rules_tree, entries_tree, contents_tree, settings_tree, intake_tree, heads_tree, tenures_tree, external_tree}
+use Rattle.vault_audit_model.specs.Rows.{meta_row, department_row, caller_row, bucket_row, rule_row, entry_row, content_row, setting_row, note_row, head_row, tenure_row, external_row, meta_columns_as, department_columns_as, caller_columns, bucket_columns, rule_columns_as, entry_columns, content_columns, setting_columns, note_columns, head_columns, tenure_columns, external_columns}
 use Rattle.vault_audit_model.specs.Limits.{IsInLimits}
 use Rattle.vault_audit_model.specs.Tenures.{IsUnmovedIn}
 
@@ -66,6 +66,15 @@ content_if_given id (Some (External r)) = []
 abbrev pub contents_in : History → List ContentRow
 contents_in h = content_if_given h.entry.id h.content
 
+-- the id of a version, while its bytes are kept outside
+abbrev pub external_if_given : ℕ → Option Content → List ℕ
+external_if_given id None = []
+external_if_given id (Some (Inside bytes)) = []
+external_if_given id (Some (External r)) = id ∷ []
+
+abbrev pub external_in : History → List ℕ
+external_in h = external_if_given h.entry.id h.content
+
 -- the settings of a version at their places, from this one on
 abbrev pub settings_from : ℕ → ℕ → List Setting → List SettingRow
 settings_from id place [] = []
@@ -86,11 +95,26 @@ abbrev pub tenure_rows_of : SchemaVersion → Vault → List Row
 tenure_rows_of First v = []
 tenure_rows_of Second v = []
 tenure_rows_of Third v = map tenure_row (flat_map tenures_in v.histories)
+tenure_rows_of Fourth v = map tenure_row (flat_map tenures_in v.histories)
 
 abbrev pub tenure_rows_in : SchemaVersion → Database → List Row
 tenure_rows_in First db = []
 tenure_rows_in Second db = []
 tenure_rows_in Third db = map tenure_columns (db.trees tenures_tree)
+tenure_rows_in Fourth db = map tenure_columns (db.trees tenures_tree)
+
+-- the same of the rows of external
+abbrev pub external_rows_of : SchemaVersion → List History → List Row
+external_rows_of First hs = []
+external_rows_of Second hs = []
+external_rows_of Third hs = []
+external_rows_of Fourth hs = map external_row (flat_map external_in hs)
+
+abbrev pub external_rows_in : SchemaVersion → Database → List Row
+external_rows_in First db = []
+external_rows_in Second db = []
+external_rows_in Third db = []
+external_rows_in Fourth db = map external_columns (db.trees external_tree)
 
 abbrev pub entries_in : List History → List Entry
 entries_in hs = map (λ h. h.entry) hs
@@ -127,9 +151,9 @@ heads_in v = map (head_in v) (filter (is_current v) v.histories)
 
 -- ---- what holds beyond the limits of values
 
--- a vault as tables of that schema version may keep it: with no content that is kept outside, in its limits, sound, and with no tenures but those that they can state
+-- a vault as tables of that schema version may keep it: it registers contents that are kept outside if they do, and is in its limits, sound, and with no tenures but those that they can state
 pub record IsKeptAs (n : SchemaVersion) (v : Vault) : Type 0 where
-  pub inside : v.external ≡ false
+  pub external : v.external ≡ is_external n
   pub limits : IsInLimits v
   pub sound : Sound v
   pub unmoved : IsUnmovedIn n v
@@ -152,6 +176,7 @@ pub record SpellsAs (n : SchemaVersion) (db : Database) (v : Vault) : Type 0 whe
   pub settings : IsPermutation (map setting_row (flat_map settings_in v.histories)) (map setting_columns (db.trees settings_tree))
   pub intake : IsPermutation (map note_row v.notes) (map note_columns (db.trees intake_tree))
   pub tenures : IsPermutation (tenure_rows_of n v) (tenure_rows_in n db)
+  pub external : IsPermutation (external_rows_of n v.histories) (external_rows_in n db)
   pub kept : IsKeptAs n v
 
 abbrev pub Spells : Database → Vault → Type 0

@@ -14,7 +14,7 @@ use Rattle.sqlite_schema.specs.declared.schema.Action.TheVariants.{NoAction}
 use Rattle.sqlite.specs.Kind.TheVariants.{Integer, Text, Blob}
 use Rattle.sqlite_catalog.specs.Listing.{automatic}
 use Rattle.vault_audit_model.specs.declared.schema.SchemaVersion.{SchemaVersion}
-use Rattle.vault_audit_model.specs.declared.schema.SchemaVersion.TheVariants.{First, Second, Third}
+use Rattle.vault_audit_model.specs.declared.schema.SchemaVersion.TheVariants.{First, Second, Third, Fourth}
 use Rattle.vault_audit_model.specs.SchemaVersions.{newest}
 
 -- a column of a STRICT table, with no default
@@ -98,19 +98,23 @@ heads_tree = 16
 abbrev pub tenures_tree : ℕ
 tenures_tree = 18
 
+abbrev pub external_tree : ℕ
+external_tree = 21
+
 -- ---- the tables
 
--- how often a bucket was moved
-abbrev pub moves_column : SchemaVersion → List Column
-moves_column First = []
-moves_column Second = []
-moves_column Third = has (codes "moves") Integer ∷ []
+-- how often a bucket was moved; then, for a vault that follows a list of commands, the place up to which it does, and whether that is done
+abbrev pub meta_columns_later : SchemaVersion → List Column
+meta_columns_later First = []
+meta_columns_later Second = []
+meta_columns_later Third = has (codes "moves") Integer ∷ []
+meta_columns_later Fourth = has (codes "moves") Integer ∷ has (codes "place") Integer ∷ has (codes "done") Integer ∷ []
 
 abbrev pub meta_as : SchemaVersion → Table
 meta_as n =
     table_by_number (codes "meta") meta_tree
     (may_have (codes "one") Integer ∷ has (codes "schema") Integer ∷ has (codes "last") Integer ∷ has (codes "next") Integer
-    ∷ moves_column n)
+    ∷ meta_columns_later n)
     []
 
 abbrev pub meta : Table
@@ -121,6 +125,7 @@ abbrev pub exchange_columns : SchemaVersion → List Column
 exchange_columns First = []
 exchange_columns Second = []
 exchange_columns Third = has (codes "received") Integer ∷ has (codes "handed") Integer ∷ []
+exchange_columns Fourth = has (codes "received") Integer ∷ has (codes "handed") Integer ∷ []
 
 abbrev pub departments_as : SchemaVersion → Table
 departments_as n =
@@ -150,6 +155,7 @@ abbrev pub bound_columns : SchemaVersion → List Column
 bound_columns First = []
 bound_columns Second = may_have (codes "larger") Integer ∷ may_have (codes "smaller") Integer ∷ []
 bound_columns Third = may_have (codes "larger") Integer ∷ may_have (codes "smaller") Integer ∷ []
+bound_columns Fourth = may_have (codes "larger") Integer ∷ may_have (codes "smaller") Integer ∷ []
 
 abbrev pub rules_as : SchemaVersion → Table
 rules_as n =
@@ -205,11 +211,16 @@ tenures =
     (has (codes "id") Integer ∷ has (codes "n") Integer ∷ has (codes "dept") Text ∷ has (codes "moment") Integer ∷ [])
     (refers 1 (codes "entries") (codes "id") ∷ refers 3 (codes "departments") (codes "name") ∷ [])
 
+-- the held versions whose bytes are kept outside
+abbrev pub external : Table
+external = table_by_number (codes "external") external_tree (may_have (codes "id") Integer ∷ []) (refers 0 (codes "entries") (codes "id") ∷ [])
+
 -- the tables that a schema version has besides those of the first
 abbrev pub later_tables : SchemaVersion → List Table
 later_tables First = []
 later_tables Second = []
 later_tables Third = tenures ∷ []
+later_tables Fourth = tenures ∷ external ∷ []
 
 -- The entries by bucket, key and removal, the latest first. NULL is the least of all values, so those that a key holds stand last, by their ids.
 abbrev pub entries_held : Index
@@ -221,6 +232,7 @@ abbrev pub later_indexes : SchemaVersion → List Index
 later_indexes First = []
 later_indexes Second = []
 later_indexes Third = automatic tenures 0 (1 ∷ 2 ∷ []) 19 ∷ entries_held ∷ []
+later_indexes Fourth = automatic tenures 0 (1 ∷ 2 ∷ []) 19 ∷ entries_held ∷ []
 
 -- a store without tables
 abbrev pub no_schema : Schema

@@ -8,7 +8,7 @@ use Rattle.vault_core_model.specs.declared.records.History.{History}
 use Rattle.vault_core_model.specs.declared.records.Tenure.{Tenure}
 use Rattle.vault_core_model.specs.Vault.{Vault, config_in}
 use Rattle.vault_audit_model.specs.declared.schema.SchemaVersion.{SchemaVersion}
-use Rattle.vault_audit_model.specs.declared.schema.SchemaVersion.TheVariants.{First, Second, Third}
+use Rattle.vault_audit_model.specs.declared.schema.SchemaVersion.TheVariants.{First, Second, Third, Fourth}
 
 -- a marker has none; a version has one, of its bucket's department, from its admission
 abbrev pub first_tenures : Bool → ℕ → Option BucketConfig → List Tenure
@@ -32,8 +32,9 @@ pub record IsUnmoved (v : Vault) : Type 0 where
   pub moves : v.moves ≡ 0
   pub tenures : AllByRecursion (HasFirstTenures v.buckets) v.histories
 
--- a schema version without tenures can state no other vault; the third can state any
+-- a schema version without tenures can state no other vault; one that has them can state any
 abbrev pub IsUnmovedIn : SchemaVersion → Vault → Type 0
 IsUnmovedIn First v = IsUnmoved v
 IsUnmovedIn Second v = IsUnmoved v
 IsUnmovedIn Third v = Unit {0}
+IsUnmovedIn Fourth v = Unit {0}

@@ -51,6 +51,7 @@ pub enum Table {
     Intake,
     Heads,
     Tenures,
+    External,
 }
 
 impl Table {
@@ -73,6 +74,7 @@ impl Table {
             Table::Intake => "intake",
             Table::Heads => "heads",
             Table::Tenures => "tenures",
+            Table::External => "external",
         }
     }
 }

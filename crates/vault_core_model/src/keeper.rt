@@ -117,8 +117,7 @@ pub trait Keeper: Kept {
         ensures value { Self.is_honest self.new → IfOk result (λ keys. keys.items ≡ keys_after (Self.vault self.old) bucket.now after.now most) }
         ensures leaves { ReadsAs Self.Kept self.old self.new result };
 
-    /// The ids of a key's held entries that are older than `than`, newest first: at most `most`. Each is older
-    /// where none is given.
+    /// At most `most` ids of a key's held entries, newest first: those older than `than`, or all if it is none.
     fn ids(
         &mut self,
         bucket: &BucketName,
@@ -129,8 +128,7 @@ pub trait Keeper: Kept {
         ensures value { Self.is_honest self.new → IfOk result (λ ids. ids.items ≡ ids_before (Self.vault self.old) bucket.now key.now than most) }
         ensures leaves { ReadsAs Self.Kept self.old self.new result };
 
-    /// The names of the first buckets after `after`, by their bytes: at most `most`. Each name comes after the
-    /// empty text.
+    /// At most `most` names of buckets, by their bytes: those after `after`, or all if it is empty.
     fn buckets(&mut self, after: &str, most: u32) -> Result<Vec<BucketName>, Fault>
         ensures value { Self.is_honest self.new → IfOk result (λ names. names.items ≡ buckets_after (Self.vault self.old) after.now most) }
         ensures leaves { ReadsAs Self.Kept self.old self.new result };
@@ -160,8 +158,7 @@ pub trait Keeper: Kept {
         ensures value { Self.is_honest self.new → IfOk result (λ found. found ≡ tenures_of (Self.vault self.old) id) }
         ensures leaves { ReadsAs Self.Kept self.old self.new result };
 
-    /// The bytes of a bucket's held content, and their weight: each byte times the day from which the
-    /// department has it.
+    /// The bytes held in a bucket, and their weight: each byte times the day from which its department has it.
     fn bucket_held(&mut self, bucket: &BucketName) -> Result<(u64, u64), Fault>
         ensures value { Self.is_honest self.new → IfOk result (λ held. (held.0 ≡ bucket_bytes (Self.vault self.old) bucket.now) × (held.1 ≡ bucket_weight (Self.vault self.old) bucket.now)) }
         ensures leaves { ReadsAs Self.Kept self.old self.new result };
@@ -180,9 +177,7 @@ pub trait Keeper: Kept {
         ensures leaves { Leaves Self.Kept self.old self.new (is_device_given result) };
 }
 
-/// Makes a change at a moment, as the keeper does, and drops it.
-///
-/// A command hands its change over here, so that it has none to drop on each of its own ways out.
+/// Makes a change at a moment and drops it, so that a command has none to drop on each of its own ways out.
 pub fn make_change<K: Keeper>(keeper: &mut K, at: Moment, change: Change) -> Result<(), Fault>
     requires in_time { K.is_honest keeper.old → (K.vault keeper.old).last ≤ at }
     requires allowed { K.is_honest keeper.old → Allows (K.vault keeper.old) at change }

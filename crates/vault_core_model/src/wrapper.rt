@@ -47,8 +47,7 @@ pub enum Read<'a> {
 
 /// What hands on what a keeper within it does, and so is a keeper of the same vault.
 ///
-/// It sees each read and each change before it hands them on. It may refuse a change, and where it isn't honest it may
-/// answer some reads otherwise.
+/// It sees each read and change first. It may refuse a change, and answer some reads otherwise where it isn't honest.
 pub trait Wrapper: Kept {
     /// The type of the keeper within it.
     type Below: Keeper;
