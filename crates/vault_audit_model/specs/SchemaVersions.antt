@@ -17,11 +17,11 @@ is_external Second = false
 is_external Third = false
 is_external Fourth = true
 
--- that of a vault which registers such contents, or doesn't
+-- that of a vault's file, new or opened: it follows from whether the vault registers such contents
 abbrev pub edition_of : Bool → SchemaVersion
 edition_of false = Third
 edition_of true = Fourth
 
--- new vaults have it, and it alone is opened
+-- no other has a table or a column that it lacks
 abbrev pub newest : SchemaVersion
-newest = Third
+newest = Fourth

@@ -27,7 +27,7 @@ use Rattle.vault_audit_model.specs.declared.rows.HeadRow.{HeadRow}
 use Rattle.vault_audit_model.specs.declared.rows.TenureRow.{TenureRow}
 use Rattle.vault_audit_model.specs.declared.schema.SchemaVersion.{SchemaVersion}
 use Rattle.vault_audit_model.specs.declared.schema.SchemaVersion.TheVariants.{First, Second, Third, Fourth}
-use Rattle.vault_audit_model.specs.SchemaVersions.{number_of, is_external, newest}
+use Rattle.vault_audit_model.specs.SchemaVersions.{number_of, is_external, edition_of}
 use Rattle.vault_audit_model.specs.Tables.{schema_of, meta_tree, departments_tree, callers_tree, buckets_tree, rules_tree, entries_tree, contents_tree, settings_tree, intake_tree, heads_tree, tenures_tree, external_tree}
 use Rattle.vault_audit_model.specs.Rows.{meta_row, department_row, caller_row, bucket_row, rule_row, entry_row, content_row, setting_row, note_row, head_row, tenure_row, external_row, meta_columns_as, department_columns_as, caller_columns, bucket_columns, rule_columns_as, entry_columns, content_columns, setting_columns, note_columns, head_columns, tenure_columns, external_columns}
 use Rattle.vault_audit_model.specs.Limits.{IsInLimits}
@@ -39,7 +39,7 @@ abbrev pub meta_stated : SchemaVersion → Vault → MetaRow
 meta_stated n v = record { schema = number_of n; last = v.last; next = next_id v; moves = v.moves }
 
 abbrev pub meta_of : Vault → MetaRow
-meta_of = meta_stated newest
+meta_of v = meta_stated (edition_of v.external) v
 
 -- a bucket without its rules
 abbrev pub bucket_of : Bucket → BucketRow
@@ -159,7 +159,7 @@ pub record IsKeptAs (n : SchemaVersion) (v : Vault) : Type 0 where
   pub unmoved : IsUnmovedIn n v
 
 abbrev pub IsKept : Vault → Type 0
-IsKept = IsKeptAs newest
+IsKept v = IsKeptAs (edition_of v.external) v
 
 -- ---- the vault that the rows spell
 
@@ -180,7 +180,7 @@ pub record SpellsAs (n : SchemaVersion) (db : Database) (v : Vault) : Type 0 whe
   pub kept : IsKeptAs n v
 
 abbrev pub Spells : Database → Vault → Type 0
-Spells = SpellsAs newest
+Spells db v = SpellsAs (edition_of v.external) db v
 
 -- The tables of that schema version are sound: they spell this vault, with the running numbers over its tenures and the heads over its entries.
 pub record AreSoundAs (n : SchemaVersion) (db : Database) (v : Vault) : Type 0 where
@@ -188,6 +188,6 @@ pub record AreSoundAs (n : SchemaVersion) (db : Database) (v : Vault) : Type 0 w
   pub numbers : IsPermutation (map (λ d. department_row (department_in v d)) v.departments) (map (department_columns_as n) (db.trees departments_tree))
   pub heads : IsPermutation (map head_row (heads_in v)) (map head_columns (db.trees heads_tree))
 
--- the same of the newest
+-- the same of the one that such a vault's file has
 abbrev pub AreSound : Database → Vault → Type 0
-AreSound = AreSoundAs newest
+AreSound db v = AreSoundAs (edition_of v.external) db v

@@ -15,7 +15,7 @@ use Rattle.sqlite.specs.Kind.TheVariants.{Integer, Text, Blob}
 use Rattle.sqlite_catalog.specs.Listing.{automatic}
 use Rattle.vault_audit_model.specs.declared.schema.SchemaVersion.{SchemaVersion}
 use Rattle.vault_audit_model.specs.declared.schema.SchemaVersion.TheVariants.{First, Second, Third, Fourth}
-use Rattle.vault_audit_model.specs.SchemaVersions.{newest}
+use Rattle.vault_audit_model.specs.SchemaVersions.{edition_of, newest}
 
 -- a column of a STRICT table, with no default
 abbrev pub column_as : Bool → List ℕ → Kind → Column
@@ -248,6 +248,6 @@ schema_of n = record {
   views = [];
 }
 
--- the schema of every vault that is opened
-abbrev pub vault_schema : Schema
-vault_schema = schema_of newest
+-- the schema of every vault that is opened, by whether it registers contents that are kept outside
+abbrev pub vault_schema : Bool → Schema
+vault_schema external = schema_of (edition_of external)

@@ -15,8 +15,8 @@ pub enum SchemaVersion {
     Fourth,
 }
 
-/// The newest schema version.
-pub const NEWEST: SchemaVersion = SchemaVersion::Third;
+/// The newest schema version: no other has a table or a column that it lacks.
+pub const NEWEST: SchemaVersion = SchemaVersion::Fourth;
 
 impl SchemaVersion {
     /// The number of the schema, as `meta` has it.
@@ -38,7 +38,7 @@ impl SchemaVersion {
         matches!(self, SchemaVersion::Fourth)
     }
 
-    /// That of a vault which registers such contents, or doesn't.
+    /// That of a vault's file, new or opened: it follows from whether the vault registers such contents.
     pub fn of(external: bool) -> SchemaVersion
         ensures { result ≡ spec.edition_of external }
     {

@@ -14,10 +14,10 @@ use Rattle.vault_core_model.specs.Change.{changed, new_bucket}
 use Rattle.vault_core_model.specs.Reads.{entry_of, setting_of, count_of_settings, head_of, head_over}
 use Rattle.vault_core_model.specs.Places.{held_at}
 use Rattle.vault_core_model.specs.Vault.{Vault, config_of, next_id}
-use Rattle.vault_audit_model.specs.Rows.{department_row, caller_row, bucket_row, rule_row, entry_row, content_row, setting_row, note_row, head_row, tenure_row}
-use Rattle.vault_audit_model.specs.Spells.{bucket_of, rules_if_given, contents_in, settings_in, tenures_in, department_in}
+use Rattle.vault_audit_model.specs.Rows.{department_row, caller_row, bucket_row, rule_row, entry_row, content_row, setting_row, note_row, head_row, tenure_row, external_row}
+use Rattle.vault_audit_model.specs.Spells.{bucket_of, rules_if_given, contents_in, external_in, settings_in, tenures_in, department_in}
 use Rattle.vault_store_model.specs.Rows.{Rows}
-use Rattle.vault_store_model.specs.Edits.{with_rows, with_row, changed_if, with_changed, without, and_then, with_each, at_moment}
+use Rattle.vault_store_model.specs.Edits.{with_rows, with_row, changed_if, with_changed, without, made_if, and_then, with_each, at_moment}
 use Rattle.vault_store_model.specs.Copies.{with_tenures}
 use Rattle.vault_store_model.specs.Tests.{is_named, is_numbered, is_of_key, every, with_last_and_next, with_last_and_moves, with_sums, closed_row, with_default_columns, with_owner, removed_row, with_head_columns}
 
@@ -68,18 +68,20 @@ abbrev pub with_history : Vault → History → Rows → Rows
 with_history v h =
     and_then (with_row table.Entries (entry_row h.entry))
     (and_then (with_each table.Contents (map content_row (contents_in h)))
+    (and_then (made_if v.external (with_each table.External (map external_row (external_in h))))
     (and_then (with_each table.Settings (map setting_row (settings_in h)))
     (and_then (with_each table.Tenures (map tenure_row (tenures_in h)))
-    (with_head h.entry.bucket h.entry.key (head_of v h.entry.bucket h.entry.key) (Some (head_with h.entry.id (head_of v h.entry.bucket h.entry.key)))))))
+    (with_head h.entry.bucket h.entry.key (head_of v h.entry.bucket h.entry.key) (Some (head_with h.entry.id (head_of v h.entry.bucket h.entry.key))))))))
 
--- an entry removed, its bytes, the sums and the head of its key; w is the vault after that
+-- an entry removed, its content, the sums and the head of its key; w is the vault after that
 abbrev pub without_entry : Vault → Vault → ℕ → Removal → Option Entry → Rows → Rows
 without_entry v w id r None xs = xs
 without_entry v w id r (Some e) xs =
     and_then (with_changed table.Entries (is_numbered id) (removed_row r))
     (and_then (without table.Contents (is_numbered id))
+    (and_then (made_if v.external (without table.External (is_numbered id)))
     (and_then (with_sums_of w e.marker (config_of v e.bucket))
-    (with_head e.bucket e.key (head_of v e.bucket e.key) (head_over (others_at v id e.bucket e.key))))) xs
+    (with_head e.bucket e.key (head_of v e.bucket e.key) (head_over (others_at v id e.bucket e.key)))))) xs
 
 -- the sums that this vault has, in the row of a department
 abbrev pub with_department_sums : Vault → List ℕ → Rows → Rows

@@ -1,5 +1,5 @@
 -- What a statement makes of the rows of the tables: rows are added to one table, changed in it, or dropped from it.
-use Rattle.std.specs.Prelude.{◌≡◌, ◌==◌, ℕ, Bool, not, cond, List, [], ◌∷◌, map, filter, IsTrue}
+use Rattle.std.specs.Prelude.{◌≡◌, ◌==◌, ℕ, Bool, true, false, not, cond, List, [], ◌∷◌, map, filter, IsTrue}
 use Rattle.sqlite_value.specs.Order.{Row}
 use Rattle.sqlite.specs.State.{State}
 use Rattle.vault_base.specs.declared.refusal.Table.{Table}
@@ -40,6 +40,11 @@ with_each t more = with_rows t (pushed more)
 abbrev pub at_moment : ℕ → Rows → Rows
 at_moment t = with_changed table.Meta every (with_last t)
 
+-- an edit that is made, or not
+abbrev pub made_if : Bool → (Rows → Rows) → Rows → Rows
+made_if false edit xs = xs
+made_if true edit xs = edit xs
+
 -- one edit after the other
 abbrev pub and_then : (Rows → Rows) → (Rows → Rows) → Rows → Rows
 and_then first second xs = second (first xs)
@@ -48,12 +53,12 @@ and_then first second xs = second (first xs)
 abbrev pub IgnoresOrder : (Rows → Rows) → Type 0
 IgnoresOrder edit = (xs ys : Rows) → AreSameRows xs ys → AreSameRows (edit xs) (edit ys)
 
--- A part of a transaction makes this edit of the tables of a vault, and leaves the last commit alone.
-pub record Edits (old new : State) (edit : Rows → Rows) : Type 0 where
+-- A part of a transaction makes this edit of the tables of a vault, one that registers contents which are kept outside or not, and leaves the last commit alone.
+pub record Edits (external : Bool) (old new : State) (edit : Rows → Rows) : Type 0 where
   pub was_open : IsTrue old.is_open
   pub is_open : IsTrue new.is_open
   pub inside : IsTrue new.in_transaction
   pub committed : new.committed ≡ old.committed
-  pub schema : old.now.schema ≡ vault_schema → new.now.schema ≡ vault_schema
-  pub rows : old.now.schema ≡ vault_schema → AreSameRows (edit (rows_in old.now)) (rows_in new.now)
+  pub schema : old.now.schema ≡ vault_schema external → new.now.schema ≡ vault_schema external
+  pub rows : old.now.schema ≡ vault_schema external → AreSameRows (edit (rows_in external old.now)) (rows_in external new.now)
   pub ignores : IgnoresOrder edit

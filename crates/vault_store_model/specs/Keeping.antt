@@ -13,4 +13,4 @@ Keeps s v = IsTrue s.is_open → AreSound s.now v × (s.committed ≡ s.now)
 
 -- trees that the next opening reads as this vault
 abbrev pub AreTreesOf : Vault → Trees → Type 0
-AreTreesOf v trees = AreSound (record { schema = vault_schema; trees = trees }) v
+AreTreesOf v trees = AreSound (record { schema = vault_schema v.external; trees = trees }) v

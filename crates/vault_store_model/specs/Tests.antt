@@ -39,13 +39,15 @@ every row = true
 
 -- the last moment, alone, with the next id, and with the number of moves
 abbrev pub with_last : ℕ → Row → Row
-with_last last row = column row 0 ∷ column row 1 ∷ number last ∷ column row 3 ∷ column row 4 ∷ []
+with_last last row = column row 0 ∷ column row 1 ∷ number last ∷ column row 3 ∷ column row 4 ∷ column row 5 ∷ column row 6 ∷ []
 
 abbrev pub with_last_and_next : ℕ → ℕ → Row → Row
-with_last_and_next last next row = column row 0 ∷ column row 1 ∷ number last ∷ number next ∷ column row 4 ∷ []
+with_last_and_next last next row =
+    column row 0 ∷ column row 1 ∷ number last ∷ number next ∷ column row 4 ∷ column row 5 ∷ column row 6 ∷ []
 
 abbrev pub with_last_and_moves : ℕ → ℕ → Row → Row
-with_last_and_moves last moves row = column row 0 ∷ column row 1 ∷ number last ∷ column row 3 ∷ number moves ∷ []
+with_last_and_moves last moves row =
+    column row 0 ∷ column row 1 ∷ number last ∷ column row 3 ∷ number moves ∷ column row 5 ∷ column row 6 ∷ []
 
 abbrev pub with_sums : Sums → Row → Row
 with_sums sums row =

@@ -40,7 +40,7 @@ pub fn edits_ignore_order()
 /// its limits.
 pub fn changed_vaults_are_kept()
     ensures { (v : Vault) (t : ℕ) (c : Change) → IsKept v → v.last ≤ t → t ≤ last_moment → Allows v t c →
-        IsChangeInLimits c → IsKept (changed v t c) }
+        IsChangeInLimits v.external c → IsKept (changed v t c) }
 {}
 
 /// In every table but that of the heads, the edits of a change turn the rows of a vault into those of the
@@ -83,8 +83,8 @@ pub fn edits_make_the_changed_vault()
 /// Tables that have the rows of a vault have, after the edits of a change, those of the changed vault.
 pub fn edited_tables_have_the_changed_vault()
     ensures { (old new : Database) (v : Vault) (t : ℕ) (c : Change) → HasRows old v → v.last ≤ t → t ≤ last_moment →
-        Allows v t c → IsChangeInLimits c → new.schema ≡ vault_schema →
-        AreSameRows (edit_of v t c (rows_in old)) (rows_in new) → HasRows new (changed v t c) }
+        Allows v t c → IsChangeInLimits v.external c → new.schema ≡ vault_schema v.external →
+        AreSameRows (edit_of v t c (rows_in v.external old)) (rows_in v.external new) → HasRows new (changed v t c) }
 {}
 
 /// The head that a key has after the removal of one of its held entries, by the head that it had: none

@@ -11,4 +11,4 @@ use Rattle.vault_audit_model.specs.Spells.{AreSound}
 -- a text that is one query was answered with these rows, over tables that state the vault
 abbrev pub FindsRows : Vault → List ℕ → Row → List Row → Type 0
 FindsRows v sql params rows =
-    (db : Database) × AreSound db v × ((q : Query) → Selects vault_schema sql q → Answers db (record { lets = []; body = q }) params rows)
+    (db : Database) × AreSound db v × ((q : Query) → Selects (vault_schema v.external) sql q → Answers db (record { lets = []; body = q }) params rows)
