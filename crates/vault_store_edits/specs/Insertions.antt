@@ -2,7 +2,7 @@
 use Rattle.std.proofs.Common.{◌≡◌, Bool, true, false, IsTrue, refl, sym, true≢false}
 use Rattle.sqlite_tied.specs.Compute.{everything}
 use Rattle.sqlite_resolve.specs.declared.error.CompileError.TheVariants.{NoSuchTable}
-use Rattle.sqlite.specs.Listing.{understood}
+use Rattle.sqlite.specs.Listing.{listing_schema, understood}
 use Rattle.vault_base.specs.declared.refusal.Table.{Table}
 use Rattle.vault_base.specs.declared.refusal.Table.TheVariants as table
 use Rattle.vault_audit_model.specs.Tables.{vault_schema}
@@ -40,7 +40,7 @@ insertion true table.External there = record { there = refl; command = refl; pla
 
 -- it isn't understood where the vault lacks the table
 pub not_insertion : (external : Bool) (t : Table) → has_table external t ≡ false → IsUnknown (vault_schema external) (insert_text (made_as external t))
-unfolding understood everything
+unfolding understood listing_schema everything
 not_insertion false table.Meta lacks = absurd (true≢false lacks)
 not_insertion false table.Departments lacks = absurd (true≢false lacks)
 not_insertion false table.Callers lacks = absurd (true≢false lacks)

@@ -10,6 +10,7 @@ ghost use Rattle.vault_store_edits.specs.Inside.{IsEdit};
 use crate::put::{Put, put_row};
 use crate::rowids::check_id;
 use sqlite::{Alter, Error, Transaction, params};
+use vault_audit_schema::{external_columns, insert_text};
 use vault_base::name::VersionId;
 use vault_base::refusal::Table;
 
@@ -33,7 +34,7 @@ impl Put for NewExternal {
 
     fn insert<S: Alter>(&self, tx: &mut Transaction<'_, S>) -> Result<usize, Error> {
         tx.execute(
-            "INSERT INTO external (id) VALUES (:id)",
+            external_columns!(insert_text),
             params![self.id.number()],
         )
     }
