@@ -33,10 +33,7 @@ impl Put for NewExternal {
     ghost typed = { λ x r. ⊤ };
 
     fn insert<S: Alter>(&self, tx: &mut Transaction<'_, S>) -> Result<usize, Error> {
-        tx.execute(
-            external_columns!(insert_text),
-            params![self.id.number()],
-        )
+        tx.execute(external_columns!(insert_text), params![self.id.number()])
     }
 
     ghost inserts = { λ external there x. external_inserts external there x.id };
@@ -51,10 +48,7 @@ pub fn put_external<S: Alter>(tx: &mut Transaction<'_, S>, id: VersionId) -> Res
 }
 
 /// Deletes that the bytes of a version are kept outside.
-pub fn delete_external<S: Alter>(
-    tx: &mut Transaction<'_, S>,
-    id: VersionId,
-) -> Result<usize, Error>
+pub fn delete_external<S: Alter>(tx: &mut Transaction<'_, S>, id: VersionId) -> Result<usize, Error>
     ensures same_reference { tx.new.conn.ghost_name ≡ tx.old.conn.ghost_name }
     ensures edit { IsEdit S.Store tx.old.conn.now tx.new.conn.now result (without table.External (is_numbered id)) }
 {
