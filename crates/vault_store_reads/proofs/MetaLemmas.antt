@@ -20,7 +20,7 @@ module _ (v : Vault) (rows : List Row) (finds : FindsRows v meta_text [] rows) w
   meta_found : IsPermutation (map meta_row (meta_of v ∷ [])) rows
   meta_found =
       records_found meta_row meta_columns meta_tree [] meta_shown [] (λ r. true) (λ m. true) (λ r. refl) (λ r. refl) (λ m. refl) finds.0 (meta_of v ∷ []) rows finds.1.spells.meta
-      (finds.2 _ meta_selects)
+      (finds.2 _ (meta_selects v.external))
 
   pub meta_read : (row : Row) (m : MetaRow) → slice_get rows 0 ≡ Some row → row ≡ meta_row m → m ≡ meta_of v
   meta_read row m first reads =
