@@ -8,6 +8,8 @@ use Rattle.sqlite_sql.specs.declared.ops.CompareOp.TheVariants.{Eq}
 use Rattle.sqlite.specs.Listing.{understood}
 use Rattle.vault_audit_model.specs.Queries.{select_from}
 use Rattle.vault_audit_model.specs.Tables.{meta, departments, callers, buckets, entries, contents, intake, heads, meta_tree, departments_tree, callers_tree, buckets_tree, entries_tree, contents_tree, intake_tree, heads_tree}
+use Rattle.vault_audit_model.specs.declared.schema.SchemaVersion.TheVariants.{Third}
+use Rattle.vault_audit_schema.specs.Selects.{meta_select, meta_terms}
 use Rattle.vault_audit_schema.specs.Texts.{names_of, select_text, terms_of}
 use Rattle.vault_store_reads.specs.Queries.{SelectsInBoth}
 
@@ -15,13 +17,13 @@ use Rattle.vault_store_reads.specs.Queries.{SelectsInBoth}
 abbrev pub where_is : ℕ → ℕ → Term
 where_is at n = op2 (Compare Eq Binary) (col 1 at) (col 0 n)
 
--- ---- meta
+-- ---- meta, as the third schema version has it: the fourth has its columns too
 
 abbrev pub meta_text : List ℕ
-meta_text = select_text meta []
+meta_text = meta_select Third []
 
 abbrev pub meta_shown : List Term
-meta_shown = terms_of meta
+meta_shown = meta_terms Third
 
 pub meta_selects : SelectsInBoth meta_text (select_from meta_tree [] meta_shown [])
 unfolding understood everything
