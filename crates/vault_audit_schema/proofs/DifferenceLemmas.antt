@@ -6,13 +6,14 @@ use Rattle.std.proofs.lemmas.Bool.{cases_order}
 use Rattle.std.proofs.lemmas.Option.{slice_get-map, same_Some}
 use Rattle.vault_base.specs.declared.refusal.Table.{Table}
 use Rattle.vault_base.specs.declared.refusal.Table.TheVariants.{Meta, Departments, Callers, Buckets, Rules, Entries, Contents, Settings, Intake, Heads, Tenures, External}
+use Rattle.sqlite.specs.Schema.{Schema}
 use Rattle.sqlite.specs.Table.{Table as Made}
 use Rattle.vault_audit_model.specs.declared.schema.SchemaVersion.{SchemaVersion}
 use Rattle.vault_audit_model.specs.declared.schema.SchemaVersion.TheVariants.{First, Second, Third, Fourth}
 use Rattle.vault_audit_model.specs.Order.{place_of, made_in}
 use Rattle.vault_audit_model.specs.Tables.{schema_of}
 use Rattle.vault_audit_schema.specs.Compare.{IsFirstUnlike}
-use Rattle.vault_audit_schema.specs.Places.{HasTable, IsInPlace, AreInPlace, BeginTo, IsReportedOf}
+use Rattle.vault_audit_schema.specs.Places.{HasTable, IsInPlace, AreInPlace, BeginTo, IsReportedOf, IsReportedIn}
 use Rattle.vault_audit_schema.proofs.CompareLemmas.{unlike_not}
 
 pub place_below : (t : Table) → place_of t < 12
@@ -163,3 +164,15 @@ module _ (n : SchemaVersion) (tables : List Made) (at : ℕ) (stated : Table) (u
         here = it.1;
         first = λ t before here. named t (has_out n tables t here) (same_place n tables at t unlike before here);
       }
+
+-- ---- of the tables of a schema
+
+module _ (n : SchemaVersion) (schema : Schema) (tables : List Made) (stated : Table) (same : tables ≡ schema.tables) (it : IsReportedOf n tables stated) where
+  of_its : IsReportedOf n schema.tables stated
+  of_its = subst (λ (ts : List Made). IsReportedOf n ts stated) same it
+
+  pub reported_in : IsReportedIn n schema stated
+  reported_in = record { differs = λ e. of_its.differs (ap (λ (s : Schema). s.tables) e); begin = of_its.begin; here = of_its.here }
+
+  pub first_in : (t : Table) → ((u : Table) → place_of u < place_of t → IsInPlace n schema.tables u) → ¬ IsInPlace n schema.tables t → Some stated ≡ Some t
+  first_in t before here = ap Some (of_its.first t before here)

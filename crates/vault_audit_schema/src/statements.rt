@@ -4,8 +4,8 @@ ghost use Rattle.vault_base.specs.declared.refusal.Table.{Table};
 ghost use Rattle.vault_audit_schema.specs.Statements.{IsCreationOf, IsIndexCreation};
 
 use crate::table::{
-    BUCKETS, CALLERS, CONTENTS, DEPARTMENTS, ENTRIES, EXTERNAL, HEADS, INTAKE, META, RULES, SETTINGS,
-    TENURES, THIRD_META,
+    BUCKETS, CALLERS, CONTENTS, DEPARTMENTS, ENTRIES, EXTERNAL, HEADS, INTAKE, META, RULES,
+    SETTINGS, TENURES, THIRD_META,
 };
 use vault_base::refusal::Table;
 

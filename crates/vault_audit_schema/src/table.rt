@@ -12,7 +12,8 @@ use crate::column::{ColumnForm, ReferenceForm};
 use crate::compare::{Form, have_forms};
 use crate::{
     buckets_columns, callers_columns, contents_columns, departments_columns, entries_columns,
-    external_columns, heads_columns, intake_columns, meta_columns, rules_columns, settings_columns, tenures_columns,
+    external_columns, heads_columns, intake_columns, meta_columns, rules_columns, settings_columns,
+    tenures_columns,
 };
 use sqlite_items::Items;
 use sqlite_schema::schema::{self, Kind};
@@ -168,8 +169,13 @@ macro_rules! refers {
 const FIRST_META: TableForm = meta_columns!(earlier_table, Table::Meta, 0, KeyForm::Number, &[]);
 
 /// `meta` of the third schema version.
-pub(crate) const THIRD_META: TableForm =
-    meta_columns!(third_table, Table::Meta, 0, KeyForm::Number, &[]);
+pub(crate) const THIRD_META: TableForm = meta_columns!(
+    third_table,
+    Table::Meta,
+    0,
+    KeyForm::Number,
+    &[]
+);
 
 pub(crate) const META: TableForm = meta_columns!(table, Table::Meta, 0, KeyForm::Number, &[]);
 
