@@ -137,6 +137,7 @@ none_in h whole = by_content h.content (by_marker h.entry.marker whole)
     by_marker : (marker : Bool) → IsWholeAs marker false h.entry h.content h.settings → HasPlace false h.content
     by_marker true it = subst (HasPlace false) (sym it.2) tt
     by_marker false it = it.0.1
+
     by_content : (content : Option Content) → HasPlace false content → external_if_given h.entry.id content ≡ []
     by_content None place = refl
     by_content (Some (Inside b)) place = refl
