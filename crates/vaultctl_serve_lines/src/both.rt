@@ -17,7 +17,7 @@ use crate::turns::{Server, serve_doors};
 use crate::two_doors::TwoDoors;
 use std::alloc::Global;
 use std::fs::Files;
-use std::io::{self, Write};
+use std::io::{self, Stderr};
 use std::net::{Ipv4Addr, Net, TcpListener, TcpStream};
 use std::time::Clock;
 use vault_core::hearing::Hears;
@@ -91,14 +91,13 @@ pub fn serve_with_lines<
     K: Keeper,
     H: Hears,
     T: DoorReporter,
-    W: Write + Drop,
 >(
     rt: &R,
     keeper: &mut K,
     hears: &mut H,
     places: Places<'_>,
     reporter: &mut T,
-    log: &mut Option<W>,
+    log: &mut Option<Stderr>,
 ) -> Result<Next, DoorFault>
     ensures stepped { K.is_honest keeper.new → Stepped places.entry.count (K.vault keeper.old) (K.vault keeper.new) }
     // Commands led to the vault, and each was heard of with its reply, while who hears let it be carried out.
@@ -115,7 +114,7 @@ pub fn serve_with_lines<
     ensures unlogged { OnErr result (log.new ≡ log.old) }
     // Each request and each line that was taken has one line in the log, and so has what couldn't be taken.
     ensures logged { IfOk result (λ next. ServedInTurns next (H.going hears.new) places.entry.count
-        (λ turns n. LogsInTurns (λ _. None) (LogsUntaken W.contents) (IsLogged W.contents) turns n log.old log.new)) }
+        (λ turns n. LogsInTurns (λ _. None) (LogsUntaken (λ _. None)) (IsLogged (λ _. None)) turns n log.old log.new)) }
     ensures leaves { LeavesNoLess K.Kept keeper.old keeper.new }
 {
     let (requests, lines) = match listen(rt, places) {

@@ -16,6 +16,6 @@ returns-in-Err-clause-heard g c = λ h. HearsAll-none g.H.Hears.going g.H.Hears.
 -- the log is the one that the doors had
 pub returns-clause-logged : goal.returns-clause-logged
 returns-clause-logged g c =
-    let (turns, n, low, all, each) = c.serve_doors.ensures.logged in
-    let P : Option g.row.W.Denot → Type 0 = λ log. LogsInTurns (λ _. None) (LogsUntaken g.W.Write.contents) (IsLogged g.W.Write.contents) turns n log c.serve_doors.new.doors.log in
+    let (turns, n, low, all, each) = c.serve_doors-ended.ensures.logged in
+    let P : Option _ → Type 0 = λ log. LogsInTurns (λ _. None) (LogsUntaken (λ _. None)) (IsLogged (λ _. None)) turns n log c.serve_doors-ended.new.doors.log in
     (turns, n, low, all, subst P c.take.ensures.value (LogsInTurns-in (λ it. it.log) _ _ turns n _ _ each))
