@@ -1,6 +1,5 @@
 -- The rows of a schema version with a table of tenures.
-use Rattle.std.specs.Prelude.{⊤}
-use Rattle.std.proofs.Common.{◌≡◌, ◌⊎◌, inl, inr, map, flat_map, IsPermutation, sym, subst}
+use Rattle.std.proofs.Common.{◌≡◌, ◌⊎◌, inl, inr, map, flat_map, IsPermutation, refl, sym, subst}
 use Rattle.sqlite.specs.Effect.{Database}
 use Rattle.vault_core_model.specs.Vault.{Vault}
 use Rattle.vault_audit_model.specs.declared.schema.SchemaVersion.{SchemaVersion}
@@ -34,3 +33,9 @@ unmoved_in First has v = absurd has
 unmoved_in Second has v = absurd has
 unmoved_in Third has v = tt
 unmoved_in Fourth has v = tt
+
+pub rows_in_are : (n : SchemaVersion) → HasTenuresTable n → (db : Database) → map tenure_columns (db.trees tenures_tree) ≡ tenure_rows_in n db
+rows_in_are First has db = absurd has
+rows_in_are Second has db = absurd has
+rows_in_are Third has db = refl
+rows_in_are Fourth has db = refl
