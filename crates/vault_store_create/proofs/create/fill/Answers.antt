@@ -8,6 +8,6 @@ use Rattle.vault_store_create.proofs.create.fill.Goals as goal
 pub returns-in-Ok-commit-clause-alone : goal.returns-in-Ok-commit-clause-alone
 returns-in-Ok-commit-clause-alone g c clean db may =
     let end = state g.S.Store c.conn-2-1.given.0 in
-    let filled : IsFilled end.now = search rules in
+    let filled : IsFilled c.args.external end.now = search rules in
     let committed : IsTrue end.is_open × (end.committed ≡ end.now) = search rules in
-    left end.now filled db (g.met.S.Store.settled c.conn-2-1.given.0.store db committed.0 may ∙ ap (λ (d : Database). d.trees) committed.1)
+    left c.args.external end.now filled db (g.met.S.Store.settled c.conn-2-1.given.0.store db committed.0 may ∙ ap (λ (d : Database). d.trees) committed.1)
