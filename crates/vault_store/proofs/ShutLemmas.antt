@@ -19,7 +19,7 @@ unfolding understood everything
 shut_unlisted false = refl
 shut_unlisted true = refl
 
-pub shut_asked : (external : Bool) → IsAskedWith external shut_text []
+pub shut_asked : IsAskedWith shut_text []
 unfolding understood everything
 shut_asked false = (omega (arith), refl, (refl, refl, refl, refl))
 shut_asked true = (omega (arith), refl, (refl, refl, refl, refl))

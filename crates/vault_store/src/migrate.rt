@@ -8,7 +8,7 @@ ghost use Rattle.vault_core_model.specs.Vault.{Vault};
 ghost use Rattle.vault_audit.specs.Health.{IsHealthy};
 ghost use Rattle.vault_audit.specs.Whole.{IsReported};
 ghost use Rattle.vault_audit_model.specs.Faults.{refusal_of};
-ghost use Rattle.vault_audit_model.specs.SchemaVersions.{edition_of};
+ghost use Rattle.vault_audit_model.specs.SchemaVersions.{edition_of, is_external};
 ghost use Rattle.vault_audit_model.specs.Spells.{AreSound, AreSoundAs};
 ghost use Rattle.vault_audit_model.specs.Tables.{no_schema};
 ghost use Rattle.vault_store_apply.specs.Left.{LeavesAlone};
@@ -53,6 +53,7 @@ fn take_copy<O: Alter, S: Alter>(
     new: &mut Connection<S>,
     external: bool,
 ) -> Result<(), Refusal>
+    requires version { is_external schema_version ≡ false }
     requires old_outside { old.old.in_transaction ≡ false }
     requires outside { new.old.in_transaction ≡ false }
     ensures spelled { HasCleanDisk (state O.Store old.new) → OnOk result ((v : Vault) × AreSoundAs schema_version (state O.Store old.old).now v) }
@@ -171,6 +172,7 @@ fn copy_vault<O: Alter, S: Alter>(
     new: &mut Connection<S>,
     external: bool,
 ) -> Result<(), Refusal>
+    requires version { is_external schema_version ≡ false }
     requires old_outside { old.old.in_transaction ≡ false }
     requires outside { new.old.in_transaction ≡ false }
     ensures spelled { HasCleanDisk (state O.Store old.new) → OnOk result ((v : Vault) × AreSoundAs schema_version (state O.Store old.old).now v) }
@@ -233,6 +235,7 @@ impl<S: Alter> SqlKeeper<S> {
         mut new: Connection<S>,
         external: bool,
     ) -> Result<SqlKeeper<S>, (Refusal, Connection<S>)>
+        requires { is_external schema_version ≡ false }
         // The old tables spell a vault, and it is the keeper's but for what it registers,
         ensures spelled { IfOk result (λ k. HasCleanDisk (state O.Store old.new) → (v : Vault) × AreSoundAs schema_version (state O.Store old.old).now v) }
         ensures vault { IfOk result (λ k. HasCleanDisk (state O.Store old.new) → HasCleanDisk (state S.Store k.conn)

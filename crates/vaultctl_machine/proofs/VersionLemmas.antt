@@ -4,6 +4,7 @@ use Rattle.std.specs.List.{list_any}
 use Rattle.sqlite.specs.Schema.{Schema}
 use Rattle.vault_audit_model.specs.declared.schema.SchemaVersion.{SchemaVersion}
 use Rattle.vault_audit_model.specs.declared.schema.SchemaVersion.TheVariants.{First, Second, Third, Fourth}
+use Rattle.vault_audit_model.specs.SchemaVersions.{is_external}
 use Rattle.vault_audit_model.specs.Tables.{schema_of}
 use Rattle.vaultctl_machine.specs.Files.{is_earlier}
 use Rattle.vaultctl_machine.specs.SchemaVersions.{has_bounded_rules, has_tenures, version_by}
@@ -26,3 +27,10 @@ version_earlier false tenures external = refl
 version_earlier true false external = refl
 version_earlier true true false = refl
 version_earlier true true true = refl
+
+-- no file that is copied registers contents that are kept outside
+pub earlier_inside : (external : Bool) (n : SchemaVersion) → IsTrue (is_earlier external n) → is_external n ≡ false
+earlier_inside external First earlier = refl
+earlier_inside external Second earlier = refl
+earlier_inside external Third earlier = refl
+earlier_inside external Fourth earlier = cc

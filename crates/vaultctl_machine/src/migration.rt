@@ -7,6 +7,7 @@ ghost use Rattle.sqlite.specs.State.{HasCleanDisk};
 ghost use Rattle.sqlite_wal.specs.Files.{image_at};
 ghost use Rattle.vault_audit.specs.Health.{IsHealthy};
 ghost use Rattle.vault_audit_model.specs.declared.schema.SchemaVersion.{SchemaVersion as AnyVersion};
+ghost use Rattle.vault_audit_model.specs.SchemaVersions.{is_external};
 ghost use Rattle.vault_audit_model.specs.Spells.{AreSound, AreSoundAs};
 ghost use Rattle.vault_base.specs.declared.refusal.Table.{Table};
 ghost use Rattle.vault_core_model.specs.Vault.{Vault};
@@ -80,6 +81,7 @@ fn copy<O: Alter, S: Alter>(
     new: Connection<S>,
     external: bool,
 ) -> Copied<O, S>
+    requires { is_external schema_version ≡ false }
     ensures clean { HasCleanDisk (state O.Store result.source) → HasCleanDisk (state O.Store source) }
     ensures clean_new { IfErr result.outcome (λ e. HasCleanDisk (state S.Store e.1) → HasCleanDisk (state S.Store new)) }
     ensures reported { IfErr result.outcome (λ e. IsUncopied e.0) }

@@ -1,6 +1,10 @@
 use Rattle.std.proofs.Common.{◌∙◌}
 use Rattle.vaultctl_machine.proofs.MigrationLemmas.{kept_is_earlier, never_damaged, refused_earlier, sound_as_stated}
+use Rattle.vaultctl_machine.proofs.VersionLemmas.{earlier_inside}
 use Rattle.vaultctl_machine.proofs.migration.copy_earlier.Goals as goal
+
+pub copy-requires : goal.copy-requires
+copy-requires g c = earlier_inside _ _ c.schema_version_of-schema_version.ensures.earlier
 
 pub returns-clause-found : goal.returns-clause-found
 returns-clause-found g c = kept_is_earlier _ _ _ _ _ _ c.copy.result.outcome c.schema_version_of-schema_version.ensures.earlier c.copy.ensures.found
