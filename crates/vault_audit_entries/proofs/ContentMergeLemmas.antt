@@ -192,10 +192,10 @@ held_one : (e : Entry) → IsHeldVersion (Some e) → is_held_version e ≡ true
 held_one e h = let marker = h.0 in let removal = h.1 in rw (marker, removal) refl
 
 gives_outside : (external : Bool) (e : Entry) (es : List Entry) (id : ℕ) (cs : List ContentRow) (ids : List ℕ) (hs : List History) → IsEntry external e → e.id ≡ id → external ≡ true → IsHeldVersion (Some e) → Gives external es cs ids hs → (h : History) × Gives external (e ∷ es) cs (id ∷ ids) (h ∷ hs)
-gives_outside external e es id cs ids hs is same yes held it =
+gives_outside external e es id cs ids hs is same registers held it =
     let more = counted_held e es (held_one e held) in
     let most = it.most in
-    let sized : IsSizedAs false true e.size e.digest = subst (λ x. IsSizedAs false x e.size e.digest) yes (subst (λ m. IsSizedAs m external e.size e.digest) held.0 is.sized) in
+    let sized : IsSizedAs false true e.size e.digest = subst (λ x. IsSizedAs false x e.size e.digest) registers (subst (λ m. IsSizedAs m external e.size e.digest) held.0 is.sized) in
     let d = some_digest true e.size e.digest sized in (
       with_outside e d.0,
       record {
@@ -203,7 +203,7 @@ gives_outside external e es id cs ids hs is same yes held it =
         contents = it.contents;
         outside = ap (λ (x : ℕ). x ∷ flat_map external_in hs) same ∙ ap (λ xs. id ∷ xs) it.outside;
         most = omega (arith, more, most);
-        all = λ equal. (subst (λ x. HasContent x (with_outside e d.0)) (sym yes) (has_outside e d.0 d.1 d.2 held), it.all (omega (arith, more, equal)));
+        all = λ equal. (subst (λ x. HasContent x (with_outside e d.0)) (sym registers) (has_outside e d.0 d.1 d.2 held), it.all (omega (arith, more, equal)));
       },
     )
 
@@ -397,7 +397,7 @@ module _ (external : Bool) (next : ℕ) (e : Entry) (es : List Entry) (is : IsEn
       }
 
   takes_outside : is_held_version e ≡ true → IsHeldVersion (Some e) → external ≡ true → AreTaken external next (e ∷ es) cs (e.id ∷ ids)
-  takes_outside held its yes =
+  takes_outside held its registers =
       let one = counted_held e es held in
       let count = it.count in
       record {
@@ -408,11 +408,15 @@ module _ (external : Bool) (next : ℕ) (e : Entry) (es : List Entry) (is : IsEn
           ids_rising = (omega (arith, id), lower itself_of (e.id + 1) (next + 1) ids (omega (arith, id)) it.given.ids_rising);
           ids_within = (subst IsHeldVersion (sym found_first) its, ids_within_too);
           apart = (none_before e.id (next + 1) cs (omega (arith, id)) it.given.rising, it.given.apart);
-          allowed = λ _. yes;
+          allowed = λ _. registers;
         };
         limits = (is.id, it.limits);
         count = omega (arith, one, count);
       }
+
+-- the same of an entry with this content, and of histories after it
+abbrev TakenWith : Bool → ℕ → Entry → List History → Option Content → Type 0
+TakenWith external next e hs content = AreTaken external next (e ∷ entries_in hs) (content_if_given e.id content ++ flat_map contents_in hs) (external_if_given e.id content ++ flat_map external_in hs)
 
 -- what the contents of histories are to their entries
 pub taken : (external : Bool) (next low : ℕ) (hs : List History) → AreNumbered external next low (entries_in hs) → AllByRecursion (HasContent external) hs → AreTaken external next (entries_in hs) (flat_map contents_in hs) (flat_map external_in hs)
@@ -423,13 +427,10 @@ taken external next low [] are has = record {
 }
 taken external next low (h ∷ hs) are has = of (has_which external h.entry.marker h.entry.removal h.content h refl refl refl has.0) (taken external (next + 1) h.entry.admitted hs are.1 has.1)
   where
-    abbrev Taken : Option Content → Type 0
-    Taken o = AreTaken external next (h.entry ∷ entries_in hs) (content_if_given h.entry.id o ++ flat_map contents_in hs) (external_if_given h.entry.id o ++ flat_map external_in hs)
-
-    of : HasBytes h ⊎ HasOutside external h ⊎ HasNone h → AreTaken external (next + 1) (entries_in hs) (flat_map contents_in hs) (flat_map external_in hs) → Taken h.content
+    of : HasBytes h ⊎ HasOutside external h ⊎ HasNone h → AreTaken external (next + 1) (entries_in hs) (flat_map contents_in hs) (flat_map external_in hs) → TakenWith external next h.entry hs h.content
     of (inl (bytes, content, held, removal, size, digest, small)) more =
-        subst Taken (sym content) (takes_bytes external next h.entry (entries_in hs) are.0.0 are.0.1.0 (flat_map contents_in hs) (flat_map external_in hs) more bytes held (removal, size, digest) small)
-    of (inr (inl (r, content, held, its, yes))) more =
-        subst Taken (sym content) (takes_outside external next h.entry (entries_in hs) are.0.0 are.0.1.0 (flat_map contents_in hs) (flat_map external_in hs) more held its yes)
+        subst (TakenWith external next h.entry hs) (sym content) (takes_bytes external next h.entry (entries_in hs) are.0.0 are.0.1.0 (flat_map contents_in hs) (flat_map external_in hs) more bytes held (removal, size, digest) small)
+    of (inr (inl (r, content, held, its, registers))) more =
+        subst (TakenWith external next h.entry hs) (sym content) (takes_outside external next h.entry (entries_in hs) are.0.0 are.0.1.0 (flat_map contents_in hs) (flat_map external_in hs) more held its registers)
     of (inr (inr (content, free))) more =
-        subst Taken (sym content) (takes_none external next h.entry (entries_in hs) are.0.0 are.0.1.0 (flat_map contents_in hs) (flat_map external_in hs) more free)
+        subst (TakenWith external next h.entry hs) (sym content) (takes_none external next h.entry (entries_in hs) are.0.0 are.0.1.0 (flat_map contents_in hs) (flat_map external_in hs) more free)

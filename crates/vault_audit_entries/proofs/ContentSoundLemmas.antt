@@ -20,7 +20,7 @@ use Rattle.vault_audit_model.specs.Spells.{AreSoundAs, contents_in, external_in,
 use Rattle.vault_audit_model.specs.Tables.{entries_tree, contents_tree, external_tree}
 use Rattle.vault_audit_entries.specs.Contents.{held_count, DecidesHeld}
 use Rattle.vault_audit_entries.specs.Outside.{DecidesOutside}
-use Rattle.vault_audit_entries.proofs.ContentMergeLemmas.{AreGiven, given, itself, same_if}
+use Rattle.vault_audit_entries.proofs.ContentMergeLemmas.{AreGiven, given}
 use Rattle.vault_audit_entries.proofs.ContentLemmas.{taken_of}
 
 -- ---- a sound vault
@@ -94,16 +94,13 @@ as_many_ids Third db ids js hs same are its allowed = none_allowed js allowed �
 as_many_ids Fourth db ids js hs same are its allowed =
     let size = length_permutation _ _ (IsPermutation-trans _ _ _ (subst (λ (xs : List ℕ). IsPermutation (map external_row xs) (map external_columns (db.trees external_tree))) same its) (IsPermutation-sym _ _ are)) in
     let a : length (map external_row js) ≡ length js = simp length-map in
-    let b : length (map external_row ids) ≡ length ids = simp length-map in sym a ∙ size ∙ b
+    let b : length (map external_row ids) ≡ length ids = simp length-map in omega (arith, a, b, size)
 
 -- ---- as many contents as held versions, or not
 
-not_same : (a b : ℕ) → (a == b) ≡ false → ¬ (a ≡ b)
-not_same a b h same = true≢false (sym (subst (λ x. (a == x) ≡ true) same (itself a)) ∙ h)
-
 module _ (n : SchemaVersion) (db : Database) (es : List Entry) (are : AreEntries (is_external n) db es) (held inside outside : ℕ) (all : held ≡ held_count es) (bytes : DecidesHeld n db es (Some inside)) (ids : DecidesOutside n db es (Some outside)) where
-  decided_as : (b : Bool) → (held == inside + outside) ≡ b → DecidesContents n db es b
-  decided_as true h =
+  pub are_all : held ≡ inside + outside → DecidesContents n db es true
+  are_all same =
       let cs = bytes.0 in
       let js = ids.0 in
       let its = bytes.1 in
@@ -118,7 +115,6 @@ module _ (n : SchemaVersion) (db : Database) (es : List Entry) (are : AreEntries
         allowed = has_rows n db js theirs.are.rows;
       } in
       let it = given (is_external n) 1 0 es are.1 cs js to_give in
-      let same = same_if held (inside + outside) h in
       let some = bytes.2 in
       let more = ids.2 in (
         it.0,
@@ -129,7 +125,9 @@ module _ (n : SchemaVersion) (db : Database) (es : List Entry) (are : AreEntries
           each = it.1.all (omega (arith, all, same, some, more));
         },
       )
-  decided_as false h = λ hs it.
+
+  pub not_all : ¬ (held ≡ inside + outside) → DecidesContents n db es false
+  not_all other hs it =
       let its = taken_of n db es hs are it in
       let a = length_permutation _ _ (IsPermutation-trans _ _ _ it.contents (IsPermutation-sym _ _ bytes.1.rows)) in
       let b : length (map content_row bytes.0) ≡ length bytes.0 = simp length-map in
@@ -138,7 +136,4 @@ module _ (n : SchemaVersion) (db : Database) (es : List Entry) (are : AreEntries
       let count = its.count in
       let some = bytes.2 in
       let more = ids.2 in
-      not_same held (inside + outside) h (omega (arith, all, count, some, more, a, b, c, d))
-
-  pub decided : DecidesContents n db es (held == inside + outside)
-  decided = decided_as (held == inside + outside) refl
+      other (omega (arith, all, count, some, more, a, b, c, d))

@@ -229,10 +229,14 @@ module _ (old new : State) (has : old.now.schema ≡ schema_of Fourth) where
 
 -- a schema version without external has no row of it
 pub no_outside : (n : SchemaVersion) (db : Database) (es : List Entry) → external_rows_in n db ≡ [] → DecidesOutside n db es (Some 0)
-no_outside n db es none = ([], record {
-  are = record { rows = subst (IsPermutation []) (sym none) (IsPermutation-refl []); rising = tt; held = tt };
-  apart = λ cs bytes. tt;
-}, refl)
+no_outside n db es none = (
+  [],
+  record {
+    are = record { rows = subst (IsPermutation []) (sym none) (IsPermutation-refl []); rising = tt; held = tt };
+    apart = λ cs bytes. tt;
+  },
+  refl,
+)
 
 pub all_outside : (db : Database) (es : List Entry) (count : ℕ) → DecidesHeldIds db es (Some count) → DecidesAbsence db true → DecidesOutside Fourth db es (Some count)
 all_outside db es count (ids, are, size) absent = (ids, record { are = are; apart = λ cs bytes. absent cs bytes ids are.rows }, size)

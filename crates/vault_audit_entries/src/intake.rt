@@ -27,9 +27,8 @@ use vault_audit_rows::cell::{
 };
 use vault_audit_rows::misread::Misread;
 use vault_audit_rows::name::{batch_name, bucket_name, object_key};
-use vault_audit_rows::several_columns::retention;
+use vault_audit_rows::several_columns::{retention, size};
 use vault_audit_rows::walk::{Pass, walk};
-use vault_base::limits::MOST_CONTENT;
 use vault_core_model::records::Note;
 
 /// The check of notes in their order.
@@ -51,7 +50,7 @@ fn note_in(row: &Row, external: bool) -> Result<Note, Misread>
     ensures wrong { IfErr result (λ e. e ≡ Misread.Wrong → (n : Reported) → IsNote external n → row.now ≢ noted_row n) }
 {
     let line = number_within(row, 2, 1, u32::MAX).ok_or(Misread::Wrong)?;
-    let size = number_within(row, 4, 0, MOST_CONTENT as u32).ok_or(Misread::Wrong)?;
+    let size = size(row, 4, external).ok_or(Misread::Wrong)?;
     let digest = digest(row, 5).ok_or(Misread::Wrong)?;
     let retention = retention(row, 6, 7).ok_or(Misread::Wrong)?;
     let hold = flag_or_null(row, 8).ok_or(Misread::Wrong)?;
@@ -64,7 +63,7 @@ fn note_in(row: &Row, external: bool) -> Result<Note, Misread>
         batch,
         line,
         key,
-        size: u64::from(size),
+        size,
         digest,
         retention,
         hold,

@@ -1,5 +1,5 @@
 //! The second look at `contents` and `external`: each held version has a row in one of them, and no other entry has one.
-ghost use Rattle.std.specs.Prelude.{◌≡◌, false, List, is_none, IfOk, IfErr, IfSome, IsTrue};
+ghost use Rattle.std.specs.Prelude.{◌≡◌, ◌↔◌, ◌+◌, false, List, is_none, IfOk, IfErr, IfSome, IsTrue};
 ghost use Rattle.sqlite.specs.State.{HasCleanDisk};
 ghost use Rattle.sqlite.specs.Held.{state};
 ghost use Rattle.vault_core_model.specs.declared.records.Entry.{Entry};
@@ -15,6 +15,13 @@ use crate::held::count_held;
 use sqlite::{Alter, Connection, Error};
 use vault_audit_model::schema::SchemaVersion;
 use vault_base::refusal::Table;
+
+/// Whether the two counts together are all that are held.
+fn are_all(held: u64, inside: u64, outside: u64) -> bool
+    ensures { IsTrue result ↔ (held ≡ inside + outside) }
+{
+    held.checked_sub(inside) == Some(outside)
+}
 
 /// The one of `contents` and `external` that is damaged, if one is: together they are to have exactly a row for each held
 /// version, with its bytes or where these are kept outside. A held version without a row is damage of `contents`. It is
@@ -37,7 +44,7 @@ pub fn check_held_contents<S: Alter>(
         return Ok(Some(Table::External));
     };
     let held = count_held(conn, schema_version)?;
-    if held.versions.checked_sub(inside) != Some(outside) {
+    if !are_all(held.versions, inside, outside) {
         return Ok(Some(Table::Contents));
     }
     Ok(None)
