@@ -73,7 +73,7 @@ drops_content external id = deletes external table.Contents refl 6 contents no_c
 
 pub drops_external : (external : Bool) (id : ℕ) (old new : State) (count : ℕ) → HaveUniqueRowids (passes by_id (number id ∷ [])) (old.now.trees external_tree) → old.now.schema ≡ vault_schema external → Executes no_external_text (number id ∷ []) old new (Ok count)
     → Leaves external old new (without table.External (is_numbered id))
-drops_external false id old new count unique has h = absurd (never_executed (vault_schema false) no_external_text no_external_unknown (number id ∷ []) old new has count h)
+drops_external false id = λ old new count unique has h. absurd (never_executed (vault_schema false) no_external_text no_external_unknown (number id ∷ []) old new has count h)
 drops_external true id =
     deletes true table.External refl 11 kept_outside no_external_text (number id ∷ []) by_id (is_numbered id) refl (λ row whole. identified id [] row whole) no_external_is (λ limit mode text db out h. h)
 

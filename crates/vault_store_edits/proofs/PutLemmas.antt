@@ -36,7 +36,7 @@ module _ (external : Bool) (t : Table) (row : Row) (puts : IsTrue (has_table ext
 
   left : (count : ℕ) → old.now.schema ≡ vault_schema external → Executes text row old new (Ok count) → Leaves external old new (with_row t row)
   left count has h = elim (cases_Bool (has_table external t)) [
-    | inl is_there ↦ leaves external t (made_as external t) row old new (puts is_there) count has h
+    | inl is_there ↦ leaves external t (made_as external t) row (puts is_there) old new count has h
     | inr lacks ↦ absurd (never_executed (vault_schema external) text (not_insertion external t lacks) row old new has count h)
   ]
 

@@ -35,65 +35,64 @@ named name rest r = and_true _ ∙ text_test name (column r 1)
 abbrev IsTaken : Row → ℕ → Type 0
 IsTaken r k = cast kind.Integer (column r k) ≡ column r k
 
-module _ (last : ℕ) where
-  pub sets_last : (external : Bool) (old new : State) (count : ℕ) → HaveUniqueRowids (passes [] (number last ∷ [])) (old.now.trees meta_tree) → IsDatabase old.now → old.now.schema ≡ vault_schema external
-      → Executes last_text (number last ∷ []) old new (Ok count) → Leaves external old new (with_changed table.Meta every (with_last last))
-  sets_last false =
-      updates false table.Meta refl 0 (meta_as Third) last_text (number last ∷ []) [] every refl (λ r whole. refl) (last_project false) (with_last last) (last_is false) (λ limit mode text db out h. h) (λ db k. k.0)
-      (λ r typed id is.
-      let one : IsTaken r 0 = subst (λ v. cast kind.Integer v ≡ v) (sym is) (cast_int id) in
-      let schema : IsTaken r 2 = column_taken (meta_as Third) r refl typed 1 _ refl in
-      let next : IsTaken r 4 = column_taken (meta_as Third) r refl typed 3 _ refl in
-      let moves : IsTaken r 5 = column_taken (meta_as Third) r refl typed 4 _ refl in
-      rw (one, schema, next, moves, cast_number last) refl)
-  sets_last true =
-      updates true table.Meta refl 0 (meta_as Fourth) last_text (number last ∷ []) [] every refl (λ r whole. refl) (last_project true) (with_last last) (last_is true) (λ limit mode text db out h. h) (λ db k. k.0)
-      (λ r typed id is.
-      let one : IsTaken r 0 = subst (λ v. cast kind.Integer v ≡ v) (sym is) (cast_int id) in
-      let schema : IsTaken r 2 = column_taken (meta_as Fourth) r refl typed 1 _ refl in
-      let next : IsTaken r 4 = column_taken (meta_as Fourth) r refl typed 3 _ refl in
-      let moves : IsTaken r 5 = column_taken (meta_as Fourth) r refl typed 4 _ refl in
-      let place : IsTaken r 6 = column_taken (meta_as Fourth) r refl typed 5 _ refl in
-      let done : IsTaken r 7 = column_taken (meta_as Fourth) r refl typed 6 _ refl in
-      rw (one, schema, next, moves, place, done, cast_number last) refl)
+pub sets_last : (external : Bool) (last : ℕ) (old new : State) (count : ℕ) → HaveUniqueRowids (passes [] (number last ∷ [])) (old.now.trees meta_tree) → IsDatabase old.now → old.now.schema ≡ vault_schema external
+    → Executes last_text (number last ∷ []) old new (Ok count) → Leaves external old new (with_changed table.Meta every (with_last last))
+sets_last false last =
+    updates false table.Meta refl 0 (meta_as Third) last_text (number last ∷ []) [] every refl (λ r whole. refl) (last_project false) (with_last last) (last_is false) (λ limit mode text db out h. h) (λ db k. k.0)
+    (λ r typed id is.
+    let one : IsTaken r 0 = subst (λ v. cast kind.Integer v ≡ v) (sym is) (cast_int id) in
+    let schema : IsTaken r 2 = column_taken (meta_as Third) r refl typed 1 _ refl in
+    let next : IsTaken r 4 = column_taken (meta_as Third) r refl typed 3 _ refl in
+    let moves : IsTaken r 5 = column_taken (meta_as Third) r refl typed 4 _ refl in
+    rw (one, schema, next, moves, cast_number last) refl)
+sets_last true last =
+    updates true table.Meta refl 0 (meta_as Fourth) last_text (number last ∷ []) [] every refl (λ r whole. refl) (last_project true) (with_last last) (last_is true) (λ limit mode text db out h. h) (λ db k. k.0)
+    (λ r typed id is.
+    let one : IsTaken r 0 = subst (λ v. cast kind.Integer v ≡ v) (sym is) (cast_int id) in
+    let schema : IsTaken r 2 = column_taken (meta_as Fourth) r refl typed 1 _ refl in
+    let next : IsTaken r 4 = column_taken (meta_as Fourth) r refl typed 3 _ refl in
+    let moves : IsTaken r 5 = column_taken (meta_as Fourth) r refl typed 4 _ refl in
+    let place : IsTaken r 6 = column_taken (meta_as Fourth) r refl typed 5 _ refl in
+    let done : IsTaken r 7 = column_taken (meta_as Fourth) r refl typed 6 _ refl in
+    rw (one, schema, next, moves, place, done, cast_number last) refl)
 
-  pub sets_next : (external : Bool) (next : ℕ) (old new : State) (count : ℕ) → HaveUniqueRowids (passes [] (number last ∷ number next ∷ [])) (old.now.trees meta_tree) → IsDatabase old.now → old.now.schema ≡ vault_schema external
-      → Executes next_text (number last ∷ number next ∷ []) old new (Ok count) → Leaves external old new (with_changed table.Meta every (with_last_and_next last next))
-  sets_next false next =
-      updates false table.Meta refl 0 (meta_as Third) next_text (number last ∷ number next ∷ []) [] every refl (λ r whole. refl) (next_project false) (with_last_and_next last next) (next_is false) (λ limit mode text db out h. h) (λ db k. k.0)
-      (λ r typed id is.
-      let one : IsTaken r 0 = subst (λ v. cast kind.Integer v ≡ v) (sym is) (cast_int id) in
-      let schema : IsTaken r 2 = column_taken (meta_as Third) r refl typed 1 _ refl in
-      let moves : IsTaken r 5 = column_taken (meta_as Third) r refl typed 4 _ refl in
-      rw (one, schema, moves, cast_number last, cast_number next) refl)
-  sets_next true next =
-      updates true table.Meta refl 0 (meta_as Fourth) next_text (number last ∷ number next ∷ []) [] every refl (λ r whole. refl) (next_project true) (with_last_and_next last next) (next_is true) (λ limit mode text db out h. h) (λ db k. k.0)
-      (λ r typed id is.
-      let one : IsTaken r 0 = subst (λ v. cast kind.Integer v ≡ v) (sym is) (cast_int id) in
-      let schema : IsTaken r 2 = column_taken (meta_as Fourth) r refl typed 1 _ refl in
-      let moves : IsTaken r 5 = column_taken (meta_as Fourth) r refl typed 4 _ refl in
-      let place : IsTaken r 6 = column_taken (meta_as Fourth) r refl typed 5 _ refl in
-      let done : IsTaken r 7 = column_taken (meta_as Fourth) r refl typed 6 _ refl in
-      rw (one, schema, moves, place, done, cast_number last, cast_number next) refl)
+pub sets_next : (external : Bool) (last : ℕ) (next : ℕ) (old new : State) (count : ℕ) → HaveUniqueRowids (passes [] (number last ∷ number next ∷ [])) (old.now.trees meta_tree) → IsDatabase old.now → old.now.schema ≡ vault_schema external
+    → Executes next_text (number last ∷ number next ∷ []) old new (Ok count) → Leaves external old new (with_changed table.Meta every (with_last_and_next last next))
+sets_next false last next =
+    updates false table.Meta refl 0 (meta_as Third) next_text (number last ∷ number next ∷ []) [] every refl (λ r whole. refl) (next_project false) (with_last_and_next last next) (next_is false) (λ limit mode text db out h. h) (λ db k. k.0)
+    (λ r typed id is.
+    let one : IsTaken r 0 = subst (λ v. cast kind.Integer v ≡ v) (sym is) (cast_int id) in
+    let schema : IsTaken r 2 = column_taken (meta_as Third) r refl typed 1 _ refl in
+    let moves : IsTaken r 5 = column_taken (meta_as Third) r refl typed 4 _ refl in
+    rw (one, schema, moves, cast_number last, cast_number next) refl)
+sets_next true last next =
+    updates true table.Meta refl 0 (meta_as Fourth) next_text (number last ∷ number next ∷ []) [] every refl (λ r whole. refl) (next_project true) (with_last_and_next last next) (next_is true) (λ limit mode text db out h. h) (λ db k. k.0)
+    (λ r typed id is.
+    let one : IsTaken r 0 = subst (λ v. cast kind.Integer v ≡ v) (sym is) (cast_int id) in
+    let schema : IsTaken r 2 = column_taken (meta_as Fourth) r refl typed 1 _ refl in
+    let moves : IsTaken r 5 = column_taken (meta_as Fourth) r refl typed 4 _ refl in
+    let place : IsTaken r 6 = column_taken (meta_as Fourth) r refl typed 5 _ refl in
+    let done : IsTaken r 7 = column_taken (meta_as Fourth) r refl typed 6 _ refl in
+    rw (one, schema, moves, place, done, cast_number last, cast_number next) refl)
 
-  pub sets_moves : (external : Bool) (moves : ℕ) (old new : State) (count : ℕ) → HaveUniqueRowids (passes [] (number last ∷ number moves ∷ [])) (old.now.trees meta_tree) → IsDatabase old.now → old.now.schema ≡ vault_schema external
-      → Executes moves_text (number last ∷ number moves ∷ []) old new (Ok count) → Leaves external old new (with_changed table.Meta every (with_last_and_moves last moves))
-  sets_moves false moves =
-      updates false table.Meta refl 0 (meta_as Third) moves_text (number last ∷ number moves ∷ []) [] every refl (λ r whole. refl) (moves_project false) (with_last_and_moves last moves) (moves_is false) (λ limit mode text db out h. h) (λ db k. k.0)
-      (λ r typed id is.
-      let one : IsTaken r 0 = subst (λ v. cast kind.Integer v ≡ v) (sym is) (cast_int id) in
-      let schema : IsTaken r 2 = column_taken (meta_as Third) r refl typed 1 _ refl in
-      let next : IsTaken r 4 = column_taken (meta_as Third) r refl typed 3 _ refl in
-      rw (one, schema, next, cast_number last, cast_number moves) refl)
-  sets_moves true moves =
-      updates true table.Meta refl 0 (meta_as Fourth) moves_text (number last ∷ number moves ∷ []) [] every refl (λ r whole. refl) (moves_project true) (with_last_and_moves last moves) (moves_is true) (λ limit mode text db out h. h) (λ db k. k.0)
-      (λ r typed id is.
-      let one : IsTaken r 0 = subst (λ v. cast kind.Integer v ≡ v) (sym is) (cast_int id) in
-      let schema : IsTaken r 2 = column_taken (meta_as Fourth) r refl typed 1 _ refl in
-      let next : IsTaken r 4 = column_taken (meta_as Fourth) r refl typed 3 _ refl in
-      let place : IsTaken r 6 = column_taken (meta_as Fourth) r refl typed 5 _ refl in
-      let done : IsTaken r 7 = column_taken (meta_as Fourth) r refl typed 6 _ refl in
-      rw (one, schema, next, place, done, cast_number last, cast_number moves) refl)
+pub sets_moves : (external : Bool) (last : ℕ) (moves : ℕ) (old new : State) (count : ℕ) → HaveUniqueRowids (passes [] (number last ∷ number moves ∷ [])) (old.now.trees meta_tree) → IsDatabase old.now → old.now.schema ≡ vault_schema external
+    → Executes moves_text (number last ∷ number moves ∷ []) old new (Ok count) → Leaves external old new (with_changed table.Meta every (with_last_and_moves last moves))
+sets_moves false last moves =
+    updates false table.Meta refl 0 (meta_as Third) moves_text (number last ∷ number moves ∷ []) [] every refl (λ r whole. refl) (moves_project false) (with_last_and_moves last moves) (moves_is false) (λ limit mode text db out h. h) (λ db k. k.0)
+    (λ r typed id is.
+    let one : IsTaken r 0 = subst (λ v. cast kind.Integer v ≡ v) (sym is) (cast_int id) in
+    let schema : IsTaken r 2 = column_taken (meta_as Third) r refl typed 1 _ refl in
+    let next : IsTaken r 4 = column_taken (meta_as Third) r refl typed 3 _ refl in
+    rw (one, schema, next, cast_number last, cast_number moves) refl)
+sets_moves true last moves =
+    updates true table.Meta refl 0 (meta_as Fourth) moves_text (number last ∷ number moves ∷ []) [] every refl (λ r whole. refl) (moves_project true) (with_last_and_moves last moves) (moves_is true) (λ limit mode text db out h. h) (λ db k. k.0)
+    (λ r typed id is.
+    let one : IsTaken r 0 = subst (λ v. cast kind.Integer v ≡ v) (sym is) (cast_int id) in
+    let schema : IsTaken r 2 = column_taken (meta_as Fourth) r refl typed 1 _ refl in
+    let next : IsTaken r 4 = column_taken (meta_as Fourth) r refl typed 3 _ refl in
+    let place : IsTaken r 6 = column_taken (meta_as Fourth) r refl typed 5 _ refl in
+    let done : IsTaken r 7 = column_taken (meta_as Fourth) r refl typed 6 _ refl in
+    rw (one, schema, next, place, done, cast_number last, cast_number moves) refl)
 
 -- ---- departments
 
@@ -102,8 +101,13 @@ sums_params name sums = Text name ∷ number sums.admitted ∷ number sums.held 
 
 pub sets_sums : (external : Bool) (name : List ℕ) (sums : Sums) (old new : State) (count : ℕ) → HaveUniqueRowids (passes by_name (sums_params name sums)) (old.now.trees departments_tree) → IsDatabase old.now → old.now.schema ≡ vault_schema external
     → Executes sums_text (sums_params name sums) old new (Ok count) → Leaves external old new (with_changed table.Departments (is_named name) (with_sums sums))
-sets_sums external name sums =
-    updates external table.Departments refl 1 departments sums_text (sums_params name sums) by_name (is_named name) refl (λ r whole. named name (number sums.admitted ∷ number sums.held ∷ number sums.removed ∷ number sums.weighted ∷ number sums.closed ∷ number sums.received ∷ number sums.handed ∷ []) r) sums_project (with_sums sums) (sums_is external) (λ limit mode text db out h. h) (λ db k. k.1.0)
+sets_sums false name sums =
+    updates false table.Departments refl 1 departments sums_text (sums_params name sums) by_name (is_named name) refl (λ r whole. named name (number sums.admitted ∷ number sums.held ∷ number sums.removed ∷ number sums.weighted ∷ number sums.closed ∷ number sums.received ∷ number sums.handed ∷ []) r) sums_project (with_sums sums) (sums_is false) (λ limit mode text db out h. h) (λ db k. k.1.0)
+    (λ r typed id is.
+    let first : cast kind.Text (column r 1) ≡ column r 1 = column_taken departments r refl typed 0 _ refl in
+    rw (first, cast_number sums.admitted, cast_number sums.held, cast_number sums.removed, cast_number sums.weighted, cast_number sums.closed, cast_number sums.received, cast_number sums.handed) refl)
+sets_sums true name sums =
+    updates true table.Departments refl 1 departments sums_text (sums_params name sums) by_name (is_named name) refl (λ r whole. named name (number sums.admitted ∷ number sums.held ∷ number sums.removed ∷ number sums.weighted ∷ number sums.closed ∷ number sums.received ∷ number sums.handed ∷ []) r) sums_project (with_sums sums) (sums_is true) (λ limit mode text db out h. h) (λ db k. k.1.0)
     (λ r typed id is.
     let first : cast kind.Text (column r 1) ≡ column r 1 = column_taken departments r refl typed 0 _ refl in
     rw (first, cast_number sums.admitted, cast_number sums.held, cast_number sums.removed, cast_number sums.weighted, cast_number sums.closed, cast_number sums.received, cast_number sums.handed) refl)
@@ -155,4 +159,5 @@ sets_owner external name dept =
 
 pub drops_rules : (external : Bool) (bucket : List ℕ) (old new : State) (count : ℕ) → HaveUniqueRowids (passes by_name (Text bucket ∷ [])) (old.now.trees rules_tree) → old.now.schema ≡ vault_schema external → Executes no_rules_text (Text bucket ∷ []) old new (Ok count)
     → Leaves external old new (without table.Rules (is_named bucket))
-drops_rules external bucket = deletes external table.Rules refl 4 rules no_rules_text (Text bucket ∷ []) by_name (is_named bucket) refl (λ r whole. named bucket [] r) (no_rules_is external) (λ limit mode text db out h. h)
+drops_rules false bucket = deletes false table.Rules refl 4 rules no_rules_text (Text bucket ∷ []) by_name (is_named bucket) refl (λ r whole. named bucket [] r) (no_rules_is false) (λ limit mode text db out h. h)
+drops_rules true bucket = deletes true table.Rules refl 4 rules no_rules_text (Text bucket ∷ []) by_name (is_named bucket) refl (λ r whole. named bucket [] r) (no_rules_is true) (λ limit mode text db out h. h)

@@ -94,10 +94,10 @@ edited_alone external t edit old new there others here s = elim (cases_Bool (pla
       let first : IsPermutation (edit (rows_in external old t)) (rows_in external new t) = rw (rows_are external old t there, rows_are external new t there) here in
       rw same (subst (λ u. IsPermutation (edit (rows_in external old u)) (rows_in external new u)) is first)
   | inr other ↦ rw other (elim (cases_Bool (has_table external s)) [
-      | inl has ↦
-          let apart : tree_of s ≢ tree_of t = λ e. let n = one_place t s e in absurd (grind (arith, nat_tests)) in
-          let kept = of_each (λ n. n ≢ tree_of t → new.trees n ≡ old.trees n) external others s has apart in
-          IsPermutation-same _ _ (rows_are external old s has ∙ ap (map (columns_of external s)) (sym kept) ∙ sym (rows_are external new s has))
-      | inr lacks ↦ IsPermutation-same _ _ (no_rows external old s lacks ∙ sym (no_rows external new s lacks))
-    ])
+    | inl has ↦
+        let apart : tree_of s ≢ tree_of t = λ e. let n = one_place t s e in absurd (grind (arith, nat_tests)) in
+        let kept = of_each (λ n. n ≢ tree_of t → new.trees n ≡ old.trees n) external others s has apart in
+        IsPermutation-same _ _ (rows_are external old s has ∙ ap (map (columns_of external s)) (sym kept) ∙ sym (rows_are external new s has))
+    | inr lacks ↦ IsPermutation-same _ _ (no_rows external old s lacks ∙ sym (no_rows external new s lacks))
+  ])
 ]

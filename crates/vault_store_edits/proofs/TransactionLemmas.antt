@@ -80,7 +80,7 @@ module _ {S : Type 0} (g : Ghosts S) (old : Held S) where
     commit_leaves trees same = record {
       was_open = parts.was_open;
       listed = λ has. rw same (subst (λ s. IsDatabase (record { schema = s; trees = last.now.trees })) (parts.schema has) sound);
-      rows = λ has. rw same (parts.rows has);
+      rows = λ has. rw same (subst (λ s. AreSameRows (edit (rows_in external (state g old).now)) (rows_in external (record { schema = s; trees = last.now.trees }))) (parts.schema has) (parts.rows has));
       ignores = parts.ignores;
     }
 

@@ -1,4 +1,4 @@
-//! Rows of `external`, which a vault has that registers contents which are kept outside. In every other vault these
+//! Rows of `external`, a table of vaults that register contents which are kept outside. In every other vault these
 //! statements fail, and change nothing.
 ghost use Rattle.std.specs.Prelude.{◌≡◌};
 ghost use Rattle.vault_base.specs.declared.refusal.Table.TheVariants as table;
@@ -33,16 +33,13 @@ impl Put for NewExternal {
     ghost typed = { λ x r. ⊤ };
 
     fn insert<S: Alter>(&self, tx: &mut Transaction<'_, S>) -> Result<usize, Error> {
-        tx.execute(
-            external_columns!(insert_text),
-            params![self.id.number()],
-        )
+        tx.execute(external_columns!(insert_text), params![self.id.number()])
     }
 
     ghost inserts = { λ external there x. external_inserts external there x.id };
 }
 
-/// Puts in that the bytes of a version are kept outside.
+/// Puts in the row of a version whose bytes are kept outside.
 pub fn put_external<S: Alter>(tx: &mut Transaction<'_, S>, id: VersionId) -> Result<usize, Error>
     ensures same_reference { tx.new.conn.ghost_name ≡ tx.old.conn.ghost_name }
     ensures edit { IsEdit S.Store tx.old.conn.now tx.new.conn.now result (with_row table.External (external_row id)) }
@@ -50,11 +47,8 @@ pub fn put_external<S: Alter>(tx: &mut Transaction<'_, S>, id: VersionId) -> Res
     put_row(tx, &NewExternal { id })
 }
 
-/// Deletes that the bytes of a version are kept outside.
-pub fn delete_external<S: Alter>(
-    tx: &mut Transaction<'_, S>,
-    id: VersionId,
-) -> Result<usize, Error>
+/// Deletes the row of a version whose bytes are kept outside.
+pub fn delete_external<S: Alter>(tx: &mut Transaction<'_, S>, id: VersionId) -> Result<usize, Error>
     ensures same_reference { tx.new.conn.ghost_name ≡ tx.old.conn.ghost_name }
     ensures edit { IsEdit S.Store tx.old.conn.now tx.new.conn.now result (without table.External (is_numbered id)) }
 {

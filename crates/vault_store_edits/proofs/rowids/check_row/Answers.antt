@@ -26,9 +26,9 @@ returns-then-len-eq1-clause-stands g c external clean has =
     let schema = vault_schema external in
     elim (finds_by_rowid external t) [
       | inl finds ↦ (
-          unchanged schema (rowid_text t) (tree_of t) by_rowid finds (Int id ∷ []) old new has rows shown,
-          (id, c.in_ok-id.ensures.ok.1, count_found schema (rowid_text t) (tree_of t) by_rowid finds (Int id ∷ []) old new has rows shown one),
-        )
+        unchanged schema (rowid_text t) (tree_of t) by_rowid finds (Int id ∷ []) old new has rows shown,
+        (id, c.in_ok-id.ensures.ok.1, count_found schema (rowid_text t) (tree_of t) by_rowid finds (Int id ∷ []) old new has rows shown one),
+      )
       | inr unknown ↦ absurd (never_shown schema (rowid_text t) unknown (Int id ∷ []) old new has rows shown)
     ]
 

@@ -81,7 +81,8 @@ returns-in_err-make_open-clause-nothing g c clean =
     let same : end ≡ c.conn-1.given.0 = search rules in
     let late : HasCleanDisk (state g.S.Store end) = search rules in
     let early : HasCleanDisk mid = omega (arith, c.drop-tx.ensures.survives.clean) in
-    let kept = λ external. rw begun at (c.in_err-make_open.ensures.kept external early (rw begun refl) (rw begun c.tables_obey_their_schema.ensures)) in
     let all : (v : Vault) → Keeps (state g.S.Store old) v → Keeps (state g.S.Store c.conn-1.given.0) v =
-    λ v was. subst (λ h. Keeps (state g.S.Store h) v) same (undone_keeps g.S.Store old mid (state g.S.Store end) (kept v.external (λ is_open. (was is_open).0.spells.schema)) (c.drop-tx.ensures.undone late) v was) in
+    λ v was.
+    let kept = rw begun at (c.in_err-make_open.ensures.kept v.external early (rw begun refl) (rw begun c.tables_obey_their_schema.ensures)) in
+    subst (λ h. Keeps (state g.S.Store h) v) same (undone_keeps g.S.Store old mid (state g.S.Store end) (kept (λ is_open. (was is_open).0.spells.schema)) (c.drop-tx.ensures.undone late) v was) in
     on_err_here _ all
