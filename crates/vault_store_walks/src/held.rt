@@ -10,7 +10,7 @@ ghost use Rattle.vault_store_walks.specs.Sized.{IsSizedRow, sized_row, weight_of
 ghost use Rattle.vault_store_walks.specs.declared.held.SizedRow.{SizedRow as Sized};
 
 use sqlite::{Alter, Connection, Error, ErrorCode, Row, params};
-use vault_audit_rows::cell::{moment, number};
+use vault_audit_rows::cell::{moment, number_up_to};
 use vault_base::limits::MOST_EXTERNAL;
 use vault_base::moment::Moment;
 use vault_base::name::BucketName;
@@ -32,11 +32,8 @@ pub fn read_sized(row: &Row) -> Option<SizedRow>
     if row.column_count() != 2 {
         return None;
     }
-    let size = number(row, 0)?;
+    let size = number_up_to(row, 0, MOST_EXTERNAL)?;
     let from = moment(row, 1)?;
-    if size > MOST_EXTERNAL {
-        return None;
-    }
     Some(SizedRow { size, from })
 }
 

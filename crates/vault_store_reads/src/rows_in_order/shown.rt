@@ -8,7 +8,7 @@ ghost use Rattle.vault_store_reads.specs.Shown.{last_row, held_row, key_row, id_
 ghost use Rattle.vault_store_reads.specs.declared.rows_in_order.shown.HeldRow.{HeldRow as Held};
 
 use sqlite::Row;
-use vault_audit_rows::cell::{flag, moment, number, number_within, version_id};
+use vault_audit_rows::cell::{flag, moment, number_up_to, number_within, version_id};
 use vault_audit_rows::misread::Misread;
 use vault_audit_rows::name::{bucket_name, object_key};
 use vault_audit_rows::several_columns::retention;
@@ -53,11 +53,8 @@ pub fn read_held(row: &Row) -> Option<HeldRow>
     }
     let id = version_id(row, 0)?;
     let marker = flag(row, 1)?;
-    let size = number(row, 2)?;
+    let size = number_up_to(row, 2, MOST_EXTERNAL)?;
     let admitted = moment(row, 3)?;
-    if size > MOST_EXTERNAL {
-        return None;
-    }
     Some(HeldRow {
         id,
         marker,
