@@ -1,5 +1,5 @@
 -- A vault in which every content is inside may register contents that are kept outside.
-use Rattle.std.proofs.Common.{◌≡◌, ◌≤◌, ℕ, Bool, true, false, List, [], ◌∷◌, ◌++◌, map, flat_map, Option, Some, None, IfSome, lit≤, refl, sym, ap, subst, ◌∙◌, arith}
+use Rattle.std.proofs.Common.{◌≡◌, ◌≤◌, ℕ, Bool, true, false, List, [], ◌∷◌, map, flat_map, Option, Some, None, lit≤, refl, sym, ap, subst, arith, true≢false}
 use Rattle.std.specs.List.{AllByRecursion}
 use Rattle.vault_base.specs.declared.content.Content.{Content}
 use Rattle.vault_base.specs.declared.content.Content.TheVariants.{Inside, External}
@@ -14,7 +14,6 @@ use Rattle.vault_audit_model.specs.Limits.{IsEntry, IsHistory, IsInLimits, IsNot
 use Rattle.vault_audit_model.specs.Rows.{external_row}
 use Rattle.vault_audit_model.specs.SchemaVersions.{edition_of}
 use Rattle.vault_audit_model.specs.Spells.{IsKept, IsKeptAs, external_if_given, external_in, external_rows_of}
-use Rattle.vault_audit_model.specs.Tenures.{IsUnmovedIn}
 use Rattle.vault_store_create.specs.Copied.{registering}
 
 all_so : {A : Type 0} (P Q : A → Type 0) → ((x : A) → P x → Q x) → (xs : List A) → AllByRecursion P xs → AllByRecursion Q xs
@@ -28,14 +27,14 @@ room_more : (external : Bool) (bytes : ℕ) → bytes ≤ most_bytes false None 
 room_more false bytes low = low
 room_more true bytes low = let more : most_content ≤ most_external = lit≤ tt in omega (arith, low, more)
 
+has_place : (external : Bool) (bytes : List ℕ) → HasPlace external (Some (Inside bytes))
+has_place false bytes = refl
+has_place true bytes = refl
+
 has_room : (external : Bool) (content : Option Content) (bytes : ℕ) → HasRoom false content bytes → HasRoom external content bytes
 has_room external None bytes room = (room_more external bytes room.0, tt)
-has_room external (Some (Inside b)) bytes room = (room.0, subst (λ x. HasPlace x (Some (Inside b))) refl (placed external b))
-  where
-    placed : (e : Bool) (b : List ℕ) → HasPlace e (Some (Inside b))
-    placed false b = refl
-    placed true b = refl
-has_room external (Some (External r)) bytes room = absurd (cc room)
+has_room external (Some (Inside b)) bytes room = (room.0, has_place external b)
+has_room external (Some (External r)) bytes room = absurd (true≢false (sym room.1))
 
 -- ---- histories and notes
 
@@ -44,7 +43,7 @@ whole_so external h whole = by_marker h.entry.marker whole
   where
     by_marker : (marker : Bool) → IsWholeAs marker false h.entry h.content h.settings → IsWholeAs marker external h.entry h.content h.settings
     by_marker true it = it
-    by_marker false it = (has_room external h.content h.entry.size it.0, it.1)
+    by_marker false it = (has_room external h.content h.entry.size it.0, it.1, it.2, it.3)
 
 sized_so : (marker external : Bool) (size : ℕ) (digest : Option (List ℕ)) → IsSizedAs marker false size digest → IsSizedAs marker external size digest
 sized_so true external size digest it = it
@@ -124,7 +123,7 @@ none_in h whole = by_content h.content (by_marker h.entry.marker whole)
     by_content : (content : Option Content) → HasPlace false content → external_if_given h.entry.id content ≡ []
     by_content None place = refl
     by_content (Some (Inside b)) place = refl
-    by_content (Some (External r)) place = absurd (cc place)
+    by_content (Some (External r)) place = absurd (true≢false (sym place))
 
 none_of : (hs : List History) → AllByRecursion (IsWhole false) hs → flat_map external_in hs ≡ []
 none_of [] whole = refl

@@ -107,17 +107,17 @@ bound_meta true m = refl
 -- as parameters of a statement the row is what it was
 pub bound_as_stated : (external : Bool) (t : Table) (row : Row) → IsRowOf t row → IsBound (put_of t external row)
 bound_as_stated external table.Meta row stated = subst (λ r. IsBound (put_of table.Meta external r)) (sym stated.1) (bound_meta external stated.0)
-bound_as_stated external table.Departments = bound_row department_row (λ d. refl)
-bound_as_stated external table.Callers = bound_row caller_row caller_bound
-bound_as_stated external table.Buckets = bound_row bucket_row bucket_bound
-bound_as_stated external table.Rules = bound_row rule_row rule_bound
-bound_as_stated external table.Entries = bound_row entry_row entry_bound
-bound_as_stated external table.Contents = bound_row content_row (λ c. refl)
-bound_as_stated external table.Settings = bound_row setting_row setting_bound
-bound_as_stated external table.Intake = bound_row note_row note_bound
-bound_as_stated external table.Heads = bound_row head_row (λ h. refl)
-bound_as_stated external table.Tenures = bound_row tenure_row (λ t. refl)
-bound_as_stated external table.External = bound_row external_row (λ id. refl)
+bound_as_stated external table.Departments row stated = bound_row department_row (λ d. refl) row stated
+bound_as_stated external table.Callers row stated = bound_row caller_row caller_bound row stated
+bound_as_stated external table.Buckets row stated = bound_row bucket_row bucket_bound row stated
+bound_as_stated external table.Rules row stated = bound_row rule_row rule_bound row stated
+bound_as_stated external table.Entries row stated = bound_row entry_row entry_bound row stated
+bound_as_stated external table.Contents row stated = bound_row content_row (λ c. refl) row stated
+bound_as_stated external table.Settings row stated = bound_row setting_row setting_bound row stated
+bound_as_stated external table.Intake row stated = bound_row note_row note_bound row stated
+bound_as_stated external table.Heads row stated = bound_row head_row (λ h. refl) row stated
+bound_as_stated external table.Tenures row stated = bound_row tenure_row (λ t. refl) row stated
+bound_as_stated external table.External row stated = bound_row external_row (λ id. refl) row stated
 
 -- ---- columns: each takes the values of records as they are
 

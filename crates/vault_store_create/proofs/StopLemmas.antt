@@ -1,6 +1,6 @@
 -- A row of the vault at which a copy of its tables stops.
 use Rattle.std.proofs.Common.{◌≡◌, ◌⊎◌, ◌==◌, inl, inr, ℕ, List, [], ◌∷◌, ◌++◌, Bool, cond, Ok, Err, Result, IfErr, append_assoc, append-nil, refl, sym, subst, arith, true≢false}
-use Rattle.std.specs.Prelude.{IsPermutation, IsTrue, false}
+use Rattle.std.specs.Prelude.{IsPermutation, IsTrue, true, false}
 use Rattle.std.proofs.lemmas.Bool.{cases_Bool}
 use Rattle.std.proofs.lemmas.Bool.Decides.{nat_tests}
 use Rattle.std.proofs.lemmas.List.Sorted.{IsPermutation-append_right, IsPermutation-trans}

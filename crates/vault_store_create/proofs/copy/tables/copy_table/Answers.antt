@@ -10,8 +10,8 @@ use Rattle.vault_store_create.proofs.ListingLemmas.{reads_only}
 use Rattle.vault_store_create.proofs.StopLemmas.{asks_for_rows, fails_for}
 use Rattle.vault_store_create.proofs.copy.tables.copy_table.Goals as goal
 
-pub copy_rows-requires : goal.copy_rows-requires
-copy_rows-requires g c clean = rw c.listing.ensures (subst (λ s. IsPlain (understood s (listing_of c.args.external c.args.schema_version c.args.table))) (sym (c.requires.known clean)) (reads_only c.args.external c.args.schema_version c.args.table c.requires.copied))
+pub copy_rows-requires-clause-plain : goal.copy_rows-requires-clause-plain
+copy_rows-requires-clause-plain g c clean = rw c.listing.ensures (subst (λ s. IsPlain (understood s (listing_of c.args.external c.args.schema_version c.args.table))) (sym (c.requires.known clean)) (reads_only c.args.external c.args.schema_version c.args.table c.requires.copied))
 
 pub returns-clause-copied : goal.returns-clause-copied
 returns-clause-copied g c clean after inside is_open =
