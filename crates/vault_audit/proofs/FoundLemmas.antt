@@ -85,20 +85,20 @@ module _ (ed : SchemaVersion) (db : Database) (m : MetaRow) (departments : List 
     within = each_within tenures names tenured within;
   }
 
-  pub found_spelled : SpellsAs ed db (found_vault m departments callers buckets notes contents settings tenures)
+  pub found_spelled : SpellsAs ed db (found_vault ed m departments callers buckets notes contents settings tenures)
   found_spelled = spelled ed db m names callers buckets notes entries contents settings tenures parts
 
   same_items : (dept : List ℕ) → items_in dept tenures ≡ items_in dept (joined contents settings tenures)
-  same_items dept = sym (joined_items contents settings tenures (are.contents_are.0 ∙ sym are.settings_are.0) (are.contents_are.0 ∙ sym are.tenures_are.0) dept)
+  same_items dept = sym (joined_items contents settings tenures (are.contents_are.entries ∙ sym are.settings_are.0) (are.contents_are.entries ∙ sym are.tenures_are.0) dept)
 
-  same_rows : (ns : List (List ℕ)) → map (λ n. department_row (department_with tenures n)) ns ≡ map (λ n. department_row (department_in (found_vault m departments callers buckets notes contents settings tenures) n)) ns
+  same_rows : (ns : List (List ℕ)) → map (λ n. department_row (department_with tenures n)) ns ≡ map (λ n. department_row (department_in (found_vault ed m departments callers buckets notes contents settings tenures) n)) ns
   same_rows [] = refl
   same_rows (n ∷ ns) =
-      let here : department_row (department_with tenures n) ≡ department_row (department_in (found_vault m departments callers buckets notes contents settings tenures) n) =
+      let here : department_row (department_with tenures n) ≡ department_row (department_in (found_vault ed m departments callers buckets notes contents settings tenures) n) =
       ap (λ (items : List Item). department_row (record { name = n; sums = sums_over items })) (same_items n) in
       let there = same_rows ns in cc (here, there)
 
-  pub found_sums : HaveSums ed db (found_vault m departments callers buckets notes contents settings tenures)
+  pub found_sums : HaveSums ed db (found_vault ed m departments callers buckets notes contents settings tenures)
   found_sums =
       let rows = IsPermutation-map (λ n. department_row (department_with tenures n)) names summed reordered in
       subst (λ xs. IsPermutation xs (map (department_columns_as ed) (db.trees departments_tree))) (same_rows names) (IsPermutation-trans _ _ _ rows are.sums_are.0)

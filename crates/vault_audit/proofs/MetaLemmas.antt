@@ -10,7 +10,7 @@ use Rattle.vault_base.specs.declared.refusal.Table.TheVariants as table
 use Rattle.vault_audit_model.specs.declared.rows.MetaRow.{MetaRow}
 use Rattle.vault_audit_records.specs.declared.meta.row.MetaPass.{MetaPass}
 use Rattle.vault_audit_model.specs.declared.schema.SchemaVersion.{SchemaVersion}
-use Rattle.vault_audit_model.specs.declared.schema.SchemaVersion.TheVariants.{First, Second, Third}
+use Rattle.vault_audit_model.specs.declared.schema.SchemaVersion.TheVariants.{First, Second, Third, Fourth}
 use Rattle.vault_audit_model.specs.Rows.{meta_row, meta_columns_as}
 use Rattle.vault_audit_model.specs.Tables.{meta_tree}
 use Rattle.vault_audit_model.proofs.CommandLemmas.{meant}
@@ -31,6 +31,7 @@ answers : (n : SchemaVersion) (s : Schema) → BeginTo n s.tables table.Meta →
 answers First s begin a b has rows shown = let it = meta_walks First s begin in walked (meta_query First) a b s has it.plain it.unlisted meta_tree 0 (drop 1 (meta_terms First)) _ (meant s (meta_query First) it) refl rows shown
 answers Second s begin a b has rows shown = let it = meta_walks Second s begin in walked (meta_query Second) a b s has it.plain it.unlisted meta_tree 0 (drop 1 (meta_terms Second)) _ (meant s (meta_query Second) it) refl rows shown
 answers Third s begin a b has rows shown = let it = meta_walks Third s begin in walked (meta_query Third) a b s has it.plain it.unlisted meta_tree 0 (drop 1 (meta_terms Third)) _ (meant s (meta_query Third) it) refl rows shown
+answers Fourth s begin a b has rows shown = let it = meta_walks Fourth s begin in walked (meta_query Fourth) a b s has it.plain it.unlisted meta_tree 0 (drop 1 (meta_terms Fourth)) _ (meant s (meta_query Fourth) it) refl rows shown
 
 abbrev start : SchemaVersion → MetaPass
 start n = record { schema_version = n; found = None }

@@ -9,7 +9,7 @@ use Rattle.sqlite.specs.State.{State, Survives, IsUnchanged}
 use Rattle.sqlite.proofs.Callers.{one_permutation}
 use Rattle.sqlite.proofs.StateLemmas.{survives_then}
 use Rattle.vault_base.specs.declared.refusal.Table.{Table}
-use Rattle.vault_base.specs.declared.refusal.Table.TheVariants.{Meta, Departments, Callers, Buckets, Rules, Entries, Contents, Settings, Intake, Heads, Tenures}
+use Rattle.vault_base.specs.declared.refusal.Table.TheVariants.{Meta, Departments, Callers, Buckets, Rules, Entries, Contents, Settings, Intake, Heads, Tenures, External}
 use Rattle.vault_core_model.specs.Vault.{Vault}
 use Rattle.vault_audit_model.specs.declared.schema.SchemaVersion.{SchemaVersion}
 use Rattle.vault_audit_model.specs.declared.rows.MetaRow.{MetaRow}
@@ -26,14 +26,15 @@ use Rattle.vault_audit_records.specs.Meta.{IsMetaOf}
 use Rattle.vault_audit_rows.specs.Records.{AreRecords}
 use Rattle.vault_audit.specs.InOrder.{AreRowsRight, IsRight, IsReportedInOrder, ReportedInOrder}
 use Rattle.vault_audit.specs.Looks.{Differs}
+use Rattle.vault_audit_model.specs.SchemaVersions.{is_external}
 
 -- ---- places
 
 -- the tables after meta
 abbrev pub after_meta : List Table
-after_meta = Departments ∷ Callers ∷ Buckets ∷ Rules ∷ Entries ∷ Contents ∷ Settings ∷ Intake ∷ Heads ∷ Tenures ∷ []
+after_meta = Departments ∷ Callers ∷ Buckets ∷ Rules ∷ Entries ∷ Contents ∷ Settings ∷ Intake ∷ Heads ∷ Tenures ∷ External ∷ []
 
-pub place_after : (i : ℕ) → i < 10 → place_of (get_or after_meta i Meta) ≡ i + 1
+pub place_after : (i : ℕ) → i < 11 → place_of (get_or after_meta i Meta) ≡ i + 1
 place_after zero h = refl
 place_after (suc zero) h = refl
 place_after (suc (suc zero)) h = refl
@@ -44,7 +45,8 @@ place_after (suc (suc (suc (suc (suc (suc zero)))))) h = refl
 place_after (suc (suc (suc (suc (suc (suc (suc zero))))))) h = refl
 place_after (suc (suc (suc (suc (suc (suc (suc (suc zero)))))))) h = refl
 place_after (suc (suc (suc (suc (suc (suc (suc (suc (suc zero))))))))) h = refl
-place_after (suc (suc (suc (suc (suc (suc (suc (suc (suc (suc n)))))))))) h = absurd (omega (arith, h))
+place_after (suc (suc (suc (suc (suc (suc (suc (suc (suc (suc zero)))))))))) h = refl
+place_after (suc (suc (suc (suc (suc (suc (suc (suc (suc (suc (suc n))))))))))) h = absurd (omega (arith, h))
 
 -- what a test says
 pub is_not : {P : Type 0} (b : Bool) → b ≡ false → (IsTrue b ↔ P) → ¬ P
@@ -69,6 +71,7 @@ from_after (Some Settings) other = omega arith
 from_after (Some Intake) other = omega arith
 from_after (Some Heads) other = omega arith
 from_after (Some Tenures) other = omega arith
+from_after (Some External) other = omega arith
 
 pub from_next : (difference : Option Table) (t : Table) (place : ℕ) → place_of t ≡ place → IsFrom place difference → difference ≢ Some t → IsFrom (place + 1) difference
 from_next None t place here from other = tt
@@ -83,7 +86,7 @@ module _ (n : SchemaVersion) (s : Schema) where
   begin_at None t place here is from = ap (λ (x : Schema). take (place_of t + 1) x.tables) is
   begin_at (Some d) t place here it from = it.begin t (omega (arith, here, from))
 
-  pub no_difference : (difference : Option Table) → Differs n s difference → IsFrom 11 difference → s ≡ schema_of n
+  pub no_difference : (difference : Option Table) → Differs n s difference → IsFrom 12 difference → s ≡ schema_of n
   no_difference None is from = is
   no_difference (Some d) it from = let below = place_below d in absurd (omega (arith, below, from))
 
@@ -119,7 +122,7 @@ module _ (n : SchemaVersion) (db : Database) where
   pub right_row : (t : Table) → BeginTo n db.schema.tables t → AreRowsRight n db t true → IsRight n db t
   right_row t begin right = (in_place n db.schema.tables t begin, right)
 
-  pub all_right : AreRightTo 11 → db.schema ≡ schema_of n → ReportedInOrder n db None
+  pub all_right : AreRightTo 12 → db.schema ≡ schema_of n → ReportedInOrder n db None
   all_right right is = (is, λ t. right t (place_below t))
 
   pub stated_by_form : (t : Table) → ((u : Table) → place_of u < place_of t → IsRight n db u) → IsReportedIn n db.schema t → ReportedInOrder n db (Some t)
@@ -170,9 +173,9 @@ module _ (n : SchemaVersion) (old new : State) (m : MetaRow) (meta : IsMetaOf n 
   meta_later : IsUnchanged old new → IsMetaOf n new.now (Some m)
   meta_later same = subst (λ (db : Database). IsMetaOf n db (Some m)) (sym same.0.now_is) meta
 
-  pub entries_read_so : (r : Result Bool Error) → OnOk r (IsUnchanged old new) → IfOk r (AreRecords entry_row (IsEntryBy m.last) (map entry_columns (new.now.trees entries_tree))) → IfOk r (AreRowsRight n new.now Entries)
+  pub entries_read_so : (r : Result Bool Error) → OnOk r (IsUnchanged old new) → IfOk r (AreRecords entry_row (IsEntryBy (is_external n) m.last) (map entry_columns (new.now.trees entries_tree))) → IfOk r (AreRowsRight n new.now Entries)
   entries_read_so (Err e) same stated = tt
-  entries_read_so (Ok right) same stated = of_meta n new.now (λ (x : MetaRow). AreRecords entry_row (IsEntryBy x.last) (map entry_columns (new.now.trees entries_tree)) right) m (meta_later same) stated
+  entries_read_so (Ok right) same stated = of_meta n new.now (λ (x : MetaRow). AreRecords entry_row (IsEntryBy (is_external n) x.last) (map entry_columns (new.now.trees entries_tree)) right) m (meta_later same) stated
 
   pub entries_damaged : (r : Result Bool Error) → OnOk r (IsUnchanged old new) → IfOk r (λ right. right ≡ false → (v : Vault) → v.last ≡ m.last → ¬ AreSoundAs n new.now v) → IfOk r (λ right. right ≡ false → (v : Vault) → ¬ AreSoundAs n new.now v)
   entries_damaged (Err e) same none = tt

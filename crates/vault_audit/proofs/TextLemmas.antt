@@ -5,7 +5,7 @@ use Rattle.sqlite.specs.Schema.{Schema}
 use Rattle.sqlite.specs.Listing.{understood}
 use Rattle.vault_base.specs.declared.refusal.Table.TheVariants as table
 use Rattle.vault_audit_model.specs.declared.schema.SchemaVersion.{SchemaVersion}
-use Rattle.vault_audit_model.specs.declared.schema.SchemaVersion.TheVariants.{First, Second, Third}
+use Rattle.vault_audit_model.specs.declared.schema.SchemaVersion.TheVariants.{First, Second, Third, Fourth}
 use Rattle.vault_audit_model.specs.Queries.{table_scan, Selects}
 use Rattle.vault_audit_model.specs.Tables.{meta, meta_tree, entries, entries_tree}
 use Rattle.vault_audit_schema.specs.Places.{BeginTo}
@@ -45,9 +45,11 @@ unfolding understood everything
 meta_walks First s begin = as_begun (WalksMeta First) First s table.Meta begin (record { names = names_of meta; is = refl; plain = (refl, refl); unlisted = refl })
 meta_walks Second s begin = as_begun (WalksMeta Second) Second s table.Meta begin (record { names = names_of meta; is = refl; plain = (refl, refl); unlisted = refl })
 meta_walks Third s begin = as_begun (WalksMeta Third) Third s table.Meta begin (record { names = names_of meta; is = refl; plain = (refl, refl); unlisted = refl })
+meta_walks Fourth s begin = as_begun (WalksMeta Fourth) Fourth s table.Meta begin (record { names = names_of meta; is = refl; plain = (refl, refl); unlisted = refl })
 
 pub meta_asks : (n : SchemaVersion) (s : Schema) → BeginTo n s.tables table.Meta → Asks s (meta_query n)
 unfolding understood everything
 meta_asks First s begin = as_begun (λ x. Asks x (meta_query First)) First s table.Meta begin (record { is = (omega (arith), refl, (refl, refl, refl, refl)); unlisted = refl })
 meta_asks Second s begin = as_begun (λ x. Asks x (meta_query Second)) Second s table.Meta begin (record { is = (omega (arith), refl, (refl, refl, refl, refl)); unlisted = refl })
 meta_asks Third s begin = as_begun (λ x. Asks x (meta_query Third)) Third s table.Meta begin (record { is = (omega (arith), refl, (refl, refl, refl, refl)); unlisted = refl })
+meta_asks Fourth s begin = as_begun (λ x. Asks x (meta_query Fourth)) Fourth s table.Meta begin (record { is = (omega (arith), refl, (refl, refl, refl, refl)); unlisted = refl })

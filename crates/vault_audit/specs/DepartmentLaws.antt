@@ -8,7 +8,7 @@ use Rattle.sqlite.specs.Schema.{Schema}
 use Rattle.vault_base.specs.declared.refusal.Table.TheVariants as table
 use Rattle.vault_core_model.specs.Vault.{Vault}
 use Rattle.vault_audit_model.specs.declared.schema.SchemaVersion.{SchemaVersion}
-use Rattle.vault_audit_model.specs.declared.schema.SchemaVersion.TheVariants.{First, Second, Third}
+use Rattle.vault_audit_model.specs.declared.schema.SchemaVersion.TheVariants.{First, Second, Third, Fourth}
 use Rattle.vault_audit_model.specs.Limits.{IsDepartmentRow}
 use Rattle.vault_audit_model.specs.Rows.{department_row, department_columns_as}
 use Rattle.vault_audit_model.specs.Spells.{AreSoundAs}
@@ -40,6 +40,12 @@ department_shows_all Second s has begin = as_begun (Shows Second) Second s table
 })
 department_shows_all Third s has begin = as_begun (Shows Third) Third s table.Departments begin (record {
   terms = department_terms Third;
+  scans = record { names = names_of departments; is = refl; plain = (refl, refl); unlisted = refl };
+  asks = record { is = (omega (arith), refl, (refl, refl, refl, refl)); unlisted = refl };
+  alike = λ rows. refl;
+})
+department_shows_all Fourth s has begin = as_begun (Shows Fourth) Fourth s table.Departments begin (record {
+  terms = department_terms Fourth;
   scans = record { names = names_of departments; is = refl; plain = (refl, refl); unlisted = refl };
   asks = record { is = (omega (arith), refl, (refl, refl, refl, refl)); unlisted = refl };
   alike = λ rows. refl;

@@ -9,7 +9,7 @@ use Rattle.vault_core_model.specs.declared.records.History.{History}
 use Rattle.vault_core_model.specs.declared.records.Note.{Note}
 use Rattle.vault_core_model.specs.Vault.{Vault}
 use Rattle.vault_audit_model.specs.declared.schema.SchemaVersion.{SchemaVersion}
-use Rattle.vault_audit_model.specs.SchemaVersions.{number_of}
+use Rattle.vault_audit_model.specs.SchemaVersions.{number_of, is_external}
 use Rattle.vault_audit_model.specs.declared.rows.DepartmentRow.{DepartmentRow}
 use Rattle.vault_audit_model.specs.declared.rows.MetaRow.{MetaRow}
 use Rattle.vault_audit_model.specs.Limits.{IsMetaRow}
@@ -26,9 +26,9 @@ abbrev pub names_of : List DepartmentRow → List (List ℕ)
 names_of ds = map (λ (d : DepartmentRow). d.name) ds
 
 -- the vault of what is found
-abbrev pub found_vault : MetaRow → List DepartmentRow → List Caller → List Bucket → List Note → List History → List History → List History → Vault
-found_vault m departments callers buckets notes contents settings tenures =
-    vault_of m (names_of departments) callers buckets notes contents settings tenures
+abbrev pub found_vault : SchemaVersion → MetaRow → List DepartmentRow → List Caller → List Bucket → List Note → List History → List History → List History → Vault
+found_vault ed m departments callers buckets notes contents settings tenures =
+    vault_of ed m (names_of departments) callers buckets notes contents settings tenures
 
 -- the rows of departments have the sums over the tenures of the vault
 abbrev pub HaveSums : SchemaVersion → Database → Vault → Type 0
@@ -44,10 +44,10 @@ pub record AreFound (ed : SchemaVersion) (db : Database) (m : MetaRow) (departme
   pub departments_are : AreDepartmentsByName ed db departments
   pub callers_are : AreCallers db callers
   pub buckets_are : AreBuckets ed db buckets
-  pub entries_are : AreEntries db entries
+  pub entries_are : AreEntries (is_external ed) db entries
   pub past : AllByRecursion (IsPast m.last) entries
-  pub contents_are : AreContents db entries contents
+  pub contents_are : AreContents ed db entries contents
   pub settings_are : AreSettings db entries settings
-  pub notes_are : AreNotes db entries notes
+  pub notes_are : AreNotes (is_external ed) db entries notes
   pub tenures_are : (entries_in tenures ≡ entries) × AreTenuresOf ed db (versions_at m buckets tenures)
   pub sums_are : AreSums ed db tenures summed

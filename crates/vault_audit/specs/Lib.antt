@@ -13,4 +13,5 @@ pub mod SettingLaws
 pub mod NoteLaws
 pub mod HeadLaws
 pub mod TenureLaws
+pub mod ExternalLaws
 pub use Rattle.vault_audit_rows.specs.Health

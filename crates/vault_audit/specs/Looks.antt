@@ -1,5 +1,5 @@
 -- What looks at several tables say.
-use Rattle.std.specs.Prelude.{◌≡◌, ℕ, ◌+◌, true, List, length, map, Option, None, Some, MatchOption}
+use Rattle.std.specs.Prelude.{◌≡◌, ℕ, ◌+◌, true, List, length, map, Option, None, Some, MatchOption, Bool}
 use Rattle.std.specs.List.{AllByRecursion}
 use Rattle.sqlite.specs.Effect.{Database}
 use Rattle.sqlite.specs.Schema.{Schema}
@@ -23,6 +23,7 @@ use Rattle.vault_audit_rows.specs.Records.{AreRecords}
 use Rattle.vault_audit_records.specs.Entries.{IsEntryBy}
 use Rattle.vault_audit_records.specs.Meta.{IsMetaOf}
 use Rattle.vault_audit_records.specs.ByName.{AreDepartmentsByName}
+use Rattle.vault_audit_model.specs.SchemaVersions.{is_external}
 
 -- where the schema differs from the schema version's, if it does
 abbrev pub Differs : SchemaVersion → Schema → Option Table → Type 0
@@ -39,14 +40,14 @@ ReportedOf n db m Found None = Found
 ReportedOf n db m Found (Some table) = IsMetaOf n db (Some m) → (v : Vault) → ¬ AreSoundAs n db v
 
 -- the rows of entries are entries in their limits, none after the last moment
-abbrev pub ArePast : Database → ℕ → Type 0
-ArePast db last = AreRecords entry_row (IsEntryBy last) (map entry_columns (db.trees entries_tree)) true
+abbrev pub ArePast : Bool → Database → ℕ → Type 0
+ArePast external db last = AreRecords entry_row (IsEntryBy external last) (map entry_columns (db.trees entries_tree)) true
 
 -- the next id, and the departments with their sums
 pub record DepartmentsFound (n : SchemaVersion) (db : Database) (m : MetaRow) : Type 0 where
   pub next : m.next ≡ length (db.trees entries_tree) + 1
   pub departments : (ds : List DepartmentRow) × AreDepartmentsByName n db ds
-  pub sums : (v : Vault) → AreBuckets n db v.buckets → AreEntries db (entries_in v.histories) → AllByRecursion (IsPast v.last) (entries_in v.histories) → AreTenuresOf n db v
+  pub sums : (v : Vault) → AreBuckets n db v.buckets → AreEntries (is_external n) db (entries_in v.histories) → AllByRecursion (IsPast v.last) (entries_in v.histories) → AreTenuresOf n db v
       → (summed : List (List ℕ)) × AreSums n db v.histories summed
 
 -- callers, and buckets with their rules
@@ -55,14 +56,14 @@ pub record NamesFound (n : SchemaVersion) (db : Database) : Type 0 where
   pub buckets : (bs : List Bucket) × AreBuckets n db bs
 
 -- the contents, the settings and the notes of these entries
-pub record VersionsFound (db : Database) (es : List Entry) : Type 0 where
-  pub contents : (hs : List History) × AreContents db es hs
+pub record VersionsFound (n : SchemaVersion) (db : Database) (es : List Entry) : Type 0 where
+  pub contents : (hs : List History) × AreContents n db es hs
   pub settings : (hs : List History) × AreSettings db es hs
-  pub notes : (ns : List Note) × AreNotes db es ns
+  pub notes : (ns : List Note) × AreNotes (is_external n) db es ns
 
 -- the tenures of the versions in these buckets, where this is the row of meta
 abbrev pub TenuresFound : SchemaVersion → Database → MetaRow → Type 0
 TenuresFound n db m =
-    IsMetaOf n db (Some m) → (v : Vault) → v.last ≡ m.last → v.moves ≡ m.moves → AreBuckets n db v.buckets → AreEntries db (entries_in v.histories)
+    IsMetaOf n db (Some m) → (v : Vault) → v.last ≡ m.last → v.moves ≡ m.moves → AreBuckets n db v.buckets → AreEntries (is_external n) db (entries_in v.histories)
     → AllByRecursion (IsPast v.last) (entries_in v.histories) → AllByRecursion (IsPlaced v) v.histories
     → (hs : List History) × AreTenuresWith n db v hs

@@ -18,6 +18,7 @@ use Rattle.vault_audit_rows.specs.Records.{AreRecords}
 use Rattle.vault_audit_records.proofs.DamageLemmas.{no_intake}
 use Rattle.vault_audit.specs.Begun.{as_begun}
 use Rattle.vault_audit.specs.ShowsAll.{ShowsAll}
+use Rattle.vault_audit_model.specs.SchemaVersions.{is_external}
 
 abbrev Shows : Schema → Type 0
 Shows s = ShowsAll s (select_text intake []) intake_tree note_columns
@@ -31,5 +32,5 @@ note_shows_all n s has begin = as_begun Shows n s table.Intake begin (record {
   alike = λ rows. refl;
 })
 
-pub note_unsound : (n : SchemaVersion) (db : Database) (v : Vault) → ⊤ → AreRecords note_row IsNote (map note_columns (db.trees intake_tree)) false → ¬ AreSoundAs n db v
+pub note_unsound : (n : SchemaVersion) (db : Database) (v : Vault) → ⊤ → AreRecords note_row (IsNote (is_external n)) (map note_columns (db.trees intake_tree)) false → ¬ AreSoundAs n db v
 note_unsound n db v has none = no_intake n db v none

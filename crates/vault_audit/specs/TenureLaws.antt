@@ -1,5 +1,4 @@
 -- What the query for all rows of tenures shows, and what they have to be.
-use Rattle.std.specs.Prelude.{⊤}
 use Rattle.std.proofs.Common.{[], map, false, refl, arith}
 use Rattle.sqlite_tied.specs.Compute.{everything}
 use Rattle.sqlite.specs.Effect.{Database}
@@ -8,7 +7,7 @@ use Rattle.sqlite.specs.Schema.{Schema}
 use Rattle.vault_base.specs.declared.refusal.Table.TheVariants as table
 use Rattle.vault_core_model.specs.Vault.{Vault}
 use Rattle.vault_audit_model.specs.declared.schema.SchemaVersion.{SchemaVersion}
-use Rattle.vault_audit_model.specs.declared.schema.SchemaVersion.TheVariants.{First, Second, Third}
+use Rattle.vault_audit_model.specs.declared.schema.SchemaVersion.TheVariants.{First, Second, Third, Fourth}
 use Rattle.vault_audit_model.specs.Limits.{IsTenureRow}
 use Rattle.vault_audit_model.specs.Rows.{tenure_row, tenure_columns}
 use Rattle.vault_audit_model.specs.Spells.{AreSoundAs}
@@ -17,19 +16,14 @@ use Rattle.vault_audit_schema.specs.Places.{BeginTo}
 use Rattle.vault_audit_schema.specs.Texts.{names_of, select_text, terms_of}
 use Rattle.vault_audit_rows.specs.Records.{AreRecords}
 use Rattle.vault_audit_records.proofs.DamageLemmas.{no_tenures}
+use Rattle.vault_audit_tenures.specs.Decided.{HasTenuresTable}
 use Rattle.vault_audit.specs.Begun.{as_begun}
 use Rattle.vault_audit.specs.ShowsAll.{ShowsAll}
-
--- the schema version has the table
-abbrev pub HasTenures : SchemaVersion → Type 0
-HasTenures First = ⊥
-HasTenures Second = ⊥
-HasTenures Third = ⊤
 
 abbrev Shows : Schema → Type 0
 Shows s = ShowsAll s (select_text tenures []) tenures_tree tenure_columns
 
-pub tenure_shows_all : (n : SchemaVersion) (s : Schema) → HasTenures n → BeginTo n s.tables table.Tenures → Shows s
+pub tenure_shows_all : (n : SchemaVersion) (s : Schema) → HasTenuresTable n → BeginTo n s.tables table.Tenures → Shows s
 unfolding understood everything
 tenure_shows_all First s has begin = absurd has
 tenure_shows_all Second s has begin = absurd has
@@ -39,8 +33,15 @@ tenure_shows_all Third s has begin = as_begun Shows Third s table.Tenures begin 
   asks = record { is = (omega (arith), refl, (refl, refl, refl, refl)); unlisted = refl };
   alike = λ rows. refl;
 })
+tenure_shows_all Fourth s has begin = as_begun Shows Fourth s table.Tenures begin (record {
+  terms = terms_of tenures;
+  scans = record { names = names_of tenures; is = refl; plain = (refl, refl); unlisted = refl };
+  asks = record { is = (omega (arith), refl, (refl, refl, refl, refl)); unlisted = refl };
+  alike = λ rows. refl;
+})
 
-pub tenure_unsound : (n : SchemaVersion) (db : Database) (v : Vault) → HasTenures n → AreRecords tenure_row IsTenureRow (map tenure_columns (db.trees tenures_tree)) false → ¬ AreSoundAs n db v
+pub tenure_unsound : (n : SchemaVersion) (db : Database) (v : Vault) → HasTenuresTable n → AreRecords tenure_row IsTenureRow (map tenure_columns (db.trees tenures_tree)) false → ¬ AreSoundAs n db v
 tenure_unsound First db v has none = absurd has
 tenure_unsound Second db v has none = absurd has
 tenure_unsound Third db v has none = no_tenures Third db v none
+tenure_unsound Fourth db v has none = no_tenures Fourth db v none

@@ -12,18 +12,19 @@ use Rattle.vault_audit_model.specs.Relations.{AreEntries, AreHeads}
 use Rattle.vault_audit_model.specs.Spells.{AreSoundAs}
 use Rattle.vault_audit_entries.specs.Keys.{entries_of}
 use Rattle.vault_audit.specs.Looks.{DepartmentsFound, NamesFound, TenuresFound, VersionsFound}
+use Rattle.vault_audit_model.specs.SchemaVersions.{is_external}
 
 -- the entries, what stands beside them, and the heads of their keys
-pub record VersionsAndHeads (db : Database) : Type 0 where
-  pub entries : (es : List Entry) × AreEntries db es
-  pub versions : (es : List Entry) → AreEntries db es → VersionsFound db es
-  pub heads : (v : Vault) → AreEntries db (entries_of v) → AreHeads db v
+pub record VersionsAndHeads (n : SchemaVersion) (db : Database) : Type 0 where
+  pub entries : (es : List Entry) × AreEntries (is_external n) db es
+  pub versions : (es : List Entry) → AreEntries (is_external n) db es → VersionsFound n db es
+  pub heads : (v : Vault) → AreEntries (is_external n) db (entries_of v) → AreHeads db v
 
 -- what the second pass finds
 pub record AllFound (n : SchemaVersion) (db : Database) (m : MetaRow) : Type 0 where
   pub departments : DepartmentsFound n db m
   pub names : NamesFound n db
-  pub held : VersionsAndHeads db
+  pub held : VersionsAndHeads n db
   pub tenures : TenuresFound n db m
 
 -- the tables are sound for a vault; or one is damaged, and they are sound for none

@@ -5,6 +5,7 @@ pub mod callers;
 pub mod contents;
 pub mod departments;
 pub mod entries;
+pub mod external;
 pub mod heads;
 pub mod in_order;
 pub mod intake;

@@ -20,9 +20,9 @@ pub fn looks_find_a_vault()
     ensures spelled { (ed : SchemaVersion) (db : Database) (m : MetaRow) (departments : List DepartmentRow) (callers : List Caller) (buckets : List Bucket)
         (notes : List Note) (entries : List Entry) (contents settings tenures : List History) (summed : List (List ℕ)) →
         AreFound ed db m departments callers buckets notes entries contents settings tenures summed →
-        SpellsAs ed db (found_vault m departments callers buckets notes contents settings tenures) }
+        SpellsAs ed db (found_vault ed m departments callers buckets notes contents settings tenures) }
     ensures sums { (ed : SchemaVersion) (db : Database) (m : MetaRow) (departments : List DepartmentRow) (callers : List Caller) (buckets : List Bucket)
         (notes : List Note) (entries : List Entry) (contents settings tenures : List History) (summed : List (List ℕ)) →
         AreFound ed db m departments callers buckets notes entries contents settings tenures summed →
-        HaveSums ed db (found_vault m departments callers buckets notes contents settings tenures) }
+        HaveSums ed db (found_vault ed m departments callers buckets notes contents settings tenures) }
 {}

@@ -24,13 +24,13 @@ use vault_audit_model::schema::SchemaVersion;
 use vault_audit_records::entries::second_look::check_numbers;
 use vault_base::refusal::Table;
 
-/// The first of entries, contents, settings, intake and heads that is damaged.
+/// The first of entries, contents or external, settings, intake and heads that is damaged.
 pub(crate) fn look_at_entries<S: Alter>(
     conn: &mut Connection<S>,
     schema_version: SchemaVersion,
 ) -> Result<Option<Table>, Error>
     requires { IsOfSchemaVersion S.Store conn.old schema_version }
-    ensures reported { HasCleanDisk (state S.Store conn.new) → IfOk result (Reported schema_version (state S.Store conn.new).now (VersionsAndHeads (state S.Store conn.new).now)) }
+    ensures reported { HasCleanDisk (state S.Store conn.new) → IfOk result (Reported schema_version (state S.Store conn.new).now (VersionsAndHeads schema_version (state S.Store conn.new).now)) }
     ensures look { OnlyLooks S.Store conn.old conn.new result }
     ensures err { IsHealthy (state S.Store conn.new) → IfErr result IsMemory }
 {

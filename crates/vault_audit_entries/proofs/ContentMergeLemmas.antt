@@ -1,11 +1,11 @@
 -- Bytes, and the ids of bytes that are kept outside, are given to the entries of their ids; both rise.
-use Rattle.std.proofs.Common.{◌≡◌, ◌⊎◌, inl, inr, ℕ, ◌+◌, ◌≤◌, ◌<◌, List, [], ◌∷◌, ◌++◌, length, filter, flat_map, find, Bool, true, false, not, ◌&&◌, ◌||◌, ◌==◌, is_none, cond, Option, Some, None, IsSome, IsTrue, refl, sym, ap, subst, ◌∙◌, true≢false, arith}
+use Rattle.std.proofs.Common.{◌≡◌, ◌⊎◌, inl, inr, ℕ, ◌+◌, ◌≤◌, ◌<◌, List, [], ◌∷◌, ◌++◌, length, filter, flat_map, find, Bool, true, false, not, ◌&&◌, ◌||◌, ◌==◌, is_none, cond, Option, Some, None, IsSome, refl, sym, ap, subst, ◌∙◌, true≢false, arith}
 use Rattle.std.specs.List.{AllByRecursion, list_any}
 use Rattle.sha2.specs.Sha256.{sha256}
 use Rattle.vault_base.specs.declared.content.Content.{Content}
 use Rattle.vault_base.specs.declared.content.Content.TheVariants.{Inside, External}
 use Rattle.vault_base.specs.declared.content.Registered.{Registered}
-use Rattle.vault_base.specs.Limits.{most_content, most_external}
+use Rattle.vault_base.specs.Limits.{most_content}
 use Rattle.vault_core_model.specs.declared.records.Entry.{Entry}
 use Rattle.vault_core_model.specs.declared.records.History.{History}
 use Rattle.vault_core_model.specs.declared.records.Removal.{Removal}

@@ -18,14 +18,12 @@ use Rattle.sqlite.specs.Effect.{Database}
 use Rattle.sqlite.specs.State.{State, Shown, IsUnchanged}
 use Rattle.sqlite.specs.declared.error.Error.{Error}
 use Rattle.vault_core_model.specs.declared.records.Entry.{Entry}
-use Rattle.vault_core_model.specs.declared.records.History.{History}
 use Rattle.vault_audit_model.specs.declared.rows.ContentRow.{ContentRow}
 use Rattle.vault_audit_model.specs.declared.schema.SchemaVersion.{SchemaVersion}
-use Rattle.vault_audit_model.specs.declared.schema.SchemaVersion.TheVariants.{First, Second, Third, Fourth}
+use Rattle.vault_audit_model.specs.declared.schema.SchemaVersion.TheVariants.{Fourth}
 use Rattle.vault_audit_model.specs.Limits.{IsExternalRow}
-use Rattle.vault_audit_model.specs.Relations.{AreEntries, AreContents}
+use Rattle.vault_audit_model.specs.Relations.{AreEntries}
 use Rattle.vault_audit_model.specs.Rows.{content_row, content_columns, entry_columns, external_row, external_columns, removal_at}
-use Rattle.vault_audit_model.specs.SchemaVersions.{is_external}
 use Rattle.vault_audit_model.specs.Spells.{contents_in, external_in, external_rows_in}
 use Rattle.vault_audit_model.specs.Tables.{schema_of, contents_tree, entries_tree, external_tree}
 use Rattle.vault_audit_model.specs.Values.{number, flag}

@@ -1,7 +1,6 @@
 -- What the looks at settings say together.
 use Rattle.std.proofs.Common.{◌≡◌, List, [], ◌∷◌, drop, map, flat_map, Bool, true, false, IsPermutation, IsSorted, Result, Ok, Err, OnOk, IfOk, refl, sym, subst, arith}
 use Rattle.std.specs.List.{AllByRecursion}
-use Rattle.sqlite_trees.proofs.ListLemmas.{map-map}
 use Rattle.sqlite_value.specs.Order.{Row}
 use Rattle.sqlite.specs.Effect.{Database}
 use Rattle.sqlite.specs.State.{State, Shown, IsUnchanged}
@@ -13,9 +12,9 @@ use Rattle.vault_core_model.specs.Vault.{Vault}
 use Rattle.vault_audit_model.specs.declared.rows.SettingRow.{SettingRow}
 use Rattle.vault_audit_model.specs.Limits.{IsHistory}
 use Rattle.vault_audit_model.specs.Relations.{AreEntries, AreSettings, DecidesSettings, HasSettingsAs, HasSettings}
-use Rattle.vault_audit_model.specs.Rows.{entry_row, entry_columns, setting_row, setting_columns}
+use Rattle.vault_audit_model.specs.Rows.{setting_row, setting_columns}
 use Rattle.vault_audit_model.specs.Spells.{AreSoundAs, settings_in, entries_in}
-use Rattle.vault_audit_model.specs.Tables.{schema_of, entries_tree, settings, settings_tree}
+use Rattle.vault_audit_model.specs.Tables.{schema_of, settings, settings_tree}
 use Rattle.vault_audit_schema.specs.Texts.{terms_of}
 use Rattle.vault_audit_rows.specs.Pass.{Takes, Refuses}
 use Rattle.vault_audit_rows.specs.Walk.{Walked}

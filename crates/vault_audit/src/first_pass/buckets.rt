@@ -34,7 +34,7 @@ impl Record for BucketRow {
 
     ghost as_row = { bucket_row };
 
-    ghost is_in_limits = { IsBucketRow };
+    ghost is_in_limits = { λ _. IsBucketRow };
 
     ghost columns = { λ _. bucket_columns };
 
@@ -44,7 +44,7 @@ impl Record for BucketRow {
         buckets_columns!(select_text)
     }
 
-    fn read(row: &Row) -> Result<BucketRow, Misread> {
+    fn read(row: &Row, _: SchemaVersion) -> Result<BucketRow, Misread> {
         read_bucket(row)
     }
 

@@ -34,7 +34,7 @@ impl Record for Caller {
 
     ghost as_row = { caller_row };
 
-    ghost is_in_limits = { IsCaller };
+    ghost is_in_limits = { λ _. IsCaller };
 
     ghost columns = { λ _. caller_columns };
 
@@ -44,7 +44,7 @@ impl Record for Caller {
         callers_columns!(select_text)
     }
 
-    fn read(row: &Row) -> Result<Caller, Misread> {
+    fn read(row: &Row, _: SchemaVersion) -> Result<Caller, Misread> {
         read_caller(row)
     }
 

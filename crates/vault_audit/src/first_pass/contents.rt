@@ -34,7 +34,7 @@ impl Record for ContentRow {
 
     ghost as_row = { content_row };
 
-    ghost is_in_limits = { IsContentRow };
+    ghost is_in_limits = { λ _. IsContentRow };
 
     ghost columns = { λ _. content_columns };
 
@@ -44,7 +44,7 @@ impl Record for ContentRow {
         contents_columns!(select_text)
     }
 
-    fn read(row: &Row) -> Result<ContentRow, Misread> {
+    fn read(row: &Row, _: SchemaVersion) -> Result<ContentRow, Misread> {
         read_content(row)
     }
 

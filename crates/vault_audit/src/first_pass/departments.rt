@@ -34,7 +34,7 @@ impl Record for DepartmentRow {
 
     ghost as_row = { department_row };
 
-    ghost is_in_limits = { IsDepartmentRow };
+    ghost is_in_limits = { λ _. IsDepartmentRow };
 
     ghost columns = { department_columns_as };
 
@@ -44,7 +44,7 @@ impl Record for DepartmentRow {
         departments_query(schema_version)
     }
 
-    fn read(row: &Row) -> Result<DepartmentRow, Misread> {
+    fn read(row: &Row, _: SchemaVersion) -> Result<DepartmentRow, Misread> {
         read_department(row)
     }
 

@@ -34,7 +34,7 @@ impl Record for HeadRow {
 
     ghost as_row = { head_row };
 
-    ghost is_in_limits = { IsHeadRow };
+    ghost is_in_limits = { λ _. IsHeadRow };
 
     ghost columns = { λ _. head_columns };
 
@@ -44,7 +44,7 @@ impl Record for HeadRow {
         heads_columns!(select_text)
     }
 
-    fn read(row: &Row) -> Result<HeadRow, Misread> {
+    fn read(row: &Row, _: SchemaVersion) -> Result<HeadRow, Misread> {
         read_head(row)
     }
 

@@ -16,6 +16,7 @@ use crate::first_pass::callers::check_callers;
 use crate::first_pass::contents::check_contents;
 use crate::first_pass::departments::check_departments;
 use crate::first_pass::entries::check_entries;
+use crate::first_pass::external::check_external;
 use crate::first_pass::heads::check_heads;
 use crate::first_pass::intake::check_intake;
 use crate::first_pass::meta::check_meta;
@@ -28,7 +29,7 @@ use vault_audit_model::schema::SchemaVersion;
 use vault_base::refusal::Table;
 
 /// The tables after `meta`, in their order.
-static BEHIND_META: [Table; 10] = [
+static AFTER_META: [Table; 11] = [
     Table::Departments,
     Table::Callers,
     Table::Buckets,
@@ -39,6 +40,7 @@ static BEHIND_META: [Table; 10] = [
     Table::Intake,
     Table::Heads,
     Table::Tenures,
+    Table::External,
 ];
 
 /// Whether the schema differs first at this table, where that is where it does.
@@ -78,6 +80,7 @@ fn check_rows_of<S: Alter>(
         Table::Intake => check_intake(conn, schema_version),
         Table::Heads => check_heads(conn, schema_version),
         Table::Tenures => check_tenures(conn, schema_version),
+        Table::External => check_external(conn, schema_version),
     }
 }
 
@@ -97,7 +100,7 @@ pub fn look_at_tables<S: Alter>(
     ensures look { OnlyLooks S.Store conn.old conn.new result }
     ensures err { IsHealthy (state S.Store conn.new) → IfErr result IsMemory }
 {
-    for table in &BEHIND_META {
+    for table in &AFTER_META {
         if is_at(difference, *table) {
             return Ok(Some(*table));
         }

@@ -22,6 +22,7 @@ impl Record for Note {
     ghost use Rattle.vault_base.specs.declared.refusal.Table.TheVariants as table;
     ghost use Rattle.vault_audit_model.specs.Limits.{IsNote};
     ghost use Rattle.vault_audit_model.specs.Rows.{note_row, note_columns};
+    ghost use Rattle.vault_audit_model.specs.SchemaVersions.{is_external};
     ghost use Rattle.vault_audit_model.specs.Tables.{intake, intake_tree};
     ghost use Rattle.vault_audit_schema.specs.Texts.{select_text};
     ghost use Rattle.vault_audit.specs.NoteLaws.{note_shows_all, note_unsound};
@@ -34,7 +35,7 @@ impl Record for Note {
 
     ghost as_row = { note_row };
 
-    ghost is_in_limits = { IsNote };
+    ghost is_in_limits = { λ n. IsNote (is_external n) };
 
     ghost columns = { λ _. note_columns };
 
@@ -44,8 +45,8 @@ impl Record for Note {
         intake_columns!(select_text)
     }
 
-    fn read(row: &Row) -> Result<Note, Misread> {
-        read_note(row)
+    fn read(row: &Row, schema_version: SchemaVersion) -> Result<Note, Misread> {
+        read_note(row, schema_version.is_external())
     }
 
     ghost shows_all = { note_shows_all };

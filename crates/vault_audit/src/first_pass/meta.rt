@@ -15,9 +15,10 @@ use vault_audit_model::rows::MetaRow;
 use vault_audit_model::schema::SchemaVersion;
 use vault_audit_records::meta::row::MetaPass;
 use vault_audit_rows::walk::walk;
-use vault_audit_schema::{earlier_select_text, meta_columns, select_text};
+use vault_audit_schema::{earlier_select_text, meta_columns, select_text, third_select_text};
 
-/// The query for the rows of `meta`. What a schema version has no column for is 0.
+/// The query for the rows of `meta`. Where a schema version has no columns for them, no bucket was moved, and no list of
+/// commands is followed.
 fn meta_query(schema_version: SchemaVersion) -> &'static str
     ensures { result.now ≡ meta_select schema_version (codes " ORDER BY one") }
 {
@@ -26,7 +27,8 @@ fn meta_query(schema_version: SchemaVersion) -> &'static str
             earlier_select_text,
             " ORDER BY one"
         ),
-        SchemaVersion::Third => meta_columns!(select_text, " ORDER BY one"),
+        SchemaVersion::Third => meta_columns!(third_select_text, " ORDER BY one"),
+        SchemaVersion::Fourth => meta_columns!(select_text, " ORDER BY one"),
     }
 }
 

@@ -41,7 +41,7 @@ pub trait Record: Sized + Drop {
     // The columns of the record's row, and whether its values are in their limits.
     ghost as_row: { Self → Values };
 
-    ghost is_in_limits: { Self → Type 0 };
+    ghost is_in_limits: { SchemaVersions → Self → Type 0 };
 
     // The columns of a row as it is kept.
     ghost columns: { SchemaVersions → Values → Values };
@@ -54,9 +54,9 @@ pub trait Record: Sized + Drop {
         ensures { result.now ≡ select schema_version };
 
     /// The record that a row holds: `Wrong` where it holds none in its limits, `Memory` where memory runs out.
-    fn read(row: &Row) -> Result<Self, Misread>
-        ensures ok { IfOk result (λ x. (row.now ≡ as_row x) × is_in_limits x) }
-        ensures wrong { IfErr result (λ e. e ≡ Misread.Wrong → (x : Self) → is_in_limits x → row.now ≢ as_row x) };
+    fn read(row: &Row, schema_version: SchemaVersion) -> Result<Self, Misread>
+        ensures ok { IfOk result (λ x. (row.now ≡ as_row x) × is_in_limits schema_version x) }
+        ensures wrong { IfErr result (λ e. e ≡ Misread.Wrong → (x : Self) → is_in_limits schema_version x → row.now ≢ as_row x) };
 
     // The query shows the columns of all rows.
     ghost shows_all: { (n : SchemaVersions) (s : Schema) → has_table n → BeginTo n s.tables table → ShowsAll s (select n) tree (columns n) };
@@ -64,21 +64,22 @@ pub trait Record: Sized + Drop {
     ghost bare: { (trees : Trees) → overlay trees [] tree ≡ trees tree };
 
     // Where the rows aren't those of such records, the tables are sound for no vault.
-    ghost unsound: { (n : SchemaVersions) (db : Database) (v : Vault) → has_table n → AreRecords as_row is_in_limits (map (columns n) (db.trees tree)) false → ¬ AreSoundAs n db v };
+    ghost unsound: { (n : SchemaVersions) (db : Database) (v : Vault) → has_table n → AreRecords as_row (is_in_limits n) (map (columns n) (db.trees tree)) false → ¬ AreSoundAs n db v };
 }
 
 /// The check of single rows.
 struct RecordCheck<R> {
+    schema_version: SchemaVersion,
     of: PhantomData<R>,
 }
 
 impl<R: Record> Check for RecordCheck<R> {
     ghost use Rattle.vault_audit_rows.specs.Records.{ReportsOne};
 
-    ghost takes = { λ _. ReportsOne R.as_row R.is_in_limits };
+    ghost takes = { λ c. ReportsOne R.as_row (R.is_in_limits c.schema_version) };
 
     fn is_passed_by(&self, row: &Row) -> Result<bool, Error> {
-        match R::read(row) {
+        match R::read(row, self.schema_version) {
             Ok(_) => Ok(true),
             Err(misread) => refused(misread),
         }
@@ -92,7 +93,7 @@ pub fn check_table<S: Alter, R: Record>(
 ) -> Result<bool, Error>
     requires has { R.has_table schema_version }
     requires begin { HasCleanDisk (state S.Store conn.old) → BeginTo schema_version (state S.Store conn.old).now.schema.tables R.table }
-    ensures reported { HasCleanDisk (state S.Store conn.new) → IfOk result (AreRecords R.as_row R.is_in_limits (map (R.columns schema_version) ((state S.Store conn.new).now.trees R.tree))) }
+    ensures reported { HasCleanDisk (state S.Store conn.new) → IfOk result (AreRecords R.as_row (R.is_in_limits schema_version) (map (R.columns schema_version) ((state S.Store conn.new).now.trees R.tree))) }
     ensures damaged { HasCleanDisk (state S.Store conn.new) → IfOk result (λ stated. stated ≡ false → (v : Vault) → ¬ AreSoundAs schema_version (state S.Store conn.new).now v) }
     ensures look { OnlyLooks S.Store conn.old conn.new result }
     ensures err { IsHealthy (state S.Store conn.new) → IfErr result IsMemory }
@@ -100,6 +101,9 @@ pub fn check_table<S: Alter, R: Record>(
     check_rows(
         conn,
         R::select(schema_version),
-        &RecordCheck::<R> { of: PhantomData },
+        &RecordCheck::<R> {
+            schema_version,
+            of: PhantomData,
+        },
     )
 }

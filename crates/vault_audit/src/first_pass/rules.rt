@@ -34,7 +34,7 @@ impl Record for RuleRow {
 
     ghost as_row = { rule_row };
 
-    ghost is_in_limits = { IsRuleRow };
+    ghost is_in_limits = { λ _. IsRuleRow };
 
     ghost columns = { rule_columns_as };
 
@@ -43,11 +43,13 @@ impl Record for RuleRow {
     fn select(schema_version: SchemaVersion) -> &'static str {
         match schema_version {
             SchemaVersion::First => rules_columns!(earlier_select_text),
-            SchemaVersion::Second | SchemaVersion::Third => rules_columns!(select_text),
+            SchemaVersion::Second | SchemaVersion::Third | SchemaVersion::Fourth => {
+                rules_columns!(select_text)
+            }
         }
     }
 
-    fn read(row: &Row) -> Result<RuleRow, Misread> {
+    fn read(row: &Row, _: SchemaVersion) -> Result<RuleRow, Misread> {
         read_rule(row)
     }
 

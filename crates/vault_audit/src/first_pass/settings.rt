@@ -34,7 +34,7 @@ impl Record for SettingRow {
 
     ghost as_row = { setting_row };
 
-    ghost is_in_limits = { IsSettingRow };
+    ghost is_in_limits = { λ _. IsSettingRow };
 
     ghost columns = { λ _. setting_columns };
 
@@ -44,7 +44,7 @@ impl Record for SettingRow {
         settings_columns!(select_text)
     }
 
-    fn read(row: &Row) -> Result<SettingRow, Misread> {
+    fn read(row: &Row, _: SchemaVersion) -> Result<SettingRow, Misread> {
         read_setting(row)
     }
 

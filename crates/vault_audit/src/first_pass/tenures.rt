@@ -26,17 +26,18 @@ impl Record for TenureRow {
     ghost use Rattle.vault_audit_model.specs.Rows.{tenure_row, tenure_columns};
     ghost use Rattle.vault_audit_model.specs.Tables.{tenures, tenures_tree};
     ghost use Rattle.vault_audit_schema.specs.Texts.{select_text};
-    ghost use Rattle.vault_audit.specs.TenureLaws.{HasTenures, tenure_shows_all, tenure_unsound};
+    ghost use Rattle.vault_audit_tenures.specs.Decided.{HasTenuresTable};
+    ghost use Rattle.vault_audit.specs.TenureLaws.{tenure_shows_all, tenure_unsound};
 
     ghost table = { table.Tenures };
 
     ghost tree = { tenures_tree };
 
-    ghost has_table = { HasTenures };
+    ghost has_table = { HasTenuresTable };
 
     ghost as_row = { tenure_row };
 
-    ghost is_in_limits = { IsTenureRow };
+    ghost is_in_limits = { λ _. IsTenureRow };
 
     ghost columns = { λ _. tenure_columns };
 
@@ -46,7 +47,7 @@ impl Record for TenureRow {
         tenures_columns!(select_text)
     }
 
-    fn read(row: &Row) -> Result<TenureRow, Misread> {
+    fn read(row: &Row, _: SchemaVersion) -> Result<TenureRow, Misread> {
         read_tenure(row)
     }
 
@@ -71,6 +72,8 @@ pub fn check_tenures<S: Alter>(
 {
     match schema_version {
         SchemaVersion::First | SchemaVersion::Second => Ok(true),
-        SchemaVersion::Third => check_table::<S, TenureRow>(conn, schema_version),
+        SchemaVersion::Third | SchemaVersion::Fourth => {
+            check_table::<S, TenureRow>(conn, schema_version)
+        }
     }
 }

@@ -98,6 +98,6 @@ returns-clause-reported g c clean =
     let was = c.loop-table.invariant in
     let start : HasCleanDisk old = omega (arith, was.0.clean) in
     let before = was.2 clean in
-    let end : c.loop-table.table-index + 1 ≡ 11 = omega (arith, c.loop-table-test.false, c.loop-table.auto.table-index-end) in
+    let end : c.loop-table.table-index + 1 ≡ 12 = omega (arith, c.loop-table-test.false, c.loop-table.auto.table-index-end) in
     let differs = subst (λ (db : Database). Differs n db.schema c.args.difference) (sym before.0.0.now_is) (c.requires.difference start) in
     all_right n mid.now (subst (AreRightTo n mid.now) end before.1) (no_difference n mid.now.schema c.args.difference differs (subst (λ (k : ℕ). IsFrom k c.args.difference) end was.1))

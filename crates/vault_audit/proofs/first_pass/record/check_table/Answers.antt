@@ -20,14 +20,14 @@ returns-clause-reported g c clean =
     let new = state g.S.Store c.check_rows.new.conn in
     let early : HasCleanDisk old = omega (arith, c.check_rows.ensures.look.crash.clean) in
     let it = g.met.R.Record.shows_all c.args.schema_version old.now.schema c.requires.has (c.requires.begin early) in
-    subst (λ (rows : List Row). IfOk c.check_rows.result (AreRecords m.as_row m.is_in_limits rows)) (it.alike (new.now.trees m.tree))
-    (records_if_ok m.as_row m.is_in_limits it.scans old new refl g.met.R.Record.bare c.check_rows.result (c.check_rows.ensures.look.same clean) (rw c.select.ensures at (c.check_rows.ensures.checked clean)))
+    subst (λ (rows : List Row). IfOk c.check_rows.result (AreRecords m.as_row (m.is_in_limits c.args.schema_version) rows)) (it.alike (new.now.trees m.tree))
+    (records_if_ok m.as_row (m.is_in_limits c.args.schema_version) it.scans old new refl g.met.R.Record.bare c.check_rows.result (c.check_rows.ensures.look.same clean) (rw c.select.ensures at (c.check_rows.ensures.checked clean)))
 
 pub returns-clause-damaged : goal.returns-clause-damaged
 returns-clause-damaged g c clean =
     let m = g.R.Record in
     let db = (state g.S.Store c.check_rows.new.conn).now in
-    refused_if_ok (AreRecords m.as_row m.is_in_limits (map (m.columns c.args.schema_version) (db.trees m.tree))) ((v : Vault) → ¬ AreSoundAs c.args.schema_version db v)
+    refused_if_ok (AreRecords m.as_row (m.is_in_limits c.args.schema_version) (map (m.columns c.args.schema_version) (db.trees m.tree))) ((v : Vault) → ¬ AreSoundAs c.args.schema_version db v)
     (λ none v. g.met.R.Record.unsound c.args.schema_version db v c.requires.has none) c.check_rows.result (returns-clause-reported g c clean)
 
 pub returns-clause-err : goal.returns-clause-err
