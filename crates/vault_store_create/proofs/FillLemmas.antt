@@ -1,5 +1,5 @@
 -- The first tables, without a row, and the last ones, with all rows.
-use Rattle.std.proofs.Common.{◌≡◌, ℕ, nat_lt, Bool, [], map, cond, true, false, ◌≤◌, inl, inr, IsTrue, refl, sym, ap, subst, ◌∙◌, arith, true≢false}
+use Rattle.std.proofs.Common.{◌≡◌, ℕ, nat_lt, Bool, [], map, cond, false, ◌≤◌, inl, inr, refl, sym, ap, subst, ◌∙◌, arith}
 use Rattle.std.specs.Prelude.{IsPermutation}
 use Rattle.std.proofs.lemmas.Bool.{cases_Bool}
 use Rattle.std.proofs.lemmas.Bool.Decides.{nat_tests}

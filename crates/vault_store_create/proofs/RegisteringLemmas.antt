@@ -7,7 +7,9 @@ use Rattle.vault_base.specs.Limits.{most_content, most_external}
 use Rattle.vault_core_model.specs.declared.records.Entry.{Entry}
 use Rattle.vault_core_model.specs.declared.records.History.{History}
 use Rattle.vault_core_model.specs.declared.records.Note.{Note}
-use Rattle.vault_core_model.specs.Sound.{HasPlace, HasRoom, IsWhole, IsWholeAs, Sound, most_bytes}
+use Rattle.vault_core_model.specs.declared.records.Removal.{Removal}
+use Rattle.vault_core_model.specs.declared.records.Tenure.{Tenure}
+use Rattle.vault_core_model.specs.Sound.{AreTenures, HasPlace, HasRoom, HasTenures, HasTenuresAs, IsWhole, IsWholeAs, IsWithBucket, Sound, most_bytes}
 use Rattle.vault_core_model.specs.Vault.{Vault}
 use Rattle.vault_audit_model.specs.declared.schema.SchemaVersion.{SchemaVersion}
 use Rattle.vault_audit_model.specs.Limits.{IsEntry, IsHistory, IsInLimits, IsNote, IsSizedAs}
@@ -89,6 +91,21 @@ module _ (v : Vault) (inside : v.external ≡ false) (external : Bool) where
     histories = all_so (IsHistory false) (IsHistory external) (history_so external) v.histories (subst (λ e. AllByRecursion (IsHistory e) v.histories) inside it.histories);
   }
 
+  tenures_so : (e : Entry) (ts : List Tenure) → AreTenures v e ts → AreTenures (registering external v) e ts
+  tenures_so e [] it = it
+  tenures_so e (t ∷ ts) it = it
+
+  bucket_so : (removal : Option Removal) (h : History) → IsWithBucket v removal h → IsWithBucket (registering external v) removal h
+  bucket_so None h it = it
+  bucket_so (Some r) h it = it
+
+  tenured_so : (h : History) → HasTenures v h → HasTenures (registering external v) h
+  tenured_so h it = by_marker h.entry.marker it
+    where
+      by_marker : (marker : Bool) → HasTenuresAs marker v h → HasTenuresAs marker (registering external v) h
+      by_marker true its = its
+      by_marker false its = (tenures_so h.entry h.tenures its.0, its.1, bucket_so h.entry.removal h its.2)
+
   sound_so : Sound v → Sound (registering external v)
   sound_so it = record {
     ids = it.ids;
@@ -98,7 +115,7 @@ module _ (v : Vault) (inside : v.external ≡ false) (external : Bool) where
     whole = all_so (IsWhole false) (IsWhole external) (whole_so external) v.histories (subst (λ e. AllByRecursion (IsWhole e) v.histories) inside it.whole);
     placed = it.placed;
     within = it.within;
-    tenured = it.tenured;
+    tenured = all_so (HasTenures v) (HasTenures (registering external v)) tenured_so v.histories it.tenured;
     enough_moves = it.enough_moves;
     ordered = record { departments = it.ordered.departments; callers = it.ordered.callers; buckets = it.ordered.buckets; notes = it.ordered.notes };
     employed = it.employed;
@@ -120,6 +137,7 @@ none_in h whole = by_content h.content (by_marker h.entry.marker whole)
     by_marker : (marker : Bool) → IsWholeAs marker false h.entry h.content h.settings → HasPlace false h.content
     by_marker true it = subst (HasPlace false) (sym it.2) tt
     by_marker false it = it.0.1
+
     by_content : (content : Option Content) → HasPlace false content → external_if_given h.entry.id content ≡ []
     by_content None place = refl
     by_content (Some (Inside b)) place = refl

@@ -32,7 +32,7 @@ use Rattle.vault_store_edits.specs.NoteLaws.{note_inserts}
 use Rattle.vault_store_edits.specs.HeadLaws.{head_inserts}
 use Rattle.vault_store_edits.specs.TenureLaws.{tenure_inserts}
 use Rattle.vault_store_edits.specs.Insertions.{insertion}
-use Rattle.vault_store_edits.specs.Inserts.{Inserts, terms_by, source_by}
+use Rattle.vault_store_edits.specs.Inserts.{terms_by, source_by}
 use Rattle.vault_store_edits.specs.Trees.{has_table, made_as}
 use Rattle.vault_store_edits.proofs.PutLemmas.{leaves}
 use Rattle.vault_store_edits.proofs.StatementLemmas.{Leaves, inserts}

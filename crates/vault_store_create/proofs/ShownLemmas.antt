@@ -1,5 +1,5 @@
 -- A query shows of a schema version's table the rows of the copy of the vault that its tables are sound for, as the newest schema version has them.
-use Rattle.std.proofs.Common.{Bool, true, false, IsTrue, List, [], ◌∷◌, map, sym, subst, true≢false}
+use Rattle.std.proofs.Common.{Bool, false, IsTrue, List, [], ◌∷◌, map, sym, subst, true≢false}
 use Rattle.std.specs.Prelude.{IsPermutation}
 use Rattle.std.proofs.lemmas.List.Sorted.{IsPermutation-map, IsPermutation-trans}
 use Rattle.sqlite_trees.proofs.ListLemmas.{map-map}
@@ -26,7 +26,7 @@ use Rattle.vault_store_create.specs.Listings.{listing_of, tenures_listing}
 use Rattle.vault_store_create.proofs.TenureLemmas.{first_tenures_shown}
 use Rattle.vault_store_create.proofs.ListingLemmas.{Reads, terms_of, reads_meta, reads_departments, reads_callers, reads_buckets, reads_rules, reads_entries, reads_contents, reads_settings, reads_intake, reads_heads, reads_tenures, reads_tenures_later}
 
--- the row of meta with the number of the copy's schema version, at place 0 of no list
+-- the row of meta with the number of the copy's schema version, the place 0, and 1 for done
 abbrev numbered_as : Bool → Row → Row
 numbered_as external m =
     column m 0 ∷ number (number_of (edition_of external)) ∷ column m 2 ∷ column m 3 ∷ column m 4 ∷ number 0 ∷ number 1 ∷ []

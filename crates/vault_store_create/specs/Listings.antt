@@ -9,7 +9,7 @@ use Rattle.vault_audit_schema.specs.Selects.{departments_select, rules_select, t
 use Rattle.vault_audit_schema.specs.Texts.{insert_into_text, insert_text, select_text}
 use Rattle.vault_store_edits.specs.Trees.{made_as}
 
--- with the number of the new vault's schema version, at place 0 of no list; where a schema version has no number of moves, there was none
+-- with the number of the new vault's schema version, the place 0, and 1 for done; where a schema version has no number of moves, there was none
 abbrev pub meta_listing : Bool → SchemaVersion → List ℕ
 meta_listing false First = codes "SELECT one, 3, last, next, 0, 0, 1 FROM meta"
 meta_listing false Second = codes "SELECT one, 3, last, next, 0, 0, 1 FROM meta"

@@ -19,12 +19,9 @@ fn first_meta(external: bool) -> &'static str
     meta_columns!(third_insert_text, " VALUES (1, 3, 0, 1, 0)")
 }
 
-/// Puts the row of `meta` into the empty tables: the schema's number, the moment 0, 1 for the first entry, and no move. Where
-/// the vault registers contents that are kept outside, its place 0 in no list is there too.
-pub fn put_meta<S: Alter>(
-    tx: &mut Transaction<'_, S>,
-    external: bool,
-) -> Result<usize, Error>
+/// Puts the row of `meta` into the empty tables: the schema's number, the moment 0, 1 for the first entry, and no move. In a
+/// vault that registers contents which are kept outside, it also has the place 0, and 1 for done.
+pub fn put_meta<S: Alter>(tx: &mut Transaction<'_, S>, external: bool) -> Result<usize, Error>
     ensures same_reference { tx.new.conn.ghost_name ≡ tx.old.conn.ghost_name }
     ensures made { MovesInside S.Store tx.old.conn.now tx.new.conn.now result (HasAll external) (HasMetaRow external) }
     ensures memory { FailsForMemory S.Store tx.old.conn.now tx.new.conn.now result (HasAll external) }
@@ -35,10 +32,7 @@ pub fn put_meta<S: Alter>(
 }
 
 /// Puts the one caller, `registrar`, in: of no department, with the right to administer alone, not closed.
-pub fn put_registrar<S: Alter>(
-    tx: &mut Transaction<'_, S>,
-    external: bool,
-) -> Result<usize, Error>
+pub fn put_registrar<S: Alter>(tx: &mut Transaction<'_, S>, external: bool) -> Result<usize, Error>
     ensures same_reference { tx.new.conn.ghost_name ≡ tx.old.conn.ghost_name }
     ensures made { MovesInside S.Store tx.old.conn.now tx.new.conn.now result (HasMetaRow external) (IsFilled external) }
     ensures memory { FailsForMemory S.Store tx.old.conn.now tx.new.conn.now result (HasMetaRow external) }

@@ -1,5 +1,5 @@
 -- What the statement that puts a row of external in does.
-use Rattle.std.proofs.Common.{ℕ, Bool, true, IsTrue, refl}
+use Rattle.std.proofs.Common.{ℕ, Bool, IsTrue, refl}
 use Rattle.sqlite_tied.specs.Compute.{everything}
 use Rattle.vault_base.specs.declared.refusal.Table.TheVariants as table
 use Rattle.vault_audit_model.specs.Rows.{external_row}

@@ -67,9 +67,9 @@ fn write_copy<O: Alter, S: Alter>(
     Ok(())
 }
 
-/// Copies the vault of a file of that schema version, in which every content is inside, into the tables of an empty
-/// store, inside a transaction that is left open: nothing is committed. No table of the file is changed. The copy registers
-/// contents that are kept outside, or doesn't; it has none yet.
+/// Copies the vault of a file of that schema version, which has every content inside, into the tables of an empty store,
+/// inside a transaction that is left open: nothing is committed. No table of the file is changed. Where `external` is set,
+/// the copy is a vault that registers contents which are kept outside; it has no such content.
 ///
 /// `NameTaken` where the store has a table, an index or a view. `Memory` where a store wanted memory.
 /// `Device` where one refused for another cause. A transaction may be left open then too.

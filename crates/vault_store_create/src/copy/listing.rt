@@ -6,13 +6,13 @@ ghost use Rattle.vault_audit_schema.specs.Selects.{departments_select, rules_sel
 use vault_audit_model::schema::SchemaVersion;
 use vault_audit_schema::{
     buckets_columns, callers_columns, contents_columns, departments_columns, earlier_select_text,
-    entries_columns, external_columns, heads_columns, insert_text, intake_columns, meta_columns, rules_columns,
-    select_text, settings_columns, tenures_columns, third_insert_text,
+    entries_columns, external_columns, heads_columns, insert_text, intake_columns, meta_columns,
+    rules_columns, select_text, settings_columns, tenures_columns, third_insert_text,
 };
 use vault_base::refusal::Table;
 
-/// The query for the row of `meta`, with the number of the new vault's schema version, at place 0 of no list. Where a schema
-/// version has no number of moves, there was none.
+/// The query for the row of `meta`, with the number of the new vault's schema version, the place 0, and 1 for done. Where a
+/// schema version has no number of moves, there was none.
 fn meta_listing(external: bool, schema_version: SchemaVersion) -> &'static str
     ensures { result.now ≡ meta_listing external schema_version }
 {
@@ -69,11 +69,7 @@ fn rules_listing(schema_version: SchemaVersion) -> &'static str
 }
 
 /// The query for the rows of a table of a schema version, each as the newest schema version has it.
-pub(crate) fn listing(
-    external: bool,
-    schema_version: SchemaVersion,
-    table: Table,
-) -> &'static str
+pub(crate) fn listing(external: bool, schema_version: SchemaVersion, table: Table) -> &'static str
     ensures { result.now ≡ listing_of external schema_version table }
 {
     match table {

@@ -70,7 +70,14 @@ fn copy_table<O: Alter, S: Alter>(
     ensures survives { Survives (state S.Store tx.old.conn.now) (state S.Store tx.new.conn.now) (λ _. ⊥) }
     ensures look { OnlyLooks O.Store old.old old.new result }
 {
-    copy_rows(alloc, old, tx, listing(external, schema_version, table), external, table)
+    copy_rows(
+        alloc,
+        old,
+        tx,
+        listing(external, schema_version, table),
+        external,
+        table,
+    )
 }
 
 fn copy_first<O: Alter, S: Alter>(
