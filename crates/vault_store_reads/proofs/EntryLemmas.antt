@@ -152,13 +152,7 @@ module _ (v : Vault) (id : ℕ) (rows : List Row) (finds : FindsRows v content_t
   no_bytes none =
       sym (sym (bytes_of (history_of v id)) ∙ ap (option_map (λ (x : ContentRow). x.content)) (none_found content_row (stored (history_of v id)) rows content_stored none))
 
--- a content of which the tables have the bytes is these
-pub of_bytes : (content : Option Content) (bytes : List ℕ) → Some bytes ≡ bytes_inside content → Some (Inside bytes) ≡ content
-of_bytes None bytes is = absurd (cc is)
-of_bytes (Some (Inside own)) bytes is = let same : bytes ≡ own = cc is in ap (λ b. Some (Inside b)) same
-of_bytes (Some (External r)) bytes is = absurd (cc is)
-
--- one of which they have none is outside, where there is one
+-- a content of which the tables have no bytes is outside, where there is one
 outside : (e : Entry) (removal : Option Removal) (content : Option Content) → HasItsContent removal content e → None ≡ bytes_inside content → external_as false removal e.size e.digest ≡ content
 outside e None None has none = absurd has
 outside e None (Some (Inside bytes)) has none = absurd (cc none)

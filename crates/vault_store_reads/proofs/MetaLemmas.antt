@@ -1,8 +1,8 @@
 -- The row of meta.
-use Rattle.std.proofs.Common.{◌≡◌, List, [], ◌∷◌, map, Bool, true, false, Option, None, Some, slice_get, IsPermutation, refl, subst}
+use Rattle.std.proofs.Common.{◌≡◌, List, [], ◌∷◌, ◌++◌, map, take, Bool, true, false, Option, None, Some, slice_get, IsPermutation, refl, subst}
 use Rattle.std.proofs.lemmas.List.Sorted.{IsPermutation-map}
 use Rattle.sqlite_keyed.proofs.ListLemmas.{map-map}
-use Rattle.sqlite_value.specs.Order.{Row, column}
+use Rattle.sqlite_value.specs.Order.{Row}
 use Rattle.vault_core_model.specs.Sound.{Sound}
 use Rattle.vault_core_model.specs.Vault.{Vault}
 use Rattle.vault_audit_model.specs.declared.rows.MetaRow.{MetaRow}
@@ -23,9 +23,9 @@ use Rattle.vault_store_reads.proofs.TextLemmas.{meta_text, meta_shown, meta_sele
 
 -- the columns that the third schema version has, and what is there for those that it lacks
 abbrev of_third : Row → Row
-of_third r = column r 0 ∷ column r 1 ∷ column r 2 ∷ column r 3 ∷ column r 4 ∷ number 0 ∷ number 1 ∷ []
+of_third r = take 5 r ++ number 0 ∷ number 1 ∷ []
 
--- in the fourth schema version no others are there
+-- the columns that the fourth schema version has besides have these values in every vault
 as_third : (external : Bool) (m : MetaRow) (stored : List Row) → IsPermutation (meta_row m ∷ []) (map (meta_columns_as (edition_of external)) stored) → IsPermutation (meta_row m ∷ []) (map (meta_columns_as Third) stored)
 as_third false m stored same = same
 as_third true m stored same = subst (IsPermutation (meta_row m ∷ [])) (map-map of_third (meta_columns_as Fourth) stored) (IsPermutation-map of_third _ _ same)
