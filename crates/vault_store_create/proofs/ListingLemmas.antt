@@ -20,22 +20,16 @@ use Rattle.vault_audit_model.specs.Tables.{schema_of, entries_tree, buckets_tree
 use Rattle.vault_audit_schema.specs.Selects.{department_terms, rule_terms, table_as}
 use Rattle.vault_audit_schema.specs.Texts.{names_of as all_names, terms_of as all_terms}
 use Rattle.vault_store_edits.specs.Trees.{has_table, tree_of}
-use Rattle.vault_store_create.specs.Listings.{listing_of, tenures_listing, first_tenures_listing}
+use Rattle.vault_store_create.specs.Listings.{listing_of, number_shown, moves_shown, tenures_listing, first_tenures_listing}
 
 -- ---- queries
 
--- where a schema version has no number of moves
+-- how often a bucket was moved
 abbrev pub move_term : SchemaVersion → Term
 move_term First = lit (Int (pos 0))
 move_term Second = lit (Int (pos 0))
 move_term Third = col 1 5
 move_term Fourth = col 1 5
-
-abbrev pub move_name : SchemaVersion → List ℕ
-move_name First = codes "0"
-move_name Second = codes "0"
-move_name Third = codes "moves"
-move_name Fourth = codes "moves"
 
 -- what is shown of each row
 abbrev pub terms_of : Bool → SchemaVersion → Table → List Term
@@ -45,12 +39,8 @@ terms_of external n table.Departments = department_terms n
 terms_of external n table.Rules = rule_terms n
 terms_of external n t = all_terms (table_as n t)
 
-abbrev pub number_name : Bool → List ℕ
-number_name false = codes "3"
-number_name true = codes "4"
-
 abbrev pub names_of : Bool → SchemaVersion → Table → List (List ℕ)
-names_of external n table.Meta = codes "one" ∷ number_name external ∷ codes "last" ∷ codes "next" ∷ move_name n ∷ codes "0" ∷ codes "1" ∷ []
+names_of external n table.Meta = codes "one" ∷ number_shown external ∷ codes "last" ∷ codes "next" ∷ moves_shown n ∷ codes "0" ∷ codes "1" ∷ []
 names_of external n t = all_names (table_as newest t)
 
 abbrev pub Reads : Bool → SchemaVersion → Table → Type 0

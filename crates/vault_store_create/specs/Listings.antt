@@ -1,5 +1,5 @@
 -- The statements that read the tables of a schema version, and that put rows into those of a new vault.
-use Rattle.std.specs.Prelude.{ℕ, Bool, true, false, List, [], codes}
+use Rattle.std.specs.Prelude.{ℕ, Bool, true, false, List, [], ◌++◌, codes}
 use Rattle.vault_base.specs.declared.refusal.Table.{Table}
 use Rattle.vault_base.specs.declared.refusal.Table.TheVariants as table
 use Rattle.vault_audit_model.specs.declared.schema.SchemaVersion.{SchemaVersion}
@@ -9,16 +9,21 @@ use Rattle.vault_audit_schema.specs.Selects.{departments_select, rules_select, t
 use Rattle.vault_audit_schema.specs.Texts.{insert_into_text, insert_text, select_text}
 use Rattle.vault_store_edits.specs.Trees.{made_as}
 
--- with the number of the new vault's schema version, the place 0, and 1 for done; where a schema version has no number of moves, there was none
+-- the number of a new vault's schema version
+abbrev pub number_shown : Bool → List ℕ
+number_shown false = codes "3"
+number_shown true = codes "4"
+
+-- how often a bucket was moved: never, where a schema version has no number of moves
+abbrev pub moves_shown : SchemaVersion → List ℕ
+moves_shown First = codes "0"
+moves_shown Second = codes "0"
+moves_shown Third = codes "moves"
+moves_shown Fourth = codes "moves"
+
+-- the row of meta as a new vault has it: with its number, the place 0, and 1 for done
 abbrev pub meta_listing : Bool → SchemaVersion → List ℕ
-meta_listing false First = codes "SELECT one, 3, last, next, 0, 0, 1 FROM meta"
-meta_listing false Second = codes "SELECT one, 3, last, next, 0, 0, 1 FROM meta"
-meta_listing false Third = codes "SELECT one, 3, last, next, moves, 0, 1 FROM meta"
-meta_listing false Fourth = codes "SELECT one, 3, last, next, moves, 0, 1 FROM meta"
-meta_listing true First = codes "SELECT one, 4, last, next, 0, 0, 1 FROM meta"
-meta_listing true Second = codes "SELECT one, 4, last, next, 0, 0, 1 FROM meta"
-meta_listing true Third = codes "SELECT one, 4, last, next, moves, 0, 1 FROM meta"
-meta_listing true Fourth = codes "SELECT one, 4, last, next, moves, 0, 1 FROM meta"
+meta_listing external n = codes "SELECT one, " ++ number_shown external ++ codes ", last, next, " ++ moves_shown n ++ codes ", 0, 1 FROM meta"
 
 -- each version as its bucket's department's since its admission
 abbrev pub first_tenures_listing : List ℕ

@@ -11,24 +11,30 @@ use vault_audit_schema::{
 };
 use vault_base::refusal::Table;
 
-/// The query for the row of `meta`, with the number of the new vault's schema version, the place 0, and 1 for done. Where a
-/// schema version has no number of moves, there was none.
+/// The query for the row of `meta` with this number of the schema version, this for the number of moves, the place 0, and 1
+/// for done.
+macro_rules! meta_query {
+    ($number:tt, $moves:tt) => {
+        concat!(
+            "SELECT one, ",
+            stringify!($number),
+            ", last, next, ",
+            stringify!($moves),
+            ", 0, 1 FROM meta"
+        )
+    };
+}
+
+/// The query for the row of `meta`, with the number of the new vault's schema version. Where a schema version has no number
+/// of moves, there was none.
 fn meta_listing(external: bool, schema_version: SchemaVersion) -> &'static str
     ensures { result.now ≡ meta_listing external schema_version }
 {
     match (external, schema_version) {
-        (false, SchemaVersion::First | SchemaVersion::Second) => {
-            "SELECT one, 3, last, next, 0, 0, 1 FROM meta"
-        }
-        (false, SchemaVersion::Third | SchemaVersion::Fourth) => {
-            "SELECT one, 3, last, next, moves, 0, 1 FROM meta"
-        }
-        (true, SchemaVersion::First | SchemaVersion::Second) => {
-            "SELECT one, 4, last, next, 0, 0, 1 FROM meta"
-        }
-        (true, SchemaVersion::Third | SchemaVersion::Fourth) => {
-            "SELECT one, 4, last, next, moves, 0, 1 FROM meta"
-        }
+        (false, SchemaVersion::First | SchemaVersion::Second) => meta_query!(3, 0),
+        (false, SchemaVersion::Third | SchemaVersion::Fourth) => meta_query!(3, moves),
+        (true, SchemaVersion::First | SchemaVersion::Second) => meta_query!(4, 0),
+        (true, SchemaVersion::Third | SchemaVersion::Fourth) => meta_query!(4, moves),
     }
 }
 
