@@ -7,7 +7,6 @@ use Rattle.sqlite.specs.Effect.{Database}
 use Rattle.sqlite.specs.State.{State, IsUnchanged}
 use Rattle.vault_core_model.specs.declared.records.Entry.{Entry}
 use Rattle.vault_audit_model.specs.declared.rows.TenureRow.{TenureRow}
-use Rattle.vault_audit_model.specs.declared.schema.SchemaVersion.TheVariants.{Third}
 use Rattle.vault_audit_model.specs.Relations.{AreEntries}
 use Rattle.vault_audit_model.specs.Rows.{entry_row, entry_columns, tenure_row, tenure_columns}
 use Rattle.vault_audit_model.specs.Tables.{schema_of, entries_tree, tenures_tree}

@@ -9,7 +9,7 @@ use Rattle.vault_core_model.specs.Sound.{AreInOrder, IsInTime}
 use Rattle.vault_core_model.specs.Vault.{Vault}
 use Rattle.vault_audit_model.specs.declared.rows.MetaRow.{MetaRow}
 use Rattle.vault_audit_model.specs.declared.schema.SchemaVersion.{SchemaVersion}
-use Rattle.vault_audit_model.specs.declared.schema.SchemaVersion.TheVariants.{First, Second, Third}
+use Rattle.vault_audit_model.specs.declared.schema.SchemaVersion.TheVariants.{First, Second}
 use Rattle.vault_audit_model.specs.Relations.{AreTenuresWith, IsPast}
 use Rattle.vault_audit_model.specs.Rows.{meta_row}
 use Rattle.vault_audit_model.specs.Spells.{AreSoundAs, entries_in, meta_stated}

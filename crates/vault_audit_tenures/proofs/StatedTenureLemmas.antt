@@ -22,7 +22,6 @@ use Rattle.vault_core_model.specs.declared.records.Tenure.{Tenure}
 use Rattle.vault_core_model.specs.Sound.{AreTenures, FollowOn, end_of}
 use Rattle.vault_core_model.specs.Vault.{Vault}
 use Rattle.vault_audit_model.specs.declared.rows.TenureRow.{TenureRow}
-use Rattle.vault_audit_model.specs.declared.schema.SchemaVersion.TheVariants.{Third}
 use Rattle.vault_audit_model.specs.Limits.{IsEntry, IsRemoval, IsTenure}
 use Rattle.vault_audit_model.specs.Relations.{AreEntries, AreNumbered, AreTenuresInLimits, IsTenured, IsTenuredAs}
 use Rattle.vault_audit_model.specs.Rows.{entry_columns, tenure_row, tenure_columns}

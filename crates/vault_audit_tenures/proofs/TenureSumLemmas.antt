@@ -12,7 +12,6 @@ use Rattle.vault_tally.specs.Row.{Item}
 use Rattle.vault_tally.specs.declared.row.Row.{Row}
 use Rattle.vault_core_model.specs.Totals.{Share, items_by}
 use Rattle.vault_core_model.specs.Vault.{Vault}
-use Rattle.vault_audit_model.specs.declared.schema.SchemaVersion.TheVariants.{Third}
 use Rattle.vault_audit_model.specs.Relations.{AreEntries, AreTenuresOf}
 use Rattle.vault_audit_model.specs.Spells.{entries_in}
 use Rattle.vault_audit_model.specs.Tables.{schema_of}

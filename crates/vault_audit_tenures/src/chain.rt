@@ -98,7 +98,7 @@ fn is_ended(tenure: &Option<OwnedTenure>) -> bool
 impl Pass for TenurePass {
     ghost use Rattle.vault_audit_rows.specs.Pass.{Takes, Refuses};
     ghost use Rattle.vault_audit_tenures.specs.Decided.{HasTenuresTable};
-ghost use Rattle.vault_audit_tenures.specs.Chain.{ComesNext, with_tenure};
+    ghost use Rattle.vault_audit_tenures.specs.Chain.{ComesNext, with_tenure};
     ghost use Rattle.vault_audit_tenures.specs.OwnedTenures.{owned_row};
 
     ghost goes = { λ p row q. Takes owned_row ComesNext with_tenure p row q };

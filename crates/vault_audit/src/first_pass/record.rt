@@ -68,6 +68,7 @@ pub trait Record: Sized + Drop {
 }
 
 /// The check of single rows.
+#[derive(Drop)]
 struct RecordCheck<R> {
     schema_version: SchemaVersion,
     of: PhantomData<R>,

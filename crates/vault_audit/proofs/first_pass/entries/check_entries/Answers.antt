@@ -19,7 +19,7 @@ check_rows-requires g c clean = (entries_scan c.args.schema_version (state g.S.S
 pub returns-clause-reported : goal.returns-clause-reported
 returns-clause-reported g c clean =
     let early : HasCleanDisk (state g.S.Store c.args.conn.now) = omega (arith, c.check_rows.ensures.look.crash.clean) in
-    records_if_ok entry_row (IsEntryBy (is_external c.args.schema_version) c.args.last) (entries_scan c.args.schema_version (state g.S.Store c.args.conn.now).now.schema (c.requires early)) (state g.S.Store c.args.conn.now) (state g.S.Store c.check_rows.new.conn) refl (λ trees. refl) (c.check_rows.result) (c.check_rows.ensures.look.same clean) (c.check_rows.ensures.checked clean)
+    records_if_ok entry_row (IsEntryBy (is_external c.args.schema_version) c.args.last) (entries_scan c.args.schema_version (state g.S.Store c.args.conn.now).now.schema (c.requires early)) (state g.S.Store c.args.conn.now) (state g.S.Store c.check_rows.new.conn) refl (λ trees. refl) (c.check_rows.result) (c.check_rows.ensures.look.same clean) (rw c.is_external-external.ensures at (c.check_rows.ensures.checked clean))
 
 pub returns-clause-damaged : goal.returns-clause-damaged
 returns-clause-damaged g c clean =
