@@ -51,9 +51,9 @@ one_id v x y p q =
     let same = alike_right value_cmp_total (number y.id) v (number x.id) (equal_of v y q) ∙ equal_of v x p in
     ints_equal x.id y.id (sym (value_cmp-Int (pos x.id) (pos y.id)) ∙ same)
 
-none_after : (v : Value) (x : Entry) → is_id v x ≡ true → (next low : ℕ) (es : List Entry) → x.id < next → AreNumbered next low es → filter (is_id v) es ≡ []
-none_after v x is next low [] less are = refl
-none_after v x is next low (e ∷ es) less are = of (is_id v e) refl (none_after v x is (next + 1) e.admitted es (omega (arith, less)) are.1)
+none_after : (external : Bool) (v : Value) (x : Entry) → is_id v x ≡ true → (next low : ℕ) (es : List Entry) → x.id < next → AreNumbered external next low es → filter (is_id v) es ≡ []
+none_after external v x is next low [] less are = refl
+none_after external v x is next low (e ∷ es) less are = of (is_id v e) refl (none_after external v x is (next + 1) e.admitted es (omega (arith, less)) are.1)
   where
     of : (b : Bool) → is_id v e ≡ b → filter (is_id v) es ≡ [] → filter (is_id v) (e ∷ es) ≡ []
     of true h none = absurd (let same = one_id v x e is h in let here = are.0.1.0 in omega (arith, same, less, here))
@@ -62,12 +62,12 @@ none_after v x is next low (e ∷ es) less are = of (is_id v e) refl (none_after
 abbrev HasOneOrNone : List Entry → Type 0
 HasOneOrNone es = (es ≡ []) ⊎ ((e : Entry) × (es ≡ e ∷ []))
 
-one_or_none : (v : Value) (next low : ℕ) (es : List Entry) → AreNumbered next low es → HasOneOrNone (filter (is_id v) es)
-one_or_none v next low [] are = inl refl
-one_or_none v next low (e ∷ es) are = of (is_id v e) refl (one_or_none v (next + 1) e.admitted es are.1)
+one_or_none : (external : Bool) (v : Value) (next low : ℕ) (es : List Entry) → AreNumbered external next low es → HasOneOrNone (filter (is_id v) es)
+one_or_none external v next low [] are = inl refl
+one_or_none external v next low (e ∷ es) are = of (is_id v e) refl (one_or_none external v (next + 1) e.admitted es are.1)
   where
     of : (b : Bool) → is_id v e ≡ b → HasOneOrNone (filter (is_id v) es) → HasOneOrNone (filter (is_id v) (e ∷ es))
-    of true h more = inr (e, rw h (ap (λ xs. e ∷ xs) (none_after v e h (next + 1) e.admitted es (let here = are.0.1.0 in omega (arith, here)) are.1)))
+    of true h more = inr (e, rw h (ap (λ xs. e ∷ xs) (none_after external v e h (next + 1) e.admitted es (let here = are.0.1.0 in omega (arith, here)) are.1)))
     of false h more = rw h more
 
 -- the row of an entry, or NULLs
@@ -98,7 +98,7 @@ given_rows (r ∷ rows) x h = h
 found_by : (v : Value) (es : List Entry) (xs : List Entry) → filter (is_id v) es ≡ xs → find (is_id v) es ≡ slice_get xs 0
 found_by v es xs h = sym (slice_get-filter (is_id v) es) ∙ ap (λ l. slice_get l 0) h
 
-module _ (source : List Row) (es : List Entry) (are : IsPermutation (map entry_row es) (map entry_columns source)) (numbers : AreNumbered 1 0 es) where
+module _ (external : Bool) (source : List Row) (es : List Entry) (are : IsPermutation (map entry_row es) (map entry_columns source)) (numbers : AreNumbered external 1 0 es) where
   matched : (v : Value) → IsPermutation (map entry_row (filter (is_id v) es)) (map entry_columns (filter (is_of v) source))
   matched v =
       subst (λ xs. IsPermutation xs (map entry_columns (filter (is_of v) source))) (filter-map (is_of v) entry_row es)
@@ -106,7 +106,7 @@ module _ (source : List Row) (es : List Entry) (are : IsPermutation (map entry_r
 
   -- what a join finds for a value is the entry whose id it is, or a row of NULLs
   pub beside_is : (v : Value) → map entry_columns (or_nulls (filter (is_of v) source)) ≡ beside es v ∷ []
-  beside_is v = of (one_or_none v 1 0 es numbers)
+  beside_is v = of (one_or_none external v 1 0 es numbers)
     where
       of : HasOneOrNone (filter (is_id v) es) → map entry_columns (or_nulls (filter (is_of v) source)) ≡ beside es v ∷ []
       of (inl none) =

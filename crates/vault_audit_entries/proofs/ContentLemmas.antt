@@ -1,6 +1,6 @@
 -- The walk over contents beside the entries.
 use Rattle.std.specs.Ordering.{is_lt}
-use Rattle.std.proofs.Common.{◌≡◌, ℕ, ◌+◌, ◌<◌, pos, List, [], ◌∷◌, ◌==◌, length, map, filter, flat_map, find, true, false, Some, None, Option, Less, IsPermutation, IsSorted, refl, sym, ap, subst, ◌∙◌, arith, add-zero}
+use Rattle.std.proofs.Common.{◌≡◌, ℕ, ◌+◌, ◌<◌, pos, List, [], ◌∷◌, ◌==◌, length, map, filter, flat_map, find, true, false, Some, None, Option, Less, IsPermutation, IsSorted, refl, sym, ap, subst, ◌∙◌, arith, add-zero, Bool}
 use Rattle.std.specs.List.{AllByRecursion}
 use Rattle.std.proofs.lemmas.List.Elements.{All-from_recursion, recursion_from_All}
 use Rattle.std.proofs.lemmas.List.Sorted.{IsPermutation-map, IsPermutation-sym, All-permutation}
@@ -24,7 +24,7 @@ use Rattle.vault_audit_model.specs.declared.rows.ContentRow.{ContentRow}
 use Rattle.vault_audit_model.specs.Limits.{IsContentRow}
 use Rattle.vault_audit_model.specs.Relations.{AreEntries, AreNumbered, AreContents}
 use Rattle.vault_audit_model.specs.Rows.{content_row, content_columns, entry_columns, removal_at}
-use Rattle.vault_audit_model.specs.Spells.{contents_in}
+use Rattle.vault_audit_model.specs.Spells.{contents_in, external_in}
 use Rattle.vault_audit_model.specs.Tables.{schema_of, contents_tree, entries_tree}
 use Rattle.vault_audit_model.specs.Values.{number, bytes_or_null}
 use Rattle.vault_audit_model.proofs.ValueLemmas.{int_less}
@@ -39,13 +39,17 @@ use Rattle.vault_audit_entries.specs.ContentPasses.{ComesLater, with_content}
 use Rattle.vault_audit_entries.proofs.BesideLemmas.{is_of, row_beside, beside, beside_is, beside_number}
 use Rattle.vault_audit_rows.proofs.JoinLemmas.{IsOrderOf}
 use Rattle.vault_audit_entries.proofs.JoinLemmas.{beside_of, shown_beside, join_rows, joined}
-use Rattle.vault_audit_entries.proofs.ContentMergeLemmas.{IsGiven, taken}
+use Rattle.vault_audit_entries.proofs.ContentMergeLemmas.{AreTaken, taken}
 use Rattle.vault_audit_entries.proofs.ContentRowLemmas.{same_row}
 use Rattle.vault_audit_entries.proofs.ContentTextLemmas.{contents_walk, contents_shown, contents_walk_is, contents_walk_plain}
 use Rattle.vault_audit_model.specs.declared.schema.SchemaVersion.{SchemaVersion}
+use Rattle.vault_audit_model.specs.SchemaVersions.{is_external}
 
 abbrev Fit : ContentPass → List ContentRow → Type 0
 Fit = AllFit held_row ComesLater with_content
+
+abbrev pub start : ContentPass
+start = record { next = 1; count = 0 }
 
 abbrev end_of : ContentPass → List ContentRow → ContentPass
 end_of = after held_row ComesLater with_content
@@ -53,6 +57,10 @@ end_of = after held_row ComesLater with_content
 fitting : (p : ContentPass) (cs : List ContentRow) → AllByRecursion IsContentRow cs → AreRisingFrom p.next cs → Fit p cs
 fitting p [] are rise = tt
 fitting p (c ∷ cs) are rise = ((are.0, rise.0), fitting (with_content p c) cs are.1 rise.1)
+
+limits : (p : ContentPass) (cs : List ContentRow) → Fit p cs → AllByRecursion IsContentRow cs
+limits p [] fit = tt
+limits p (c ∷ cs) fit = (fit.0.0, limits (with_content p c) cs fit.1)
 
 rising : (p : ContentPass) (cs : List ContentRow) → Fit p cs → AreRisingFrom p.next cs
 rising p [] fit = tt
@@ -99,12 +107,12 @@ pub one_each : (f : Row → List Row) (g : Row → Row) → ((r : Row) → f r �
 one_each f g same [] = refl
 one_each f g same (r ∷ rows) = rw (same r) (ap (λ xs. g r ∷ xs) (one_each f g same rows))
 
-source_is : (db : Database) (es : List Entry) → AreEntries db es → source db ≡ map (extended es) (map content_columns (db.trees contents_tree))
-source_is db es are =
+source_is : (external : Bool) (db : Database) (es : List Entry) → AreEntries external db es → source db ≡ map (extended es) (map content_columns (db.trees contents_tree))
+source_is external db es are =
     one_each (shown_beside 0 contents_shown db.trees) (λ r. extended es (content_columns r)) (λ r.
     let rows = or_nulls (filter (is_of (column r 0)) (db.trees entries_tree)) in
     let shown : shown_beside 0 contents_shown db.trees r ≡ map (with_beside r) (map entry_columns rows) = sym (map-map (with_beside r) entry_columns rows) in
-    shown ∙ ap (map (with_beside r)) (beside_is (db.trees entries_tree) es are.0 are.1 (column r 0))) (db.trees contents_tree)
+    shown ∙ ap (map (with_beside r)) (beside_is external (db.trees entries_tree) es are.0 are.1 (column r 0))) (db.trees contents_tree)
     ∙ sym (map-map (extended es) content_columns (db.trees contents_tree))
 
 -- ---- rows of contents that passed
@@ -150,13 +158,18 @@ firsts_held : (cs : List ContentRow) → map first_two (map held_row cs) ≡ map
 firsts_held [] = refl
 firsts_held (c ∷ cs) = ap (λ xs. content_row c ∷ xs) (firsts_held cs)
 
-of_held : (db : Database) (es : List Entry) (cs : List ContentRow) → AreEntries db es → IsPermutation (map held_row cs) (source db) → AreRisingFrom 1 cs → AreOfHeld db es cs
-of_held db es cs are same up =
+of_held : (external : Bool) (db : Database) (es : List Entry) (cs : List ContentRow) → AreEntries external db es → IsPermutation (map held_row cs) (source db) → Fit start cs → AreOfHeld db es cs
+of_held external db es cs are same fit =
     let rows = db.trees contents_tree in
-    let whole : IsPermutation (map held_row cs) (map (extended es) (map content_columns rows)) = subst (IsPermutation (map held_row cs)) (source_is db es are) same in
+    let whole : IsPermutation (map held_row cs) (map (extended es) (map content_columns rows)) = subst (IsPermutation (map held_row cs)) (source_is external db es are) same in
     let two = IsPermutation-map first_two _ _ whole in
     let all = recursion_from_All (IsExtended es) _ (All-permutation (IsExtended es) _ _ (IsPermutation-sym _ _ whole) (All-from_recursion (IsExtended es) _ (all_extended es rows))) in
-    (subst (λ xs. IsPermutation xs (map content_columns rows)) (firsts_held cs) (subst (IsPermutation (map first_two (map held_row cs))) (firsts es rows) two), up, each_extended es cs all)
+    record {
+      rows = subst (λ xs. IsPermutation xs (map content_columns rows)) (firsts_held cs) (subst (IsPermutation (map first_two (map held_row cs))) (firsts es rows) two);
+      rising = rising start cs fit;
+      limits = limits start cs fit;
+      held = each_extended es cs all;
+    }
 
 -- ---- contents as they are to be pass
 
@@ -178,27 +191,26 @@ all_extend : (es : List Entry) (cs : List ContentRow) → AllByRecursion (IsCont
 all_extend es [] all = refl
 all_extend es (c ∷ cs) all = ap (λ x. x ∷ map (extended es) (map content_row cs)) (extends es c all.0) ∙ ap (λ xs. held_row c ∷ xs) (all_extend es cs all.1)
 
-shown_held : (db : Database) (es : List Entry) (cs : List ContentRow) → AreEntries db es → IsPermutation (map content_row cs) (map content_columns (db.trees contents_tree)) → AllByRecursion (IsContentIn es) cs → IsPermutation (map held_row cs) (source db)
-shown_held db es cs are same all =
-    subst (IsPermutation (map held_row cs)) (sym (source_is db es are)) (subst (λ xs. IsPermutation xs (map (extended es) (map content_columns (db.trees contents_tree)))) (all_extend es cs all) (IsPermutation-map (extended es) _ _ same))
+shown_held : (external : Bool) (db : Database) (es : List Entry) (cs : List ContentRow) → AreEntries external db es → IsPermutation (map content_row cs) (map content_columns (db.trees contents_tree)) → AllByRecursion (IsContentIn es) cs → IsPermutation (map held_row cs) (source db)
+shown_held external db es cs are same all =
+    subst (IsPermutation (map held_row cs)) (sym (source_is external db es are)) (subst (λ xs. IsPermutation xs (map (extended es) (map content_columns (db.trees contents_tree)))) (all_extend es cs all) (IsPermutation-map (extended es) _ _ same))
 
 -- what is known of contents as they are to be
-pub given_of : (db : Database) (es : List Entry) (hs : List History) → AreEntries db es → AreContents db es hs → IsGiven 1 es (flat_map contents_in hs)
-given_of db es hs are it = subst (λ xs. IsGiven 1 xs (flat_map contents_in hs)) it.0 (taken 1 0 hs (subst (AreNumbered 1 0) (sym it.0) are.1) it.2)
+pub taken_of : (n : SchemaVersion) (db : Database) (es : List Entry) (hs : List History) → AreEntries (is_external n) db es → AreContents n db es hs → AreTaken (is_external n) 1 es (flat_map contents_in hs) (flat_map external_in hs)
+taken_of n db es hs are it =
+    let external = is_external n in
+    subst (λ xs. AreTaken external 1 xs (flat_map contents_in hs) (flat_map external_in hs)) it.entries (taken external 1 0 hs (subst (AreNumbered external 1 0) (sym it.entries) are.1) it.each)
 
-abbrev pub start : ContentPass
-start = record { next = 1; count = 0 }
-
-module _ (n : SchemaVersion) (old new : State) (has : old.now.schema ≡ schema_of n) (same : IsUnchanged old new) (r : ContentPass) (es : List Entry) (are : AreEntries new.now es) where
-  pub contents_yes : Walked (Takes held_row ComesLater with_content) (Refuses held_row ComesLater with_content) contents_walk old new start r true → DecidesHeld new.now es (Some r.count)
+module _ (n : SchemaVersion) (old new : State) (has : old.now.schema ≡ schema_of n) (same : IsUnchanged old new) (r : ContentPass) (es : List Entry) (are : AreEntries (is_external n) new.now es) where
+  pub contents_yes : Walked (Takes held_row ComesLater with_content) (Refuses held_row ComesLater with_content) contents_walk old new start r true → DecidesHeld n new.now es (Some r.count)
   contents_yes h =
       let it = walk_yes held_row ComesLater with_content same_row (schema_of n) contents_walk _ _ (contents_walk_is n).0 source (answers n) old new has same start r h in
       let count : r.count ≡ (end_of start it.0).count = ap (λ (p : ContentPass). p.count) it.3 in
       let all = counted start it.0 in
-      (it.0, of_held new.now es it.0 are it.1 (rising start it.0 it.2), omega (arith, count, all))
+      (it.0, of_held (is_external n) new.now es it.0 are it.1 it.2, omega (arith, count, all))
 
-  pub contents_no : Walked (Takes held_row ComesLater with_content) (Refuses held_row ComesLater with_content) contents_walk old new start r false → DecidesHeld new.now es None
+  pub contents_no : Walked (Takes held_row ComesLater with_content) (Refuses held_row ComesLater with_content) contents_walk old new start r false → DecidesHeld n new.now es None
   contents_no h hs it =
       let cs = flat_map contents_in hs in
-      let its = given_of new.now es hs are it in
-      walk_no held_row ComesLater with_content same_row (schema_of n) contents_walk _ _ (contents_walk_is n).0 source (answers n) old new has same start r (rise start) h cs (shown_held new.now es cs are it.1 its.within) (fitting start cs its.rows its.rising)
+      let its = taken_of n new.now es hs are it in
+      walk_no held_row ComesLater with_content same_row (schema_of n) contents_walk _ _ (contents_walk_is n).0 source (answers n) old new has same start r (rise start) h cs (shown_held (is_external n) new.now es cs are it.contents its.given.within) (fitting start cs its.given.rows its.given.rising)

@@ -29,6 +29,7 @@ use Rattle.vault_audit_entries.proofs.ContentSoundLemmas.{sound_entries}
 use Rattle.vault_audit_entries.specs.Heads.{head_cmp, IsHeldFor, NamesHeld, AreHeadsByKey, DecidesHeadRows}
 use Rattle.vault_audit_entries.proofs.SortLemmas.{in_order, same_in_order, all_in_order, AreApart, ascending_in_order}
 use Rattle.vault_audit_model.specs.declared.schema.SchemaVersion.{SchemaVersion}
+use Rattle.vault_audit_model.specs.SchemaVersions.{is_external}
 
 -- ---- lists
 
@@ -127,10 +128,10 @@ module _ (v : Vault) where
   heads_apart ids = all_apart 1 v.histories ids (λ P all. all)
 
   -- and in their limits
-  pub heads_limited : AllByRecursion IsHistory v.histories → AllByRecursion IsHeadRow (heads_in v)
+  pub heads_limited : AllByRecursion (IsHistory v.external) v.histories → AllByRecursion IsHeadRow (heads_in v)
   heads_limited all =
       mapped_filter (is_current v) (head_in v) IsHeadRow v.histories
-      (All-weaker IsHistory (λ h. is_current v h ≡ true → IsHeadRow (head_in v h)) (λ h its current. record { bucket = its.entry.bucket; key = its.entry.key; newest = its.entry.id }) v.histories all)
+      (All-weaker (IsHistory v.external) (λ h. is_current v h ≡ true → IsHeadRow (head_in v h)) (λ h its current. record { bucket = its.entry.bucket; key = its.entry.key; newest = its.entry.id }) v.histories all)
 
   -- each names a held entry of its key
   pub heads_name : AreIdsFrom 1 v.histories → AllByRecursion (NamesHeld (entries_in v.histories)) (heads_in v)
@@ -151,5 +152,5 @@ sound_heads n db v it =
       all_in_order head_cmp (NamesHeld (entries_in v.histories)) hs (heads_name v ids),
     )
 
-pub unsound : (n : SchemaVersion) → (db : Database) → DecidesHeadRows db None → (v : Vault) → ¬ AreSoundAs n db v
+pub unsound : (n : SchemaVersion) → (db : Database) → DecidesHeadRows (is_external n) db None → (v : Vault) → ¬ AreSoundAs n db v
 unsound n db stated v it = stated (entries_in v.histories) (sound_entries n db v it) (in_order head_cmp (heads_in v)) ((sound_heads n) db v it)

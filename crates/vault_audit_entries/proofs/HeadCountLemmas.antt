@@ -201,7 +201,7 @@ no_more p (x ∷ xs) =
 below_most : (n : ℕ) → n ≤ most_ids + 1 → min most n ≡ n
 below_most n low = grind (arith, low)
 
-module _ (entries : List Row) (es : List Entry) (are : IsPermutation (map entry_row es) (map entry_columns entries)) (numbered : AreNumbered 1 0 es) where
+module _ (external : Bool) (entries : List Row) (es : List Entry) (are : IsPermutation (map entry_row es) (map entry_columns entries)) (numbered : AreNumbered external 1 0 es) where
   found : (h : HeadRow) → how_many entries (head_row h) ≡ length (filter (is_under h) es)
   found h =
       let p = reads_so (head_row h) in
@@ -211,7 +211,7 @@ module _ (entries : List Row) (es : List Entry) (are : IsPermutation (map entry_
   whole : (h : HeadRow) → min most (how_many entries (head_row h)) ≡ length (filter (is_under h) es)
   whole h =
       let n = found h in
-      let few = few_entries 1 0 es (omega arith) numbered in
+      let few = few_entries external 1 0 es (omega arith) numbered in
       let some = no_more (is_under h) es in
       ap (min most) n ∙ below_most _ (omega (arith, few, some))
 
@@ -221,14 +221,14 @@ module _ (entries : List Row) (es : List Entry) (are : IsPermutation (map entry_
   if_counted : (h : HeadRow) → IsCounted es h → Counts entries (head_row h)
   if_counted h it = ap number (it ∙ sym (whole h))
 
-module _ (n : SchemaVersion) (old new : State) (has : old.now.schema ≡ schema_of n) (same : IsUnchanged old new) (es : List Entry) (hs : List HeadRow) (are : AreEntries new.now es) (decides : IsPermutation (map head_row hs) (map head_columns (new.now.trees heads_tree))) where
+module _ (n : SchemaVersion) (old new : State) (has : old.now.schema ≡ schema_of n) (same : IsUnchanged old new) (external : Bool) (es : List Entry) (hs : List HeadRow) (are : AreEntries external new.now es) (decides : IsPermutation (map head_row hs) (map head_columns (new.now.trees heads_tree))) where
   counts_yes : Checked ShowsCount counts_text old new true → DecidesCounts es hs true
   counts_yes (rows, shown, all) =
       let db : new.now ≡ old.now = same.0.now_is in
       let every = subst (λ (d : Database). IsPermutation (source d.trees) rows) (sym db) ((looked n) old new has rows shown) in
       let entries = new.now.trees entries_tree in
       let stored = all_from_map ShowsCount (shown_counted entries) (new.now.trees heads_tree) (all-permutation ShowsCount _ _ (IsPermutation-sym _ _ every) all) in
-      all_as (counted_if entries es are.0 are.1) hs (of_records head_row head_columns (Counts entries) hs (new.now.trees heads_tree) decides (all_as (counts_if entries) (new.now.trees heads_tree) stored))
+      all_as (counted_if external entries es are.0 are.1) hs (of_records head_row head_columns (Counts entries) hs (new.now.trees heads_tree) decides (all_as (counts_if entries) (new.now.trees heads_tree) stored))
 
   counts_no : Checked ShowsCount counts_text old new false → DecidesCounts es hs false
   counts_no (rows, row, begins, none) all =
@@ -236,7 +236,7 @@ module _ (n : SchemaVersion) (old new : State) (has : old.now.schema ≡ schema_
       let on = goes_on_to counts_text new (schema_of n) known _ _ (counts_is n).0 same.0.is_open (rows ++ row ∷ []) begins in
       let every = (looked n) new new known ((rows ++ row ∷ []) ++ on.0) on.1 in
       let entries = new.now.trees entries_tree in
-      let stored = of_stored head_row head_columns (Counts entries) hs (new.now.trees heads_tree) decides (all_as (if_counted entries es are.0 are.1) hs all) in
+      let stored = of_stored head_row head_columns (Counts entries) hs (new.now.trees heads_tree) decides (all_as (if_counted external entries es are.0 are.1) hs all) in
       let passed = all-permutation ShowsCount _ _ every (all-map ShowsCount (shown_counted entries) (new.now.trees heads_tree) (all_as (shows_if entries) (new.now.trees heads_tree) stored)) in
       none (between ShowsCount rows row [] (front ShowsCount (rows ++ row ∷ []) on.0 passed))
 

@@ -1,6 +1,6 @@
 -- The walk over heads beside the entries.
 use Rattle.std.specs.Prelude.{min}
-use Rattle.std.proofs.Common.{◌≡◌, ◌≤◌, ℕ, ◌+◌, List, [], ◌∷◌, ◌==◌, map, filter, find, true, false, Some, None, Option, IsPermutation, IsSorted, refl, sym, ap, subst, ◌∙◌, arith}
+use Rattle.std.proofs.Common.{◌≡◌, ◌≤◌, ℕ, ◌+◌, List, [], ◌∷◌, ◌==◌, map, filter, find, true, false, Some, None, Option, IsPermutation, IsSorted, refl, sym, ap, subst, ◌∙◌, arith, Bool}
 use Rattle.std.specs.List.{AllByRecursion}
 use Rattle.std.proofs.lemmas.List.Elements.{All-from_recursion, recursion_from_All}
 use Rattle.std.proofs.lemmas.List.Sorted.{IsPermutation-map, IsPermutation-sym, All-permutation}
@@ -55,12 +55,12 @@ extended es row =
 abbrev with_beside : Row → Row → Row
 with_beside r x = column r 1 ∷ column r 2 ∷ column r 3 ∷ column r 4 ∷ column x 1 ∷ column x 2 ∷ column x 9 ∷ []
 
-source_is : (db : Database) (es : List Entry) → AreEntries db es → source db ≡ map (extended es) (map head_columns (db.trees heads_tree))
-source_is db es are =
+source_is : (external : Bool) (db : Database) (es : List Entry) → AreEntries external db es → source db ≡ map (extended es) (map head_columns (db.trees heads_tree))
+source_is external db es are =
     one_each (shown_beside 3 heads_shown db.trees) (λ r. extended es (head_columns r)) (λ r.
     let rows = or_nulls (filter (is_of (column r 3)) (db.trees entries_tree)) in
     let shown : shown_beside 3 heads_shown db.trees r ≡ map (with_beside r) (map entry_columns rows) = sym (map-map (with_beside r) entry_columns rows) in
-    shown ∙ ap (map (with_beside r)) (beside_is (db.trees entries_tree) es are.0 are.1 (column r 3))) (db.trees heads_tree)
+    shown ∙ ap (map (with_beside r)) (beside_is external (db.trees entries_tree) es are.0 are.1 (column r 3))) (db.trees heads_tree)
     ∙ sym (map-map (extended es) head_columns (db.trees heads_tree))
 
 -- ---- heads that passed
@@ -102,10 +102,10 @@ firsts_headed : (hs : List HeadRow) → map first_four (map headed_row hs) ≡ m
 firsts_headed [] = refl
 firsts_headed (h ∷ hs) = ap (λ xs. head_row h ∷ xs) (firsts_headed hs)
 
-are_heads : (db : Database) (es : List Entry) (hs : List HeadRow) → AreEntries db es → IsPermutation (map headed_row hs) (source db) → IsAscending head_cmp hs → AllByRecursion IsHeadRow hs → AreHeadsByKey db es hs
-are_heads db es hs are same up limited =
+are_heads : (external : Bool) (db : Database) (es : List Entry) (hs : List HeadRow) → AreEntries external db es → IsPermutation (map headed_row hs) (source db) → IsAscending head_cmp hs → AllByRecursion IsHeadRow hs → AreHeadsByKey db es hs
+are_heads external db es hs are same up limited =
     let rows = db.trees heads_tree in
-    let whole : IsPermutation (map headed_row hs) (map (extended es) (map head_columns rows)) = subst (IsPermutation (map headed_row hs)) (source_is db es are) same in
+    let whole : IsPermutation (map headed_row hs) (map (extended es) (map head_columns rows)) = subst (IsPermutation (map headed_row hs)) (source_is external db es are) same in
     let four = IsPermutation-map first_four _ _ whole in
     let all = recursion_from_All (IsExtended es) _ (All-permutation (IsExtended es) _ _ (IsPermutation-sym _ _ whole) (All-from_recursion (IsExtended es) _ (all_extended es rows))) in
     (subst (λ xs. IsPermutation xs (map head_columns rows)) (firsts_headed hs) (subst (IsPermutation (map first_four (map headed_row hs))) (firsts es rows) four), up, limited, each_extended es hs all)
@@ -135,9 +135,9 @@ all_extend : (es : List Entry) (hs : List HeadRow) → AllByRecursion (NamesHeld
 all_extend es [] all = refl
 all_extend es (h ∷ hs) all = ap (λ x. x ∷ map (extended es) (map head_row hs)) (extends es h all.0) ∙ ap (λ xs. headed_row h ∷ xs) (all_extend es hs all.1)
 
-shown_headed : (db : Database) (es : List Entry) (hs : List HeadRow) → AreEntries db es → IsPermutation (map head_row hs) (map head_columns (db.trees heads_tree)) → AllByRecursion (NamesHeld es) hs → IsPermutation (map headed_row hs) (source db)
-shown_headed db es hs are same all =
-    subst (IsPermutation (map headed_row hs)) (sym (source_is db es are)) (subst (λ xs. IsPermutation xs (map (extended es) (map head_columns (db.trees heads_tree)))) (all_extend es hs all) (IsPermutation-map (extended es) _ _ same))
+shown_headed : (external : Bool) (db : Database) (es : List Entry) (hs : List HeadRow) → AreEntries external db es → IsPermutation (map head_row hs) (map head_columns (db.trees heads_tree)) → AllByRecursion (NamesHeld es) hs → IsPermutation (map headed_row hs) (source db)
+shown_headed external db es hs are same all =
+    subst (IsPermutation (map headed_row hs)) (sym (source_is external db es are)) (subst (λ xs. IsPermutation xs (map (extended es) (map head_columns (db.trees heads_tree)))) (all_extend es hs all) (IsPermutation-map (extended es) _ _ same))
 
 abbrev pub start : HeadPass
 start = record { last = None; total = 0 }
@@ -158,15 +158,15 @@ total_after p [] low = no_less 18446744073709551615 p.total low
 total_after p (h ∷ hs) low =
     total_after (with_head p h) hs (below_most (p.total + h.head.count)) ∙ summed_up 18446744073709551615 p.total h.head.count (sum_of_counts hs)
 
-module _ (n : SchemaVersion) (old new : State) (has : old.now.schema ≡ schema_of n) (same : IsUnchanged old new) (r : HeadPass) (es : List Entry) (are : AreEntries new.now es) where
+module _ (n : SchemaVersion) (old new : State) (has : old.now.schema ≡ schema_of n) (same : IsUnchanged old new) (r : HeadPass) (external : Bool) (es : List Entry) (are : AreEntries external new.now es) where
   pub heads_yes : Walked (Takes headed_row ComesAfter with_head) (Refuses headed_row ComesAfter with_head) heads_walk old new start r true → DecidesHeadsByKey new.now es (Some r.total)
   heads_yes h =
       let it = pass_yes headed_row ComesAfter with_head same_head row_order row_order_total (schema_of n) heads_walk _ _ (heads_walk_is n).0 source (answers n) old new has same start r h in
       let none : 0 + sum_of_counts it.0 ≡ sum_of_counts it.0 = omega arith in
       let total : r.total ≡ up_to_most (sum_of_counts it.0) = ap (λ (p : HeadPass). p.total) it.3 ∙ total_after start it.0 (omega arith) ∙ ap up_to_most none in
-      (it.0, are_heads new.now es it.0 are it.1 (ascending_heads start it.0 it.2) (limits start it.0 it.2), total)
+      (it.0, are_heads external new.now es it.0 are it.1 (ascending_heads start it.0 it.2) (limits start it.0 it.2), total)
 
   pub heads_no : Walked (Takes headed_row ComesAfter with_head) (Refuses headed_row ComesAfter with_head) heads_walk old new start r false → DecidesHeadsByKey new.now es None
   heads_no h hs it =
       let fit = fitting start hs (no_last hs) it.1 it.2 in
-      pass_no headed_row ComesAfter with_head same_head row_order row_order_total (schema_of n) heads_walk _ _ (heads_walk_is n).0 source (answers n) old new has same start r (λ xs fits. rows_rise xs (ascending_heads start xs fits)) h hs (shown_headed new.now es hs are it.0 it.3) fit
+      pass_no headed_row ComesAfter with_head same_head row_order row_order_total (schema_of n) heads_walk _ _ (heads_walk_is n).0 source (answers n) old new has same start r (λ xs fits. rows_rise xs (ascending_heads start xs fits)) h hs (shown_headed external new.now es hs are it.0 it.3) fit

@@ -33,6 +33,7 @@ use Rattle.vault_audit_entries.specs.Keys.{DecidesHeadsOf, entries_of}
 use Rattle.vault_audit_entries.proofs.MemberLemmas.{In, at_in, all_of, none_in, no_length, one_in, filter_in, in_filter, any_in, in_any, map_in, in_map, one_of, same_rising}
 use Rattle.vault_audit_model.specs.declared.schema.SchemaVersion.{SchemaVersion}
 use Rattle.vault_audit_laws.proofs.PartLemmas.{few_entries}
+use Rattle.vault_audit_model.specs.SchemaVersions.{is_external}
 
 -- ---- tests
 
@@ -100,14 +101,14 @@ same_test false false so back = refl
 
 -- ---- numbered entries
 
-ids_of : (next low : ℕ) (hs : List History) → AreNumbered next low (map (λ (h : History). h.entry) hs) → AreIdsFrom next hs
-ids_of next low [] are = tt
-ids_of next low (h ∷ hs) are = (are.0.1.0, ids_of (next + 1) h.entry.admitted hs are.1)
+ids_of : (external : Bool) (next low : ℕ) (hs : List History) → AreNumbered external next low (map (λ (h : History). h.entry) hs) → AreIdsFrom next hs
+ids_of external next low [] are = tt
+ids_of external next low (h ∷ hs) are = (are.0.1.0, ids_of external (next + 1) h.entry.admitted hs are.1)
 
-each_limited : (next low : ℕ) (hs : List History) → AreNumbered next low (map (λ (h : History). h.entry) hs) → (g : History) → In g hs → IsEntry g.entry
-each_limited next low [] are g i = absurd i
-each_limited next low (h ∷ hs) are g (inl e) = subst (λ (x : History). IsEntry x.entry) (sym e) are.0.0
-each_limited next low (h ∷ hs) are g (inr i) = each_limited (next + 1) h.entry.admitted hs are.1 g i
+each_limited : (external : Bool) (next low : ℕ) (hs : List History) → AreNumbered external next low (map (λ (h : History). h.entry) hs) → (g : History) → In g hs → IsEntry external g.entry
+each_limited external next low [] are g i = absurd i
+each_limited external next low (h ∷ hs) are g (inl e) = subst (λ (x : History). IsEntry external x.entry) (sym e) are.0.0
+each_limited external next low (h ∷ hs) are g (inr i) = each_limited external (next + 1) h.entry.admitted hs are.1 g i
 
 id_below : (next : ℕ) (hs : List History) → AreIdsFrom next hs → (g : History) → In g hs → g.entry.id < next + length hs
 id_below next [] ids g i = absurd i
@@ -116,12 +117,12 @@ id_below next (h ∷ hs) ids g (inr i) = let more = id_below (next + 1) hs ids.1
 
 -- ---- a vault whose entries these are
 
-module _ (v : Vault) (numbered : AreNumbered 1 0 (entries_of v)) where
+module _ (external : Bool) (v : Vault) (numbered : AreNumbered external 1 0 (entries_of v)) where
   abbrev es : List Entry
   es = entries_of v
 
   ids : AreIdsFrom 1 v.histories
-  ids = ids_of 1 0 v.histories numbered
+  ids = ids_of external 1 0 v.histories numbered
 
   heads_of : (x : HeadRow) → In x (heads_in v) → (g : History) × In g v.histories × (is_current v g ≡ true) × (x ≡ head_in v g)
   heads_of x i =
@@ -153,7 +154,7 @@ module _ (v : Vault) (numbered : AreNumbered 1 0 (entries_of v)) where
   limited : AllByRecursion IsHeadRow (heads_in v)
   limited = all_of IsHeadRow (heads_in v) (λ x i.
       let g = heads_of x i in
-      let its = each_limited 1 0 v.histories numbered g.0 g.1 in
+      let its = each_limited external 1 0 v.histories numbered g.0 g.1 in
       let row : IsHeadRow (head_in v g.0) = record { bucket = its.bucket; key = its.key; newest = its.id } in subst IsHeadRow (sym g.3) row)
 
   -- the entry of a held key that is current
@@ -270,7 +271,7 @@ module _ (v : Vault) (numbered : AreNumbered 1 0 (entries_of v)) where
 
 -- ---- what the looks say
 
-module _ (db : Database) (v : Vault) (are : AreEntries db (entries_of v)) where
+module _ (external : Bool) (db : Database) (v : Vault) (are : AreEntries external db (entries_of v)) where
   abbrev pub IsWhole : List HeadRow → Type 0
   IsWhole hs = AreHeadsByKey db (entries_of v) hs × DecidesCounts (entries_of v) hs true
 
@@ -278,29 +279,29 @@ module _ (db : Database) (v : Vault) (are : AreEntries db (entries_of v)) where
   heads_yes hs (by_key, counts) sum =
       let order = IsPermutation-map head_row _ _ (IsPermutation-sym _ _ (same_in_order head_cmp (heads_in v))) in
       let covered = all_covered (entries_of v) hs by_key.1 counts sum in
-      let same = are_these v are.1 hs by_key.1 by_key.3 covered (whole_counts (entries_of v) hs by_key.1 counts covered) in
+      let same = are_these external v are.1 hs by_key.1 by_key.3 covered (whole_counts (entries_of v) hs by_key.1 counts covered) in
       IsPermutation-trans _ _ _ order (subst (λ xs. IsPermutation (map head_row xs) (map head_columns (db.trees heads_tree))) (sym same) by_key.0)
 
   heads_no : (hs : List HeadRow) → AreHeadsByKey db (entries_of v) hs → AreHeads db v → sum_of_counts hs ≡ held_entry_count (entries_of v)
-  heads_no hs by_key heads = same_sum hs (heads_in v) (IsPermutation-trans _ _ _ by_key.0 (IsPermutation-sym _ _ heads)) ∙ held_sum v are.1
+  heads_no hs by_key heads = same_sum hs (heads_in v) (IsPermutation-trans _ _ _ by_key.0 (IsPermutation-sym _ _ heads)) ∙ held_sum external v are.1
 
   pub no_by_key : DecidesHeadsByKey db (entries_of v) None → ¬ AreHeads db v
   no_by_key stated heads =
       let xs = heads_in v in
-      let numbers = ids v are.1 in
+      let numbers = ids external v are.1 in
       stated (in_order head_cmp xs) (
         IsPermutation-trans _ _ _ (IsPermutation-map head_row _ _ (same_in_order head_cmp xs)) heads,
         ascending_in_order head_cmp head_cmp_total xs (heads_apart v numbers),
-        all_in_order head_cmp IsHeadRow xs (limited v are.1),
+        all_in_order head_cmp IsHeadRow xs (limited external v are.1),
         all_in_order head_cmp (NamesHeld (entries_of v)) xs (heads_name v numbers),
       )
 
   pub no_counts : ((hs : List HeadRow) → IsPermutation (map head_row hs) (map head_columns (db.trees heads_tree)) → DecidesCounts (entries_of v) hs false) → ¬ AreHeads db v
-  no_counts stated heads = stated (heads_in v) heads (each_counted v are.1)
+  no_counts stated heads = stated (heads_in v) heads (each_counted external v are.1)
 
   few : held_entry_count (entries_of v) ≤ most_ids + 1
   few =
-      let all = few_entries 1 0 (entries_of v) (omega arith) are.1 in
+      let all = few_entries external 1 0 (entries_of v) (omega arith) are.1 in
       let some = no_more is_held (entries_of v) in omega (arith, all, some)
 
   -- the sum of the counts is the number of held entries, or it isn't
@@ -320,5 +321,5 @@ module _ (db : Database) (v : Vault) (are : AreEntries db (entries_of v)) where
     decided = decided_as (held == total) refl
 
 -- heads that are none of any vault are those of no sound vault
-pub unsound : (n : SchemaVersion) → (db : Database) → DecidesHeadsOf db false → (v : Vault) → ¬ AreSoundAs n db v
+pub unsound : (n : SchemaVersion) → (db : Database) → DecidesHeadsOf (is_external n) db false → (v : Vault) → ¬ AreSoundAs n db v
 unsound n db stated v it = stated v (sound_entries n db v it) it.heads

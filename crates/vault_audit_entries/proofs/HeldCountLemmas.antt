@@ -60,7 +60,7 @@ module _ (test : Row → Bool) (is : Entry → Bool) (same : (e : Entry) → tes
       let three : length (map shown (filter is es)) ≡ length (filter is es) = simp length-map in
       ap length (one ∙ ap (map shown) two) ∙ three
 
-module _ (n : SchemaVersion) (old new : State) (has : old.now.schema ≡ schema_of n) (same : IsUnchanged old new) (r : HeldCount) (es : List Entry) (are : AreEntries new.now es) where
+module _ (n : SchemaVersion) (old new : State) (has : old.now.schema ≡ schema_of n) (same : IsUnchanged old new) (r : HeldCount) (external : Bool) (es : List Entry) (are : AreEntries external new.now es) where
   cells : (rows : List Row) → Shown held_text [] old new rows → IsPermutation (map two_cells (map entry_row es)) rows
   cells rows shown =
       let db : new.now ≡ old.now = same.0.now_is in

@@ -19,6 +19,9 @@ pub mod NoteLemmas
 pub mod NoteRowLemmas
 pub mod NoteTextLemmas
 pub mod NumberLemmas
+pub mod OutsideLemmas
+pub mod OutsideRowLemmas
+pub mod OutsideTextLemmas
 pub mod SettingHistoryLemmas
 pub mod SettingOwnerLemmas
 pub mod SettingPlaceLemmas

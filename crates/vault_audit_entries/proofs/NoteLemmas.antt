@@ -47,6 +47,7 @@ use Rattle.vault_audit_entries.proofs.NoteRowLemmas.{first_ten, same_row}
 use Rattle.vault_audit_entries.proofs.NoteTextLemmas.{notes_walk, notes_shown, notes_order, notes_walk_is, notes_walk_plain}
 use Rattle.vault_audit_entries.proofs.HeadCountLemmas.{ints}
 use Rattle.vault_audit_model.specs.declared.schema.SchemaVersion.{SchemaVersion}
+use Rattle.vault_audit_model.specs.SchemaVersions.{is_external}
 
 abbrev Fit : NotePass → List Note → Type 0
 Fit = AllFit noted_row ComesAfter with_note
@@ -81,11 +82,11 @@ ascending_notes : (p : NotePass) (ns : List Note) → Fit p ns → IsAscending n
 ascending_notes p [] fit = tt
 ascending_notes p (n ∷ ns) fit = (after (with_note p n) n ns refl fit.1, ascending_notes (with_note p n) ns fit.1)
 
-limits : (p : NotePass) (ns : List Note) → Fit p ns → AllByRecursion IsNote ns
+limits : (p : NotePass) (ns : List Note) → Fit p ns → AllByRecursion (IsNote p.external) ns
 limits p [] fit = tt
 limits p (n ∷ ns) fit = (fit.0.0, limits (with_note p n) ns fit.1)
 
-fitting : (p : NotePass) (ns : List Note) → AllByRecursion (IsAfter p.last) ns → IsAscending note_cmp ns → AllByRecursion IsNote ns → Fit p ns
+fitting : (p : NotePass) (ns : List Note) → AllByRecursion (IsAfter p.last) ns → IsAscending note_cmp ns → AllByRecursion (IsNote p.external) ns → Fit p ns
 fitting p [] first up are = tt
 fitting p (n ∷ ns) first up are = ((are.0, first.0), fitting (with_note p n) ns up.0 up.1 are.1)
 
@@ -121,12 +122,12 @@ extended es row =
 abbrev with_beside : Row → Row → Row
 with_beside r x = column r 1 ∷ column r 2 ∷ column r 3 ∷ column r 4 ∷ column r 5 ∷ column r 6 ∷ column r 7 ∷ column r 8 ∷ column r 9 ∷ column r 10 ∷ column x 1 ∷ column x 2 ∷ column x 4 ∷ column x 5 ∷ []
 
-source_is : (db : Database) (es : List Entry) → AreEntries db es → source db ≡ map (extended es) (map note_columns (db.trees intake_tree))
-source_is db es are =
+source_is : (external : Bool) (db : Database) (es : List Entry) → AreEntries external db es → source db ≡ map (extended es) (map note_columns (db.trees intake_tree))
+source_is external db es are =
     one_each (shown_beside 10 notes_shown db.trees) (λ r. extended es (note_columns r)) (λ r.
     let rows = or_nulls (filter (is_of (column r 10)) (db.trees entries_tree)) in
     let shown : shown_beside 10 notes_shown db.trees r ≡ map (with_beside r) (map entry_columns rows) = sym (map-map (with_beside r) entry_columns rows) in
-    shown ∙ ap (map (with_beside r)) (beside_is (db.trees entries_tree) es are.0 are.1 (column r 10))) (db.trees intake_tree)
+    shown ∙ ap (map (with_beside r)) (beside_is external (db.trees entries_tree) es are.0 are.1 (column r 10))) (db.trees intake_tree)
     ∙ sym (map-map (extended es) note_columns (db.trees intake_tree))
 
 -- ---- notes that passed
@@ -161,10 +162,10 @@ firsts_noted : (ns : List Note) → map first_ten (map noted_row ns) ≡ map not
 firsts_noted [] = refl
 firsts_noted (n ∷ ns) = ap (λ xs. note_row n ∷ xs) (firsts_noted ns)
 
-are_notes : (db : Database) (es : List Entry) (ns : List Note) → AreEntries db es → IsPermutation (map noted_row ns) (source db) → IsAscending note_cmp ns → AllByRecursion IsNote ns → AreNotes db es ns
-are_notes db es ns are same up limited =
+are_notes : (external : Bool) (db : Database) (es : List Entry) (ns : List Note) → AreEntries external db es → IsPermutation (map noted_row ns) (source db) → IsAscending note_cmp ns → AllByRecursion (IsNote external) ns → AreNotes external db es ns
+are_notes external db es ns are same up limited =
     let rows = db.trees intake_tree in
-    let whole : IsPermutation (map noted_row ns) (map (extended es) (map note_columns rows)) = subst (IsPermutation (map noted_row ns)) (source_is db es are) same in
+    let whole : IsPermutation (map noted_row ns) (map (extended es) (map note_columns rows)) = subst (IsPermutation (map noted_row ns)) (source_is external db es are) same in
     let ten = IsPermutation-map first_ten _ _ whole in
     let all = recursion_from_All (IsExtended es) _ (All-permutation (IsExtended es) _ _ (IsPermutation-sym _ _ whole) (All-from_recursion (IsExtended es) _ (all_extended es rows))) in
     (subst (λ xs. IsPermutation xs (map note_columns rows)) (firsts_noted ns) (subst (IsPermutation (map first_ten (map noted_row ns))) (firsts es rows) ten), up, limited, each_extended es ns all)
@@ -190,25 +191,25 @@ all_extend : (es : List Entry) (ns : List Note) → AllByRecursion (NamesOneOf e
 all_extend es [] all = refl
 all_extend es (n ∷ ns) all = ap (λ x. x ∷ map (extended es) (map note_row ns)) (extends es n all.0) ∙ ap (λ xs. noted_row n ∷ xs) (all_extend es ns all.1)
 
-shown_noted : (db : Database) (es : List Entry) (ns : List Note) → AreEntries db es → IsPermutation (map note_row ns) (map note_columns (db.trees intake_tree)) → AllByRecursion (NamesOneOf es) ns → IsPermutation (map noted_row ns) (source db)
-shown_noted db es ns are same all =
-    subst (IsPermutation (map noted_row ns)) (sym (source_is db es are)) (subst (λ xs. IsPermutation xs (map (extended es) (map note_columns (db.trees intake_tree)))) (all_extend es ns all) (IsPermutation-map (extended es) _ _ same))
+shown_noted : (external : Bool) (db : Database) (es : List Entry) (ns : List Note) → AreEntries external db es → IsPermutation (map note_row ns) (map note_columns (db.trees intake_tree)) → AllByRecursion (NamesOneOf es) ns → IsPermutation (map noted_row ns) (source db)
+shown_noted external db es ns are same all =
+    subst (IsPermutation (map noted_row ns)) (sym (source_is external db es are)) (subst (λ xs. IsPermutation xs (map (extended es) (map note_columns (db.trees intake_tree)))) (all_extend es ns all) (IsPermutation-map (extended es) _ _ same))
 
-abbrev pub start : NotePass
-start = record { last = None }
+abbrev pub start : Bool → NotePass
+start external = record { external = external; last = None }
 
-module _ (n : SchemaVersion) (old new : State) (has : old.now.schema ≡ schema_of n) (same : IsUnchanged old new) (r : NotePass) (es : List Entry) (are : AreEntries new.now es) where
-  notes_yes : Walked (Takes noted_row ComesAfter with_note) (Refuses noted_row ComesAfter with_note) notes_walk old new start r true → DecidesNotes new.now es true
+module _ (n : SchemaVersion) (old new : State) (has : old.now.schema ≡ schema_of n) (same : IsUnchanged old new) (external : Bool) (r : NotePass) (es : List Entry) (are : AreEntries external new.now es) where
+  notes_yes : Walked (Takes noted_row ComesAfter with_note) (Refuses noted_row ComesAfter with_note) notes_walk old new (start external) r true → DecidesNotes external new.now es true
   notes_yes h =
-      let it = pass_yes noted_row ComesAfter with_note same_row row_order row_order_total (schema_of n) notes_walk _ _ (notes_walk_is n).0 source (answers n) old new has same start r h in
-      (it.0, are_notes new.now es it.0 are it.1 (ascending_notes start it.0 it.2) (limits start it.0 it.2))
+      let it = pass_yes noted_row ComesAfter with_note same_row row_order row_order_total (schema_of n) notes_walk _ _ (notes_walk_is n).0 source (answers n) old new has same (start external) r h in
+      (it.0, are_notes external new.now es it.0 are it.1 (ascending_notes (start external) it.0 it.2) (limits (start external) it.0 it.2))
 
-  notes_no : Walked (Takes noted_row ComesAfter with_note) (Refuses noted_row ComesAfter with_note) notes_walk old new start r false → DecidesNotes new.now es false
+  notes_no : Walked (Takes noted_row ComesAfter with_note) (Refuses noted_row ComesAfter with_note) notes_walk old new (start external) r false → DecidesNotes external new.now es false
   notes_no h ns it =
-      let fit = fitting start ns (no_last ns) it.1 it.2 in
-      pass_no noted_row ComesAfter with_note same_row row_order row_order_total (schema_of n) notes_walk _ _ (notes_walk_is n).0 source (answers n) old new has same start r (λ xs fits. rows_rise xs (ascending_notes start xs fits)) h ns (shown_noted new.now es ns are it.0 it.3) fit
+      let fit = fitting (start external) ns (no_last ns) it.1 it.2 in
+      pass_no noted_row ComesAfter with_note same_row row_order row_order_total (schema_of n) notes_walk _ _ (notes_walk_is n).0 source (answers n) old new has same (start external) r (λ xs fits. rows_rise xs (ascending_notes (start external) xs fits)) h ns (shown_noted external new.now es ns are it.0 it.3) fit
 
-  pub notes_stated : (found : Bool) → Walked (Takes noted_row ComesAfter with_note) (Refuses noted_row ComesAfter with_note) notes_walk old new start r found → DecidesNotes new.now es found
+  pub notes_stated : (found : Bool) → Walked (Takes noted_row ComesAfter with_note) (Refuses noted_row ComesAfter with_note) notes_walk old new (start external) r found → DecidesNotes external new.now es found
   notes_stated true = notes_yes
   notes_stated false = notes_no
 
@@ -218,10 +219,10 @@ named : (v : Vault) (ns : List Note) → AllByRecursion (λ n. IsNoted n (entry_
 named v [] all = tt
 named v (n ∷ ns) all = (subst (IsNoted n) (entry_found n.id v.histories) all.0, named v ns all.1)
 
-sound_notes : (n : SchemaVersion) → (db : Database) (v : Vault) → AreSoundAs n db v → AreNotes db (entries_in v.histories) v.notes
+sound_notes : (n : SchemaVersion) → (db : Database) (v : Vault) → AreSoundAs n db v → AreNotes (is_external n) db (entries_in v.histories) v.notes
 sound_notes n db v it =
     let kept = it.spells.kept in
-    (it.spells.intake, kept.sound.ordered.notes, kept.limits.notes, named v v.notes kept.sound.notes)
+    (it.spells.intake, kept.sound.ordered.notes, subst (λ external. AllByRecursion (IsNote external) v.notes) kept.external kept.limits.notes, named v v.notes kept.sound.notes)
 
-pub unsound : (n : SchemaVersion) → (db : Database) → ((es : List Entry) → AreEntries db es → DecidesNotes db es false) → (v : Vault) → ¬ AreSoundAs n db v
+pub unsound : (n : SchemaVersion) → (db : Database) → ((es : List Entry) → AreEntries (is_external n) db es → DecidesNotes (is_external n) db es false) → (v : Vault) → ¬ AreSoundAs n db v
 unsound n db stated v it = stated (entries_in v.histories) (sound_entries n db v it) v.notes ((sound_notes n) db v it)

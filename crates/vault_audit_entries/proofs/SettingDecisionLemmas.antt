@@ -14,7 +14,7 @@ use Rattle.vault_audit_model.specs.declared.rows.SettingRow.{SettingRow}
 use Rattle.vault_audit_model.specs.Limits.{IsHistory}
 use Rattle.vault_audit_model.specs.Relations.{AreEntries, AreSettings, DecidesSettings, HasSettingsAs, HasSettings}
 use Rattle.vault_audit_model.specs.Rows.{entry_row, entry_columns, setting_row, setting_columns}
-use Rattle.vault_audit_model.specs.Spells.{AreSoundAs, settings_in}
+use Rattle.vault_audit_model.specs.Spells.{AreSoundAs, settings_in, entries_in}
 use Rattle.vault_audit_model.specs.Tables.{schema_of, entries_tree, settings, settings_tree}
 use Rattle.vault_audit_schema.specs.Texts.{terms_of}
 use Rattle.vault_audit_rows.specs.Pass.{Takes, Refuses}
@@ -31,7 +31,8 @@ use Rattle.vault_audit_entries.proofs.SettingPresenceLemmas.{presence}
 use Rattle.vault_audit_rows.specs.Records.{Checked}
 use Rattle.vault_audit_rows.specs.Beside.{ReportsAbsence}
 use Rattle.vault_audit_model.specs.declared.schema.SchemaVersion.{SchemaVersion}
-use Rattle.vault_audit_rows.proofs.LimitLemmas.{numbers_of}
+use Rattle.vault_audit_model.specs.SchemaVersions.{is_external}
+use Rattle.vault_audit_entries.proofs.ContentSoundLemmas.{sound_entries}
 
 -- ---- the walk
 
@@ -50,17 +51,17 @@ module _ (n : SchemaVersion) (old new : State) (has : old.now.schema ≡ schema_
 
 -- ---- together
 
-module _ (db : Database) (es : List Entry) (are : AreEntries db es) where
-  all_hold : DecidesPlaces db true → DecidesPresence db true → HaveOwners db → DecidesSettings db es true
+module _ (external : Bool) (db : Database) (es : List Entry) (are : AreEntries external db es) where
+  all_hold : DecidesPlaces db true → DecidesPresence external db true → HaveOwners external db → DecidesSettings db es true
   all_hold (xs, rows, fit) present owned =
-      let it = make 0 0 es xs are.1 fit (present es are xs rows) (bounded 1 0 es xs are.1 (owned es are xs rows)) in
+      let it = make external 0 0 es xs are.1 fit (present es are xs rows) (bounded external 1 0 es xs are.1 (owned es are xs rows)) in
       (it.histories, (it.entries, subst (λ (ys : List SettingRow). IsPermutation (map setting_row ys) (map setting_columns (db.trees settings_tree))) (sym it.rows) rows, it.have))
 
   pub not_placed : DecidesPlaces db false → DecidesSettings db es false
-  not_placed none hs (same, rows, all) = none (flat_map settings_in hs) rows (placed 1 0 no_setting es hs (omega arith) are.1 same all)
+  not_placed none hs (same, rows, all) = none (flat_map settings_in hs) rows (placed external 1 0 no_setting es hs (omega arith) are.1 same all)
 
-  pub not_present : DecidesPresence db false → DecidesSettings db es false
-  not_present none hs (same, rows, all) = none es are (flat_map settings_in hs) rows (all_set 1 0 es hs are.1 same all)
+  pub not_present : DecidesPresence external db false → DecidesSettings db es false
+  not_present none hs (same, rows, all) = none es are (flat_map settings_in hs) rows (all_set external 1 0 es hs are.1 same all)
 
 -- ---- the vault of sound tables
 
@@ -68,23 +69,16 @@ whole_as : (marker external : Bool) (h : History) → IsWholeAs marker external 
 whole_as true external h is = is.3
 whole_as false external h is = (is.2, is.3)
 
-have : (external : Bool) (hs : List History) → AllByRecursion IsHistory hs → AllByRecursion (IsWhole external) hs → AllByRecursion HasSettings hs
+have : (external : Bool) (hs : List History) → AllByRecursion (IsHistory external) hs → AllByRecursion (IsWhole external) hs → AllByRecursion HasSettings hs
 have external [] are whole = tt
 have external (h ∷ hs) are whole = ((whole_as h.entry.marker external h whole.0, are.0.settings), have external hs are.1 whole.1)
 
-module _ (n : SchemaVersion) (db : Database) (v : Vault) (it : AreSoundAs n db v) where
-  pub its_entries : AreEntries db (map (λ h. h.entry) v.histories)
-  its_entries = (
-    subst (λ rows. IsPermutation rows (map entry_columns (db.trees entries_tree))) (sym (map-map entry_row (λ h. h.entry) v.histories)) it.spells.entries,
-    numbers_of 1 0 v.last v.histories it.spells.kept.sound.ids it.spells.kept.sound.order it.spells.kept.limits.histories,
-  )
-
-  its_settings : AreSettings db (map (λ h. h.entry) v.histories) v.histories
-  its_settings = (refl, it.spells.settings, have v.external v.histories it.spells.kept.limits.histories it.spells.kept.sound.whole)
+its_settings : (n : SchemaVersion) (db : Database) (v : Vault) → AreSoundAs n db v → AreSettings db (entries_in v.histories) v.histories
+its_settings n db v it = (refl, it.spells.settings, have v.external v.histories it.spells.kept.limits.histories it.spells.kept.sound.whole)
 
 -- so where they are not, the tables are sound for no vault
-pub unsound : (n : SchemaVersion) → (db : Database) → ((es : List Entry) → AreEntries db es → DecidesSettings db es false) → (v : Vault) → ¬ AreSoundAs n db v
-unsound n db none v it = none (map (λ h. h.entry) v.histories) ((its_entries n) db v it) v.histories ((its_settings n) db v it)
+pub unsound : (n : SchemaVersion) → (db : Database) → ((es : List Entry) → AreEntries (is_external n) db es → DecidesSettings db es false) → (v : Vault) → ¬ AreSoundAs n db v
+unsound n db none v it = none (entries_in v.histories) (sound_entries n db v it) v.histories (its_settings n db v it)
 
 -- ---- the answers of the looks
 
@@ -94,9 +88,9 @@ module _ (n : SchemaVersion) (old new : State) (has : old.now.schema ≡ schema_
   places_if_ok r (Ok b) same h = places n old new has same r b h
   places_if_ok r (Err e) same h = tt
 
-  pub presence_if_ok : (answer : Result Bool Error) → OnOk answer (IsUnchanged old new) → IfOk answer (Checked ReportsAbsence settings_beside old new) → IfOk answer (DecidesPresence new.now)
-  presence_if_ok (Ok b) same h = (presence n) old new has same b h
-  presence_if_ok (Err e) same h = tt
+  pub presence_if_ok : (answer : Result Bool Error) → OnOk answer (IsUnchanged old new) → IfOk answer (Checked ReportsAbsence settings_beside old new) → ((external : Bool) → IfOk answer (DecidesPresence external new.now))
+  presence_if_ok (Ok b) same h external = (presence n) old new has same external b h
+  presence_if_ok (Err e) same h external = tt
 
-pub stated : (a b : State) → IsUnchanged a b → DecidesPlaces a.now true → DecidesPresence b.now true → HaveOwners b.now → (es : List Entry) → AreEntries b.now es → DecidesSettings b.now es true
-stated a b same places present owned es are = all_hold b.now es are (subst (λ (d : Database). DecidesPlaces d true) (sym same.0.now_is) places) present owned
+pub stated : (external : Bool) (a b : State) → IsUnchanged a b → DecidesPlaces a.now true → DecidesPresence external b.now true → HaveOwners external b.now → (es : List Entry) → AreEntries external b.now es → DecidesSettings b.now es true
+stated external a b same places present owned es are = all_hold external b.now es are (subst (λ (d : Database). DecidesPlaces d true) (sym same.0.now_is) places) present owned

@@ -1,7 +1,7 @@
 -- Each setting has an entry, as the store keeps the references of its tables.
 use Rattle.std.specs.List.{AllByRecursion}
 use Rattle.std.specs.Ordering.{is_eq}
-use Rattle.std.proofs.Common.{◌≡◌, ◌⊎◌, ◌==◌, inl, inr, ℕ, List, map, true, Some, Less, Equal, sym, ap, subst, ◌∙◌, arith}
+use Rattle.std.proofs.Common.{◌≡◌, ◌⊎◌, ◌==◌, inl, inr, ℕ, List, map, true, Some, Less, Equal, sym, ap, subst, ◌∙◌, arith, Bool}
 use Rattle.sqlite_trees.proofs.ListLemmas.{all_from_map}
 use Rattle.sqlite_rules.specs.Lists.{Has}
 use Rattle.sqlite_rules.proofs.ListLemmas.{some_from}
@@ -34,7 +34,7 @@ tied_agrees (Real x) n tie = ap (λ o. is_true (from_truth (Some (is_eq o)))) ti
 tied_agrees (Text t) n tie = ap (λ o. is_true (from_truth (Some (is_eq o)))) tie
 tied_agrees (Blob b) n tie = ap (λ o. is_true (from_truth (Some (is_eq o)))) tie
 
-module _ (n : SchemaVersion) (db : Database) (tied : AreTied n db) (es : List Entry) (are : AreEntries db es) (xs : List SettingRow) (rows : AreRowsOf db xs) where
+module _ (n : SchemaVersion) (external : Bool) (db : Database) (tied : AreTied n db) (es : List Entry) (are : AreEntries external db es) (xs : List SettingRow) (rows : AreRowsOf db xs) where
   abbrev Entries : List Row
   Entries = db.trees entries_tree
 
@@ -58,5 +58,5 @@ module _ (n : SchemaVersion) (db : Database) (tied : AreTied n db) (es : List En
       let stored : AllByRecursion (λ r. IsTiedRow (setting_columns r)) (db.trees settings_tree) = all_from_map IsTied (λ r. column r 1) (db.trees settings_tree) tied.entries_of_settings in
       all_as owner xs (of_records setting_row setting_columns IsTiedRow xs (db.trees settings_tree) rows stored)
 
-pub have_owners : (n : SchemaVersion) (db : Database) → AreTied n db → HaveOwners db
-have_owners n db tied = owned n db tied
+pub have_owners : (n : SchemaVersion) (external : Bool) (db : Database) → AreTied n db → HaveOwners external db
+have_owners n external db tied = owned n external db tied

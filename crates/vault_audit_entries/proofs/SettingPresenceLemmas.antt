@@ -22,7 +22,7 @@ use Rattle.vault_audit_model.proofs.ListLemmas.{all_as}
 
 -- ---- each entry beside its settings
 
-module _ (db : Database) (es : List Entry) (are : AreEntries db es) (xs : List SettingRow) (rows : AreRowsOf db xs) where
+module _ (external : Bool) (db : Database) (es : List Entry) (are : AreEntries external db es) (xs : List SettingRow) (rows : AreRowsOf db xs) where
   abbrev Settings : List Row
   Settings = db.trees settings_tree
 
@@ -42,6 +42,6 @@ module _ (db : Database) (es : List Entry) (are : AreEntries db es) (xs : List S
       of_stored entry_row entry_columns Besides es (db.trees entries_tree) are.0 (all_as (λ e stated. met_no (col 1 3) 1 0 (entry_row e) e.marker (λ s. refl) Settings (has e.id ∙ stated)) es all)
 
 module _ (n : SchemaVersion) (old new : State) (has : old.now.schema ≡ schema_of n) (same : IsUnchanged old new) where
-  pub presence : (b : Bool) → Checked ReportsAbsence settings_beside old new b → DecidesPresence new.now b
-  presence true h es are xs rows = set_yes new.now es are xs rows (beside_yes (settings_beside_is n) (λ trees. (refl, refl)) ReportsAbsence old new has same h)
-  presence false h es are xs rows = λ all. beside_no (settings_beside_is n) (λ trees. (refl, refl)) ReportsAbsence old new has same h (set_no new.now es are xs rows all)
+  pub presence : (external : Bool) (b : Bool) → Checked ReportsAbsence settings_beside old new b → DecidesPresence external new.now b
+  presence external true h es are xs rows = set_yes external new.now es are xs rows (beside_yes (settings_beside_is n) (λ trees. (refl, refl)) ReportsAbsence old new has same h)
+  presence external false h es are xs rows = λ all. beside_no (settings_beside_is n) (λ trees. (refl, refl)) ReportsAbsence old new has same h (set_no external new.now es are xs rows all)

@@ -8,6 +8,8 @@ use Rattle.sqlite.specs.Effect.{Database}
 use Rattle.vault_core_model.specs.declared.records.Entry.{Entry}
 use Rattle.vault_core_model.specs.declared.records.History.{History}
 use Rattle.vault_audit_model.specs.declared.rows.ContentRow.{ContentRow}
+use Rattle.vault_audit_model.specs.declared.schema.SchemaVersion.{SchemaVersion}
+use Rattle.vault_audit_model.specs.Limits.{IsContentRow}
 use Rattle.vault_audit_model.specs.Relations.{AreContents}
 use Rattle.vault_audit_model.specs.Rows.{content_row, content_columns}
 use Rattle.vault_audit_model.specs.Tables.{contents_tree}
@@ -31,19 +33,24 @@ abbrev pub IsContentIn : List Entry → ContentRow → Type 0
 IsContentIn es c = IsContentOf (find (λ e. e.id == c.id) es) c
 
 -- the ids rise, the first being no less than this one
-abbrev pub AreRisingFrom : ℕ → List ContentRow → Type 0
-AreRisingFrom next [] = Unit {0}
-AreRisingFrom next (c ∷ cs) = (next ≤ c.id) × AreRisingFrom (c.id + 1) cs
+abbrev pub AreRisingBy : {X : Type 0} → (X → ℕ) → ℕ → List X → Type 0
+AreRisingBy id_of next [] = Unit {0}
+AreRisingBy id_of next (x ∷ xs) = (next ≤ id_of x) × AreRisingBy id_of (id_of x + 1) xs
 
--- the rows of contents are these, each of a held version
-abbrev pub AreOfHeld : Database → List Entry → List ContentRow → Type 0
-AreOfHeld db es cs =
-    IsPermutation (map content_row cs) (map content_columns (db.trees contents_tree)) × AreRisingFrom 1 cs × AllByRecursion (IsContentIn es) cs
+abbrev pub AreRisingFrom : ℕ → List ContentRow → Type 0
+AreRisingFrom = AreRisingBy (λ c. c.id)
+
+-- the rows of contents are these, in their limits, each of a held version
+pub record AreOfHeld (db : Database) (es : List Entry) (cs : List ContentRow) : Type 0 where
+  pub rows : IsPermutation (map content_row cs) (map content_columns (db.trees contents_tree))
+  pub rising : AreRisingFrom 1 cs
+  pub limits : AllByRecursion IsContentRow cs
+  pub held : AllByRecursion (IsContentIn es) cs
 
 -- how many they are; or they aren't such rows
-abbrev pub DecidesHeld : Database → List Entry → Option ℕ → Type 0
-DecidesHeld db es (Some count) = (cs : List ContentRow) × AreOfHeld db es cs × (count ≡ length cs)
-DecidesHeld db es None = (hs : List History) → ¬ AreContents db es hs
+abbrev pub DecidesHeld : SchemaVersion → Database → List Entry → Option ℕ → Type 0
+DecidesHeld n db es (Some count) = (cs : List ContentRow) × AreOfHeld db es cs × (count ≡ length cs)
+DecidesHeld n db es None = (hs : List History) → ¬ AreContents n db es hs
 
 -- what is shown of bytes beside their entry, where that is a held version of their size and digest
 abbrev pub held_row : ContentRow → Row

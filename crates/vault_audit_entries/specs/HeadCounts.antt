@@ -26,9 +26,9 @@ DecidesCounts es hs true = AllByRecursion (IsCounted es) hs
 DecidesCounts es hs false = ¬ AllByRecursion (IsCounted es) hs
 
 -- the same, of whichever entries and heads the rows are
-abbrev pub DecidesCountRows : Database → Bool → Type 0
-DecidesCountRows db found =
-    (es : List Entry) (hs : List HeadRow) → AreEntries db es → IsPermutation (map head_row hs) (map head_columns (db.trees heads_tree)) → DecidesCounts es hs found
+abbrev pub DecidesCountRows : Bool → Database → Bool → Type 0
+DecidesCountRows external db found =
+    (es : List Entry) (hs : List HeadRow) → AreEntries external db es → IsPermutation (map head_row hs) (map head_columns (db.trees heads_tree)) → DecidesCounts es hs found
 
 -- the row shows one number twice
 abbrev pub ShowsCount : Row → Type 0

@@ -1,5 +1,5 @@
 -- Heads by rising bucket and key, beside the entries that are their newest.
-use Rattle.std.specs.Prelude.{◌≡◌, ◌==◌, ℕ, ◌+◌, ◌-◌, ◌^◌, min, List, [], ◌∷◌, map, find, Option, None, Some, IsPermutation}
+use Rattle.std.specs.Prelude.{◌≡◌, ◌==◌, ℕ, ◌+◌, ◌-◌, ◌^◌, min, List, [], ◌∷◌, map, find, Option, None, Some, IsPermutation, Bool}
 use Rattle.std.specs.List.{AllByRecursion}
 use Rattle.std.specs.Ordering.{ordering_then}
 use Rattle.std.specs.declared.cmp.Ordering.{Ordering}
@@ -60,5 +60,5 @@ DecidesHeadsByKey db es (Some total) = (hs : List HeadRow) × AreHeadsByKey db e
 DecidesHeadsByKey db es None = (hs : List HeadRow) → ¬ AreHeadsByKey db es hs
 
 -- the same, of whichever entries the rows are
-abbrev pub DecidesHeadRows : Database → Option ℕ → Type 0
-DecidesHeadRows db total = (es : List Entry) → AreEntries db es → DecidesHeadsByKey db es total
+abbrev pub DecidesHeadRows : Bool → Database → Option ℕ → Type 0
+DecidesHeadRows external db total = (es : List Entry) → AreEntries external db es → DecidesHeadsByKey db es total

@@ -33,5 +33,5 @@ abbrev pub Counts : HeldCount → Row → HeldCount → Type 0
 Counts p row q = (q.entries ≡ p.entries + bit (is_held_row row) 1) × (q.versions ≡ p.versions + bit (is_version_row row) 1)
 
 -- the counts are those of whichever entries the rows are
-abbrev pub CountsRows : Database → HeldCount → Type 0
-CountsRows db count = (es : List Entry) → AreEntries db es → (count.entries ≡ held_entry_count es) × (count.versions ≡ held_count es)
+abbrev pub CountsRows : Bool → Database → HeldCount → Type 0
+CountsRows external db count = (es : List Entry) → AreEntries external db es → (count.entries ≡ held_entry_count es) × (count.versions ≡ held_count es)

@@ -10,5 +10,5 @@ abbrev pub entries_of : Vault → List Entry
 entries_of v = map (λ (h : History). h.entry) v.histories
 
 -- whether the rows of heads are those of whichever vault has the entries of the rows
-abbrev pub DecidesHeadsOf : Database → Bool → Type 0
-DecidesHeadsOf db found = (v : Vault) → AreEntries db (entries_of v) → DecidesHeads db v found
+abbrev pub DecidesHeadsOf : Bool → Database → Bool → Type 0
+DecidesHeadsOf external db found = (v : Vault) → AreEntries external db (entries_of v) → DecidesHeads db v found

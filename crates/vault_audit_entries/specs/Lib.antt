@@ -1,5 +1,7 @@
 pub mod Contents
 pub mod ContentPasses
+pub mod Outside
+pub mod OutsidePasses
 pub mod SettingPlaces
 pub mod Notes
 pub mod NotePasses

@@ -7,7 +7,7 @@ use Rattle.vault_audit_entries.specs.Notes.{IsAfter}
 
 -- a note in its limits, after those before it
 abbrev pub ComesAfter : NotePass → Note → Type 0
-ComesAfter p n = IsNote n × IsAfter p.last n
+ComesAfter p n = IsNote p.external n × IsAfter p.last n
 
 abbrev pub with_note : NotePass → Note → NotePass
-with_note p n = record { last = Some n }
+with_note p n = record { external = p.external; last = Some n }

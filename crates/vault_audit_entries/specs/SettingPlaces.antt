@@ -44,9 +44,9 @@ abbrev pub IsOfOne : List Entry → SettingRow → Type 0
 IsOfOne es x = list_any (λ e. e.id == x.id) es ≡ true
 
 -- whether each version has a setting and no marker has one
-abbrev pub DecidesPresence : Database → Bool → Type 0
-DecidesPresence db b = (es : List Entry) → AreEntries db es → (xs : List SettingRow) → AreRowsOf db xs → Decides b (AllByRecursion (IsSetAs xs) es)
+abbrev pub DecidesPresence : Bool → Database → Bool → Type 0
+DecidesPresence external db b = (es : List Entry) → AreEntries external db es → (xs : List SettingRow) → AreRowsOf db xs → Decides b (AllByRecursion (IsSetAs xs) es)
 
 -- each setting has an entry
-abbrev pub HaveOwners : Database → Type 0
-HaveOwners db = (es : List Entry) → AreEntries db es → (xs : List SettingRow) → AreRowsOf db xs → AllByRecursion (IsOfOne es) xs
+abbrev pub HaveOwners : Bool → Database → Type 0
+HaveOwners external db = (es : List Entry) → AreEntries external db es → (xs : List SettingRow) → AreRowsOf db xs → AllByRecursion (IsOfOne es) xs

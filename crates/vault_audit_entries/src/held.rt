@@ -5,6 +5,7 @@ ghost use Rattle.sqlite_sql.specs.Ops.{is_null};
 ghost use Rattle.sqlite.specs.State.{HasCleanDisk};
 ghost use Rattle.sqlite.specs.Held.{state};
 ghost use Rattle.vault_audit_model.specs.Rows.{bit};
+ghost use Rattle.vault_audit_model.specs.SchemaVersions.{is_external};
 ghost use Rattle.vault_audit_entries.specs.HeldPasses.{CountsRows, is_zero, is_held_row, is_version_row};
 ghost use Rattle.vault_audit_rows.specs.Health.{IsHealthy, IsMemory, IsOfSchemaVersion, OnlyLooks};
 
@@ -93,7 +94,7 @@ pub fn count_held<S: Alter>(
     schema_version: SchemaVersion,
 ) -> Result<HeldCount, Error>
     requires { IsOfSchemaVersion S.Store conn.old schema_version }
-    ensures reported { HasCleanDisk (state S.Store conn.new) → IfOk result (CountsRows (state S.Store conn.new).now) }
+    ensures reported { HasCleanDisk (state S.Store conn.new) → IfOk result (CountsRows (is_external schema_version) (state S.Store conn.new).now) }
     ensures look { OnlyLooks S.Store conn.old conn.new result }
     ensures err { IsHealthy (state S.Store conn.new) → IfErr result IsMemory }
 {

@@ -13,6 +13,7 @@ ghost use Rattle.vault_core_model.specs.Vault.{Vault};
 ghost use Rattle.vault_audit_model.specs.Limits.{IsNote};
 ghost use Rattle.vault_audit_model.specs.Relations.{AreEntries, DecidesNotes};
 ghost use Rattle.vault_audit_model.specs.Rows.{retention_mode, retention_until};
+ghost use Rattle.vault_audit_model.specs.SchemaVersions.{is_external};
 ghost use Rattle.vault_audit_model.specs.Spells.{AreSoundAs};
 ghost use Rattle.vault_audit_model.specs.Values.{number as value, flag_or_null as hold_value};
 ghost use Rattle.vault_audit_entries.specs.Notes.{noted_row, IsAfter};
@@ -26,29 +27,30 @@ use vault_audit_rows::cell::{
 };
 use vault_audit_rows::misread::Misread;
 use vault_audit_rows::name::{batch_name, bucket_name, object_key};
-use vault_audit_rows::several_columns::retention;
+use vault_audit_rows::several_columns::{retention, size};
 use vault_audit_rows::walk::{Pass, walk};
-use vault_base::limits::MOST_CONTENT;
 use vault_core_model::records::Note;
 
 /// The check of notes in their order.
 #[derive(Drop)]
 pub struct NotePass {
+    /// Whether the vault registers contents that are kept outside.
+    pub external: bool,
     /// The note that came last.
     pub last: Option<Note>,
 }
 
 /// The note that the first ten columns state.
-fn note_in(row: &Row) -> Result<Note, Misread>
+fn note_in(row: &Row, external: bool) -> Result<Note, Misread>
     ensures names { IfOk result (λ n. (column row.now 0 ≡ Text n.bucket) × (column row.now 1 ≡ Text n.batch) × (column row.now 2 ≡ value n.line) × (column row.now 3 ≡ Text n.key)) }
     ensures extent { IfOk result (λ n. (column row.now 4 ≡ value n.size) × (column row.now 5 ≡ Blob n.digest)) }
     ensures lock { IfOk result (λ n. (column row.now 6 ≡ retention_mode n.retention) × (column row.now 7 ≡ retention_until n.retention) × (column row.now 8 ≡ hold_value n.hold)) }
     ensures id { IfOk result (λ n. column row.now 9 ≡ value n.id) }
-    ensures fits { IfOk result IsNote }
-    ensures wrong { IfErr result (λ e. e ≡ Misread.Wrong → (n : Reported) → IsNote n → row.now ≢ noted_row n) }
+    ensures fits { IfOk result (IsNote external) }
+    ensures wrong { IfErr result (λ e. e ≡ Misread.Wrong → (n : Reported) → IsNote external n → row.now ≢ noted_row n) }
 {
     let line = number_within(row, 2, 1, u32::MAX).ok_or(Misread::Wrong)?;
-    let size = number_within(row, 4, 0, MOST_CONTENT as u32).ok_or(Misread::Wrong)?;
+    let size = size(row, 4, external).ok_or(Misread::Wrong)?;
     let digest = digest(row, 5).ok_or(Misread::Wrong)?;
     let retention = retention(row, 6, 7).ok_or(Misread::Wrong)?;
     let hold = flag_or_null(row, 8).ok_or(Misread::Wrong)?;
@@ -61,7 +63,7 @@ fn note_in(row: &Row) -> Result<Note, Misread>
         batch,
         line,
         key,
-        size: u64::from(size),
+        size,
         digest,
         retention,
         hold,
@@ -70,10 +72,10 @@ fn note_in(row: &Row) -> Result<Note, Misread>
 }
 
 /// The note that a row holds, where the version beside it is of its bucket, key, size and digest.
-fn read_noted(row: &Row) -> Result<Note, Misread>
+fn read_noted(row: &Row, external: bool) -> Result<Note, Misread>
     ensures row { IfOk result (λ n. row.now ≡ noted_row n) }
-    ensures fits { IfOk result IsNote }
-    ensures wrong { IfErr result (λ e. e ≡ Misread.Wrong → (n : Reported) → IsNote n → row.now ≢ noted_row n) }
+    ensures fits { IfOk result (IsNote external) }
+    ensures wrong { IfErr result (λ e. e ≡ Misread.Wrong → (n : Reported) → IsNote external n → row.now ≢ noted_row n) }
 {
     if row.column_count() != 14 {
         return Err(Misread::Wrong);
@@ -82,7 +84,7 @@ fn read_noted(row: &Row) -> Result<Note, Misread>
     let key = text(row, 11).ok_or(Misread::Wrong)?;
     let size = number(row, 12).ok_or(Misread::Wrong)?;
     let digest = bytes(row, 13).ok_or(Misread::Wrong)?;
-    let note = note_in(row)?;
+    let note = note_in(row, external)?;
     if note.bucket.as_str() != bucket {
         drop(note);
         return Err(Misread::Wrong);
@@ -132,7 +134,7 @@ impl Pass for NotePass {
 
     #[tactic(auto, using(crate::proofs::NoteRowLemmas::same_noted))]
     fn take(&mut self, row: &Row) -> Result<bool, Error> {
-        let note = match read_noted(row) {
+        let note = match read_noted(row, self.external) {
             Ok(note) => note,
             Err(Misread::Wrong) => return Ok(false),
             Err(Misread::Memory) => return Err(Error::SqliteFailure(ErrorCode::OutOfMemory)),
@@ -153,12 +155,15 @@ pub fn check_notes<S: Alter>(
     schema_version: SchemaVersion,
 ) -> Result<bool, Error>
     requires { IsOfSchemaVersion S.Store conn.old schema_version }
-    ensures reported { HasCleanDisk (state S.Store conn.new) → IfOk result (λ b. (es : List Entry) → AreEntries (state S.Store conn.new).now es → DecidesNotes (state S.Store conn.new).now es b) }
+    ensures reported { HasCleanDisk (state S.Store conn.new) → IfOk result (λ b. (es : List Entry) → AreEntries (is_external schema_version) (state S.Store conn.new).now es → DecidesNotes (is_external schema_version) (state S.Store conn.new).now es b) }
     ensures damaged { HasCleanDisk (state S.Store conn.new) → IfOk result (λ found. found ≡ false → (v : Vault) → ¬ AreSoundAs schema_version (state S.Store conn.new).now v) }
     ensures look { OnlyLooks S.Store conn.old conn.new result }
     ensures err { IsHealthy (state S.Store conn.new) → IfErr result IsMemory }
 {
-    let mut pass = NotePass { last: None };
+    let mut pass = NotePass {
+        external: schema_version.is_external(),
+        last: None,
+    };
     let found = walk(
         conn,
         "SELECT n.bucket, n.batch, n.line, n.key, n.size, n.digest, n.mode, n.until, n.hold, n.id, e.bucket, e.key, e.size, e.digest FROM intake AS n LEFT JOIN entries AS e ON e.id = n.id ORDER BY n.bucket, n.batch, n.line",

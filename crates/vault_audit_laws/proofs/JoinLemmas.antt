@@ -1,11 +1,14 @@
 -- Histories put together of their contents, their settings and their tenures.
-use Rattle.std.proofs.Common.{◌≡◌, ℕ, List, [], ◌∷◌, ◌++◌, flat_map, find, option_map, cond, Bool, true, false, ◌==◌, Some, Option, refl, sym, ap, subst, ◌∙◌}
+use Rattle.std.proofs.Common.{◌≡◌, ℕ, List, [], ◌∷◌, ◌++◌, map, flat_map, find, option_map, cond, Bool, true, false, ◌==◌, Some, Option, refl, sym, ap, subst, ◌∙◌}
 use Rattle.std.specs.List.{AllByRecursion}
 use Rattle.vault_core_model.specs.declared.records.Entry.{Entry}
 use Rattle.vault_core_model.specs.declared.records.History.{History}
 use Rattle.vault_core_model.specs.Totals.{items_by, items_in, shares_of}
+use Rattle.vault_audit_model.specs.declared.schema.SchemaVersion.{SchemaVersion}
+use Rattle.vault_audit_model.specs.declared.schema.SchemaVersion.TheVariants.{First, Second, Third, Fourth}
+use Rattle.vault_audit_model.specs.Rows.{external_row}
 use Rattle.vault_audit_model.specs.Relations.{HasContent, HasContentAs, HasSettings, HasSettingsAs}
-use Rattle.vault_audit_model.specs.Spells.{contents_in, settings_in, tenures_in, entries_in}
+use Rattle.vault_audit_model.specs.Spells.{contents_in, external_in, external_rows_of, settings_in, tenures_in, entries_in}
 use Rattle.vault_audit_laws.specs.Parts.{joined, put_together}
 
 pub heads_same : {A : Type 0} (x y : A) (xs ys : List A) → (x ∷ xs) ≡ (y ∷ ys) → x ≡ y
@@ -20,16 +23,16 @@ tails_same x y xs ys e = cc
 abbrev of_entry : Entry → History → History → History → History
 of_entry e c s t = record { entry = e; content = c.content; settings = s.settings; tenures = t.tenures }
 
-content_as : (marker : Bool) (c s t : History) → HasContentAs marker c → HasContentAs marker (put_together c s t)
-content_as true c s t is = is
-content_as false c s t is = is
+content_as : (marker external : Bool) (c s t : History) → HasContentAs marker external c → HasContentAs marker external (put_together c s t)
+content_as true external c s t is = is
+content_as false external c s t is = is
 
 settings_as : (marker : Bool) (c s t : History) → HasSettingsAs marker s → HasSettingsAs marker (of_entry s.entry c s t)
 settings_as true c s t is = is
 settings_as false c s t is = is
 
-has_content : (c s t : History) → c.entry ≡ s.entry → c.entry ≡ t.entry → HasContent c → HasContent (put_together c s t)
-has_content c s t same also is = content_as c.entry.marker c s t is
+has_content : (external : Bool) (c s t : History) → c.entry ≡ s.entry → c.entry ≡ t.entry → HasContent external c → HasContent external (put_together c s t)
+has_content external c s t same also is = content_as c.entry.marker external c s t is
 
 has_settings : (c s t : History) → c.entry ≡ s.entry → c.entry ≡ t.entry → HasSettings s → HasSettings (put_together c s t)
 has_settings c s t same also is = subst (λ (e : Entry). HasSettings (of_entry e c s t)) (sym same) (settings_as s.entry.marker c s t is.0, is.1)
@@ -99,8 +102,8 @@ module _ (cs ss ts : List History) (e : entries_in cs ≡ entries_in ss) (f : en
   pub joined_items : (dept : List ℕ) → items_in dept (joined cs ss ts) ≡ items_in dept ts
   joined_items dept = rows_third (λ (h : History). items_by dept (shares_of h)) (items_same dept) cs ss ts e f
 
-  pub joined_contents_are : AllByRecursion HasContent cs → AllByRecursion HasContent (joined cs ss ts)
-  joined_contents_are = all_first HasContent HasContent has_content cs ss ts e f
+  pub joined_contents_are : (external : Bool) → AllByRecursion (HasContent external) cs → AllByRecursion (HasContent external) (joined cs ss ts)
+  joined_contents_are external = all_first (HasContent external) (HasContent external) (has_content external) cs ss ts e f
 
   pub joined_settings_are : AllByRecursion HasSettings ss → AllByRecursion HasSettings (joined cs ss ts)
   joined_settings_are = all_second HasSettings HasSettings has_settings cs ss ts e f
@@ -116,6 +119,18 @@ joined_contents [] ss ts e f = refl
 joined_contents (c ∷ cs) [] ts e f = absurd cc
 joined_contents (c ∷ cs) (s ∷ ss) [] e f = absurd cc
 joined_contents (c ∷ cs) (s ∷ ss) (t ∷ ts) e f = ap (λ rows. contents_in c ++ rows) (joined_contents cs ss ts (tails_same _ _ _ _ e) (tails_same _ _ _ _ f))
+
+joined_external : (cs ss ts : List History) → entries_in cs ≡ entries_in ss → entries_in cs ≡ entries_in ts → flat_map external_in (joined cs ss ts) ≡ flat_map external_in cs
+joined_external [] ss ts e f = refl
+joined_external (c ∷ cs) [] ts e f = absurd cc
+joined_external (c ∷ cs) (s ∷ ss) [] e f = absurd cc
+joined_external (c ∷ cs) (s ∷ ss) (t ∷ ts) e f = ap (λ rows. external_in c ++ rows) (joined_external cs ss ts (tails_same _ _ _ _ e) (tails_same _ _ _ _ f))
+
+pub joined_external_rows : (n : SchemaVersion) (cs ss ts : List History) → entries_in cs ≡ entries_in ss → entries_in cs ≡ entries_in ts → external_rows_of n (joined cs ss ts) ≡ external_rows_of n cs
+joined_external_rows First cs ss ts e f = refl
+joined_external_rows Second cs ss ts e f = refl
+joined_external_rows Third cs ss ts e f = refl
+joined_external_rows Fourth cs ss ts e f = ap (map external_row) (joined_external cs ss ts e f)
 
 -- the entry of an id stands among the entries
 found_where : (b : Bool) (h : History) (x : Option History) (y : Option Entry) → option_map (λ (g : History). g.entry) x ≡ y → option_map (λ (g : History). g.entry) (cond b (Some h) x) ≡ cond b (Some h.entry) y

@@ -27,7 +27,7 @@ module _ {A B : Type 0} where
   part_has f z x (y ∷ ys) (inl e) part = has_left (f y) (flat_map f ys) z (subst (λ w. Has (f w) z) e part)
   part_has f z x (y ∷ ys) (inr h) part = has_right (f y) (flat_map f ys) z (part_has f z x ys h part)
 
-  has_part : (f : A → List B) (z : B) (xs : List A) → Has (flat_map f xs) z → (x : A) × Has xs x × Has (f x) z
+  pub has_part : (f : A → List B) (z : B) (xs : List A) → Has (flat_map f xs) z → (x : A) × Has xs x × Has (f x) z
   has_part f z [] h = elim h [ ]
   has_part f z (y ∷ ys) h = elim (has_either (f y) (flat_map f ys) z h) [
     | inl here ↦ (y, inl refl, here)

@@ -20,7 +20,7 @@ use Rattle.vault_core_model.specs.declared.records.History.{History}
 use Rattle.vault_core_model.specs.declared.records.Tenure.{Tenure}
 use Rattle.vault_core_model.specs.Vault.{Vault, config_in}
 use Rattle.vault_audit_model.specs.declared.schema.SchemaVersion.{SchemaVersion}
-use Rattle.vault_audit_model.specs.declared.schema.SchemaVersion.TheVariants.{First, Second, Third}
+use Rattle.vault_audit_model.specs.declared.schema.SchemaVersion.TheVariants.{First, Second, Third, Fourth}
 use Rattle.vault_audit_model.specs.Rows.{caller_row, bucket_row, entry_row, tenure_row, caller_columns, bucket_columns, entry_columns}
 use Rattle.vault_audit_model.specs.Spells.{bucket_of, tenure_at, tenures_in, tenure_rows_of, tenure_rows_in}
 use Rattle.vault_audit_model.specs.Tables.{departments_tree, callers_tree, buckets_tree, entries_tree}
@@ -28,7 +28,7 @@ use Rattle.vault_audit_model.specs.Tenures.{first_tenures, HasFirstTenures, IsUn
 use Rattle.vault_audit_model.specs.Values.{text_or_null}
 use Rattle.vault_audit_model.proofs.ListLemmas.{all_as}
 use Rattle.vault_audit_model.proofs.SameRows.{text_same}
-use Rattle.vault_audit_laws.specs.Ties.{AreTied, is_among}
+use Rattle.vault_audit_laws.specs.Ties.{HaveParents, AreTied, is_among}
 use Rattle.vault_audit_laws.proofs.Members.{part_has, permuted_within}
 
 -- the value that a record's row has in a column stands in that column of its table
@@ -123,9 +123,9 @@ module _ (n : SchemaVersion) (db : Database) (tied : AreTied n db) where
       placed_by buckets e.bucket row.0 found.0 found.1 row.2 found.2)
 
 -- the rows of tenures state their departments
-stated_owned : (db : Database) → AreTied Third db → (departments : List (List ℕ)) (v : Vault) → IsPermutation (map (λ d. Text d) departments) (map (λ r. column r 1) (db.trees departments_tree))
-    → IsPermutation (tenure_rows_of Third v) (tenure_rows_in Third db) → AllByRecursion (λ (h : History). AllByRecursion (λ (t : Tenure). IsTrue (is_among departments t.dept)) h.tenures) v.histories
-stated_owned db tied departments v stated are =
+stated_owned : (db : Database) (departments : List (List ℕ)) (v : Vault) → IsPermutation (map (λ d. Text d) departments) (map (λ r. column r 1) (db.trees departments_tree))
+    → HaveParents (map (λ r. column r 2) (tenure_rows_in Third db)) (map (λ r. column r 1) (db.trees departments_tree)) → IsPermutation (tenure_rows_of Third v) (tenure_rows_in Third db) → AllByRecursion (λ (h : History). AllByRecursion (λ (t : Tenure). IsTrue (is_among departments t.dept)) h.tenures) v.histories
+stated_owned db departments v stated tied are =
     all_from (λ (h : History). AllByRecursion (λ (t : Tenure). IsTrue (is_among departments t.dept)) h.tenures) v.histories (λ h there.
     all_from (λ (t : Tenure). IsTrue (is_among departments t.dept)) h.tenures (λ t its.
     let names = map (λ r. column r 1) (db.trees departments_tree) in
@@ -133,11 +133,12 @@ stated_owned db tied departments v stated are =
     let one = mapped_has tenure_row (flat_map tenures_in v.histories) (tenure_at h.entry.id t) (part_has tenures_in (tenure_at h.entry.id t) h v.histories there (mapped_has (tenure_at h.entry.id) h.tenures t its)) in
     let stored = permuted_within (tenure_rows_in Third db) (tenure_rows_of Third v) (IsPermutation-sym (tenure_rows_of Third v) (tenure_rows_in Third db) are) row one in
     among departments names t.dept stated
-    (all_has (λ x. (x ≡ Null) ⊎ Has names x) (map (λ r. column r 2) (tenure_rows_in Third db)) (Text t.dept) tied.departments_of_tenures (mapped_has (λ r. column r 2) (tenure_rows_in Third db) row stored))))
+    (all_has (λ x. (x ≡ Null) ⊎ Has names x) (map (λ r. column r 2) (tenure_rows_in Third db)) (Text t.dept) tied (mapped_has (λ r. column r 2) (tenure_rows_in Third db) row stored))))
 
 pub tenures_owned : (n : SchemaVersion) (db : Database) → AreTied n db → (departments : List (List ℕ)) (v : Vault) → IsPermutation (map (λ d. Text d) departments) (map (λ r. column r 1) (db.trees departments_tree))
     → IsPermutation (tenure_rows_of n v) (tenure_rows_in n db) → IsUnmovedIn n v → AllByRecursion (λ (b : Bucket). IsTrue (is_among departments b.config.dept)) v.buckets
     → AllByRecursion (λ (h : History). AllByRecursion (λ (t : Tenure). IsTrue (is_among departments t.dept)) h.tenures) v.histories
 tenures_owned First db tied departments v stated are unmoved owned = unmoved_owned departments v unmoved owned
 tenures_owned Second db tied departments v stated are unmoved owned = unmoved_owned departments v unmoved owned
-tenures_owned Third db tied departments v stated are unmoved owned = stated_owned db tied departments v stated are
+tenures_owned Third db tied departments v stated are unmoved owned = stated_owned db departments v stated tied.departments_of_tenures are
+tenures_owned Fourth db tied departments v stated are unmoved owned = stated_owned db departments v stated tied.departments_of_tenures are

@@ -8,7 +8,7 @@ use Rattle.vault_core_model.specs.Sound.{HasTenures, HasTenuresAs, IsWithBucket}
 use Rattle.vault_core_model.specs.Vault.{Vault}
 use Rattle.vault_audit_model.specs.declared.rows.MetaRow.{MetaRow}
 use Rattle.vault_audit_model.specs.declared.schema.SchemaVersion.{SchemaVersion}
-use Rattle.vault_audit_model.specs.declared.schema.SchemaVersion.TheVariants.{First, Second, Third}
+use Rattle.vault_audit_model.specs.declared.schema.SchemaVersion.TheVariants.{First, Second, Third, Fourth}
 use Rattle.vault_audit_model.specs.Relations.{IsTenured, IsTenuredAs}
 use Rattle.vault_audit_model.specs.Rows.{tenure_row}
 use Rattle.vault_audit_model.specs.Spells.{entries_in, tenure_rows_of}
@@ -53,8 +53,10 @@ module _ (m : MetaRow) (v : Vault) (cs ss ts : List History) (e : entries_in cs 
   joined_unmoved First is = unmoved is
   joined_unmoved Second is = unmoved is
   joined_unmoved Third is = tt
+  joined_unmoved Fourth is = tt
 
   pub joined_rows : (n : SchemaVersion) → tenure_rows_of n stated ≡ tenure_rows_of n whole
   joined_rows First = refl
   joined_rows Second = refl
   joined_rows Third = ap (map tenure_row) (sym (joined_tenures cs ss ts e f))
+  joined_rows Fourth = ap (map tenure_row) (sym (joined_tenures cs ss ts e f))

@@ -25,10 +25,10 @@ use Rattle.sqlite_rules.proofs.ListLemmas.{all_has, some_has}
 use Rattle.sqlite_rules.proofs.ProbeLemmas.{mapped_has}
 use Rattle.sqlite.specs.Effect.{Database, IsDatabase}
 use Rattle.vault_audit_model.specs.declared.schema.SchemaVersion.{SchemaVersion}
-use Rattle.vault_audit_model.specs.declared.schema.SchemaVersion.TheVariants.{First, Second, Third}
-use Rattle.vault_audit_model.specs.Rows.{tenure_columns}
-use Rattle.vault_audit_model.specs.Spells.{tenure_rows_in}
-use Rattle.vault_audit_model.specs.Tables.{schema_of, rules_as, refers, departments_as, callers, buckets, entries, intake, heads, tenures, has, departments_tree, callers_tree, buckets_tree, rules_tree, entries_tree, contents_tree, settings_tree, intake_tree, heads_tree, tenures_tree}
+use Rattle.vault_audit_model.specs.declared.schema.SchemaVersion.TheVariants.{First, Second, Third, Fourth}
+use Rattle.vault_audit_model.specs.Rows.{tenure_columns, external_columns}
+use Rattle.vault_audit_model.specs.Spells.{tenure_rows_in, external_rows_in}
+use Rattle.vault_audit_model.specs.Tables.{schema_of, rules_as, refers, departments_as, callers, buckets, entries, intake, heads, tenures, has, departments_tree, callers_tree, buckets_tree, rules_tree, entries_tree, contents_tree, settings_tree, intake_tree, heads_tree, tenures_tree, external_tree}
 use Rattle.vault_audit_laws.specs.Ties.{HaveParents, HaveTiedParents, AreTied}
 
 -- ---- values that SQL holds equal
@@ -195,17 +195,38 @@ entries_key : (n : SchemaVersion) (at : ℕ) → parent_key (schema_of n).tables
 unfolding same_name joined
 entries_key n at = refl
 
--- tenures, in the schema version that has them
+-- tenures, where the schema version has them
+stated_departments : (db : Database) → AllByRecursion (λ r. IsTextOrNull (column r 3)) (db.trees tenures_tree) → AllByRecursion (PointsTo 3 1 (db.trees departments_tree)) (db.trees tenures_tree) → AllByRecursion (λ r. IsTextOrNull (column r 1)) (db.trees departments_tree)
+    → HaveParents (map (λ r. column r 2) (map tenure_columns (db.trees tenures_tree))) (map (λ r. column r 1) (db.trees departments_tree))
+stated_departments db texts named names =
+    subst (λ vs. HaveParents vs (map (λ r. column r 1) (db.trees departments_tree))) (sym (map-map (λ r. column r 2) tenure_columns (db.trees tenures_tree)))
+    (text_parents 3 1 (db.trees departments_tree) (db.trees tenures_tree) names texts named)
+
+tenure_texts : (rows : List Row) → AllByRecursion (λ row. (are_typed tenures.key 0 tenures.columns (drop 1 row) && true) ≡ true) rows → AllByRecursion (λ r. IsTextOrNull (column r 3)) rows
+tenure_texts = third_texts tenures.key (head_of tenures.columns) (head_of (drop 1 tenures.columns)) (head_of (drop 2 tenures.columns)) (drop 3 tenures.columns) text_or_null refl
+
 tenure_departments : (n : SchemaVersion) (db : Database) → Keeps Datatype (schema_of n) db.trees → Keeps ForeignKey (schema_of n) db.trees → AllByRecursion (λ r. IsTextOrNull (column r 1)) (db.trees departments_tree)
     → HaveParents (map (λ r. column r 2) (tenure_rows_in n db)) (map (λ r. column r 1) (db.trees departments_tree))
 tenure_departments First db typed refer names = tt
 tenure_departments Second db typed refer names = tt
 tenure_departments Third db typed refer names =
     let rows = db.trees tenures_tree in
-    let texts = third_texts tenures.key (head_of tenures.columns) (head_of (drop 1 tenures.columns)) (head_of (drop 2 tenures.columns)) (drop 3 tenures.columns) text_or_null refl rows typed.1.1.1.1.1.1.1.1.1.1.0 in
     let named = second_points (schema_of Third).tables db.trees 3 1 departments_tree (refers 3 (codes "departments") (codes "name")) refl (departments_key Third 3) (refers 1 (codes "entries") (codes "id")) [] rows refer.1.1.1.1.1.1.1.1.1.1.0 in
-    subst (λ vs. HaveParents vs (map (λ r. column r 1) (db.trees departments_tree))) (sym (map-map (λ r. column r 2) tenure_columns rows))
-    (text_parents 3 1 (db.trees departments_tree) rows names texts named)
+    stated_departments db (tenure_texts rows typed.1.1.1.1.1.1.1.1.1.1.0) named names
+tenure_departments Fourth db typed refer names =
+    let rows = db.trees tenures_tree in
+    let named = second_points (schema_of Fourth).tables db.trees 3 1 departments_tree (refers 3 (codes "departments") (codes "name")) refl (departments_key Fourth 3) (refers 1 (codes "entries") (codes "id")) [] rows refer.1.1.1.1.1.1.1.1.1.1.0 in
+    stated_departments db (tenure_texts rows typed.1.1.1.1.1.1.1.1.1.1.0) named names
+
+-- the same of external
+external_entries : (n : SchemaVersion) (db : Database) → Keeps ForeignKey (schema_of n) db.trees → HaveTiedParents (map (λ r. column r 0) (external_rows_in n db)) (map (λ r. column r 0) (db.trees entries_tree))
+external_entries First db refer = tt
+external_entries Second db refer = tt
+external_entries Third db refer = tt
+external_entries Fourth db refer =
+    let rows = db.trees external_tree in
+    let named = first_points (schema_of Fourth).tables db.trees 0 0 entries_tree (refers 0 (codes "entries") (codes "id")) refl (entries_key Fourth 0) [] rows refer.1.1.1.1.1.1.1.1.1.1.1.0 in
+    subst (λ vs. HaveTiedParents vs (map (λ r. column r 0) (db.trees entries_tree))) (sym (map-map (λ r. column r 0) external_columns rows)) (tied_parents 0 0 (db.trees entries_tree) rows named)
 
 module _ (n : SchemaVersion) (db : Database) (is : IsDatabase db) (ours : db.schema ≡ schema_of n) where
   refer : Keeps ForeignKey (schema_of n) db.trees
@@ -272,5 +293,6 @@ module _ (n : SchemaVersion) (db : Database) (is : IsDatabase db) (ours : db.sch
     entries_of_settings = tied_parents 1 0 (rows_of entries_tree) (rows_of settings_tree) (to_entries 1 [] (rows_of settings_tree) refer.1.1.1.1.1.1.1.0);
     entries_of_notes = tied_parents 10 0 (rows_of entries_tree) (rows_of intake_tree) (then_to_entries 10 (refers 1 (codes "buckets") (codes "name")) [] (rows_of intake_tree) refer.1.1.1.1.1.1.1.1.0);
     entries_of_heads = tied_parents 3 0 (rows_of entries_tree) (rows_of heads_tree) (then_to_entries 3 (refers 1 (codes "buckets") (codes "name")) [] (rows_of heads_tree) refer.1.1.1.1.1.1.1.1.1.0);
+    entries_of_external = external_entries n db refer;
     departments_of_tenures = tenure_departments n db typed refer department_names;
   }

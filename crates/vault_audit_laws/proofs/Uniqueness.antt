@@ -1,14 +1,17 @@
 -- Two vaults that the rows of one database spell are one vault.
-use Rattle.std.proofs.Common.{◌≡◌, inl, inr, ℕ, ◌+◌, ◌≤◌, Bool, true, false, List, [], ◌∷◌, map, flat_map, Option, Some, None, IsTrue, Ordering, Less, Equal, nat_cmp, refl, sym, ap, subst, ◌∙◌, arith}
+use Rattle.std.proofs.Common.{◌≡◌, inl, inr, ℕ, ◌+◌, ◌≤◌, Bool, true, false, List, [], ◌∷◌, length, map, flat_map, Option, Some, None, IfSome, IsTrue, IsPermutation, Ordering, Less, Equal, nat_cmp, refl, sym, ap, subst, ◌∙◌, arith}
 use Rattle.std.specs.List.{AllByRecursion}
 use Rattle.std.specs.Ordering.{on}
 use Rattle.std.proofs.lemmas.Cmp.{nat_list_cmp_total, nat_cmp_total, tied_itself}
 use Rattle.sqlite_value.specs.declared.value.Value.TheVariants.{Text}
 use Rattle.sqlite_value.specs.Order.{column}
 use Rattle.sqlite.specs.Effect.{Database}
+use Rattle.sqlite.specs.Schema.{Schema}
 use Rattle.sqlite_rules.specs.Lists.{Has}
 use Rattle.sqlite_rules.proofs.ListLemmas.{all_has}
 use Rattle.sqlite_rules.proofs.ProbeLemmas.{has_mapped, mapped_has}
+use Rattle.vault_base.specs.Content.{size, digest}
+use Rattle.vault_base.specs.declared.content.Registered.{Registered}
 use Rattle.vault_base.specs.declared.content.Content.{Content}
 use Rattle.vault_base.specs.declared.content.Content.TheVariants.{Inside, External}
 use Rattle.vault_rules.specs.Rules.{is_rule_set, passes_if_given}
@@ -16,10 +19,11 @@ use Rattle.vault_rules.specs.declared.rule.Rule.{Rule}
 use Rattle.vault_core_model.specs.declared.records.Bucket.{Bucket}
 use Rattle.vault_core_model.specs.declared.records.Entry.{Entry}
 use Rattle.vault_core_model.specs.declared.records.History.{History}
+use Rattle.vault_core_model.specs.declared.records.Removal.{Removal}
 use Rattle.vault_core_model.specs.declared.records.Setting.{Setting}
 use Rattle.vault_core_model.specs.declared.records.Tenure.{Tenure}
 use Rattle.vault_core_model.specs.Order.{IsAscending, name_cmp, caller_cmp, bucket_cmp, note_cmp}
-use Rattle.vault_core_model.specs.Sound.{AreIdsFrom, HasPlace, IsWhole, IsWholeAs, HasRuleSet, FollowOn, end_of, AreTenures, HasTenuresAs, HasTenures}
+use Rattle.vault_core_model.specs.Sound.{AreIdsFrom, HasItsContent, HasPlace, IsWhole, IsWholeAs, HasRuleSet, FollowOn, end_of, AreTenures, HasTenuresAs, HasTenures}
 use Rattle.vault_core_model.specs.Vault.{Vault}
 use Rattle.vault_audit_model.specs.declared.rows.ContentRow.{ContentRow}
 use Rattle.vault_audit_model.specs.declared.rows.MetaRow.{MetaRow}
@@ -27,15 +31,15 @@ use Rattle.vault_audit_model.specs.declared.rows.RuleRow.{RuleRow}
 use Rattle.vault_audit_model.specs.declared.rows.SettingRow.{SettingRow}
 use Rattle.vault_audit_model.specs.declared.rows.TenureRow.{TenureRow}
 use Rattle.vault_audit_model.specs.declared.schema.SchemaVersion.{SchemaVersion}
-use Rattle.vault_audit_model.specs.declared.schema.SchemaVersion.TheVariants.{First, Second, Third}
-use Rattle.vault_audit_model.specs.SchemaVersions.{newest}
-use Rattle.vault_audit_model.specs.Rows.{meta_row, caller_row, bucket_row, rule_row, entry_row, content_row, setting_row, note_row, tenure_row, meta_columns_as, caller_columns, bucket_columns, rule_columns_as, entry_columns, content_columns, setting_columns, note_columns, tenure_columns}
-use Rattle.vault_audit_model.specs.Spells.{IsKeptAs, SpellsAs, meta_stated, bucket_of, rules_from, rules_if_given, rules_in, content_if_given, contents_in, settings_from, settings_in, tenure_at, tenures_in}
-use Rattle.vault_audit_model.specs.Tables.{meta_tree, departments_tree, callers_tree, buckets_tree, rules_tree, entries_tree, contents_tree, settings_tree, intake_tree, tenures_tree}
+use Rattle.vault_audit_model.specs.declared.schema.SchemaVersion.TheVariants.{First, Second, Third, Fourth}
+use Rattle.vault_audit_model.specs.SchemaVersions.{is_external, edition_of}
+use Rattle.vault_audit_model.specs.Rows.{meta_row, caller_row, bucket_row, rule_row, entry_row, content_row, setting_row, note_row, tenure_row, external_row, meta_columns_as, caller_columns, bucket_columns, rule_columns_as, entry_columns, content_columns, setting_columns, note_columns, tenure_columns, external_columns}
+use Rattle.vault_audit_model.specs.Spells.{SpellsAs, Spells, meta_stated, bucket_of, rules_from, rules_if_given, rules_in, content_if_given, contents_in, external_if_given, external_in, settings_from, settings_in, tenure_at, tenures_in}
+use Rattle.vault_audit_model.specs.Tables.{meta_tree, departments_tree, callers_tree, buckets_tree, rules_tree, entries_tree, contents_tree, settings_tree, intake_tree, tenures_tree, external_tree, schema_of, vault_schema}
 use Rattle.vault_audit_model.specs.Tenures.{HasFirstTenures, IsUnmoved, first_tenures_in}
-use Rattle.vault_audit_model.proofs.SameRows.{text_same, same_meta, same_caller, same_bucket, same_rule, same_entry, same_content, same_setting, same_note, same_tenure}
+use Rattle.vault_audit_model.proofs.SameRows.{text_same, same_meta, same_caller, same_bucket, same_rule, same_entry, same_content, same_setting, same_note, same_tenure, same_external}
 use Rattle.vault_core_laws.proofs.NameOrder.{callers_total, buckets_total, notes_total}
-use Rattle.vault_audit_laws.proofs.Members.{IsWithin, less, matched, within_by_rows, tied_same, same_ascending, AreNumberedFrom, ascending_numbered, by_number_total, same_parts}
+use Rattle.vault_audit_laws.proofs.Members.{IsWithin, less, has_part, matched, within_by_rows, tied_same, same_ascending, AreNumberedFrom, ascending_numbered, by_number_total, same_parts}
 
 -- ---- parts at their places
 
@@ -66,27 +70,58 @@ same_rules_given bucket None (Some ss) first second there back = absurd (no_rule
 same_rules_given bucket (Some rs) None first second there back = absurd (no_rules_apart bucket rs first there)
 same_rules_given bucket (Some rs) (Some ss) first second there back = ap Some (same_rules bucket 1 rs ss there back)
 
--- a history's content is in the tables
+-- ---- contents: their bytes, or else their sizes and digests, which are those of the entry
+
+abbrev IsContentOf : Entry → Option Content → Type 0
+IsContentOf e content = IfSome content (λ c. (size c ≡ e.size) × (e.digest ≡ Some (digest c)))
+
+content_of : (removal : Option Removal) (content : Option Content) (e : Entry) → HasItsContent removal content e → IsContentOf e content
+content_of removal None e its = tt
+content_of None (Some c) e its = its
+content_of (Some r) (Some c) e its = elim its [ ]
+
+whole_content : (marker external : Bool) (e : Entry) (content : Option Content) (settings : List Setting) → IsWholeAs marker external e content settings → IsContentOf e content
+whole_content true external e content settings whole = subst (IsContentOf e) (sym whole.2) tt
+whole_content false external e content settings whole = content_of e.removal content e whole.1
+
+same_registered : (e : Entry) (r s : Registered) → IsContentOf e (Some (External r)) → IsContentOf e (Some (External s)) → r ≡ s
+same_registered e r s first second =
+    let sizes : r.size ≡ s.size = first.0 ∙ sym second.0 in
+    let both : Some r.digest ≡ Some s.digest = sym first.1 ∙ second.1 in
+    let digests : r.digest ≡ s.digest = cc both in
+    rw (sizes, digests) refl
+
+-- contents of one entry with the same rows in both tables
+same_contents_given : (id : ℕ) (e : Entry) (o p : Option Content) → IsContentOf e o → IsContentOf e p → IsWithin (content_if_given id o) (content_if_given id p) → IsWithin (content_if_given id p) (content_if_given id o)
+    → IsWithin (external_if_given id o) (external_if_given id p) → IsWithin (external_if_given id p) (external_if_given id o) → o ≡ p
+same_contents_given id e None None first second there back out in_ = refl
+same_contents_given id e None (Some (Inside b)) first second there back out in_ = elim (back (record { id = id; content = b }) (inl refl)) [ ]
+same_contents_given id e None (Some (External s)) first second there back out in_ = elim (in_ id (inl refl)) [ ]
+same_contents_given id e (Some (Inside a)) None first second there back out in_ = elim (there (record { id = id; content = a }) (inl refl)) [ ]
+same_contents_given id e (Some (Inside a)) (Some (Inside b)) first second there back out in_ = elim (there (record { id = id; content = a }) (inl refl)) [
+  | inl e ↦ ap (λ (bytes : List ℕ). Some (Inside bytes)) (ap (λ (c : ContentRow). c.content) e)
+  | inr none ↦ absurd none
+]
+same_contents_given id e (Some (Inside a)) (Some (External s)) first second there back out in_ = elim (there (record { id = id; content = a }) (inl refl)) [ ]
+same_contents_given id e (Some (External r)) None first second there back out in_ = elim (out id (inl refl)) [ ]
+same_contents_given id e (Some (External r)) (Some (Inside b)) first second there back out in_ = elim (out id (inl refl)) [ ]
+same_contents_given id e (Some (External r)) (Some (External s)) first second there back out in_ = ap (λ x. Some (External x)) (same_registered e r s first second)
+
+external_of_id : (id : ℕ) (content : Option Content) (own : ℕ) → Has (external_if_given id content) own → own ≡ id
+external_of_id id None own h = elim h [ ]
+external_of_id id (Some (Inside bytes)) own h = elim h [ ]
+external_of_id id (Some (External r)) own (inl e) = e
+external_of_id id (Some (External r)) own (inr h) = elim h [ ]
+
+-- where a vault registers no contents that are kept outside, no version has one
 inside_as : (marker : Bool) (h : History) → IsWholeAs marker false h.entry h.content h.settings → HasPlace false h.content
 inside_as true h whole = subst (λ (o : Option Content). HasPlace false o) (sym whole.2) tt
 inside_as false h whole = whole.0.1
 
-inside : (n : SchemaVersion) (v : Vault) → IsKeptAs n v → (h : History) → Has v.histories h → HasPlace false h.content
-inside n v kept h there =
-    let P : Bool → Type 0 = λ external. AllByRecursion (IsWhole external) v.histories in
-    inside_as h.entry.marker h (all_has (IsWhole false) v.histories h (subst P kept.inside kept.sound.whole) there)
-
-same_contents_given : (id : ℕ) (o p : Option Content) → HasPlace false o → HasPlace false p → IsWithin (content_if_given id o) (content_if_given id p) → IsWithin (content_if_given id p) (content_if_given id o) → o ≡ p
-same_contents_given id None None first second there back = refl
-same_contents_given id None (Some (Inside b)) first second there back = elim (back (record { id = id; content = b }) (inl refl)) [ ]
-same_contents_given id (Some (Inside a)) None first second there back = elim (there (record { id = id; content = a }) (inl refl)) [ ]
-same_contents_given id (Some (Inside a)) (Some (Inside b)) first second there back = elim (there (record { id = id; content = a }) (inl refl)) [
-  | inl e ↦ ap (λ (bytes : List ℕ). Some (Inside bytes)) (ap (λ (c : ContentRow). c.content) e)
-  | inr none ↦ absurd none
-]
-same_contents_given id (Some (External a)) p first second there back = absurd (cc first)
-same_contents_given id None (Some (External b)) first second there back = absurd (cc second)
-same_contents_given id (Some (Inside a)) (Some (External b)) first second there back = absurd (cc second)
+none_outside : (id : ℕ) (content : Option Content) → HasPlace false content → (own : ℕ) → ¬ Has (external_if_given id content) own
+none_outside id None place own h = elim h [ ]
+none_outside id (Some (Inside bytes)) place own h = elim h [ ]
+none_outside id (Some (External r)) place own h = absurd (cc place)
 
 settings_numbered : (id place : ℕ) (settings : List Setting) → AreNumberedFrom (λ (s : SettingRow). s.place) place (settings_from id place settings)
 settings_numbered id place [] = tt
@@ -198,6 +233,12 @@ module _ (n : SchemaVersion) (db : Database) where
   contents_within : (v w : Vault) → SpellsAs n db v → SpellsAs n db w → IsWithin (flat_map contents_in v.histories) (flat_map contents_in w.histories)
   contents_within v w it is = within_by_rows content_row same_content (flat_map contents_in v.histories) (flat_map contents_in w.histories) (map content_columns (db.trees contents_tree)) it.contents is.contents
 
+  -- each history is whole, as that schema version has it
+  whole_there : (v : Vault) → SpellsAs n db v → (h : History) → Has v.histories h → IsWhole (is_external n) h
+  whole_there v it h there =
+      let P : Bool → Type 0 = λ external. AllByRecursion (IsWhole external) v.histories in
+      all_has (IsWhole (is_external n)) v.histories h (subst P it.kept.external it.kept.sound.whole) there
+
   settings_within : (v w : Vault) → SpellsAs n db v → SpellsAs n db w → IsWithin (flat_map settings_in v.histories) (flat_map settings_in w.histories)
   settings_within v w it is = within_by_rows setting_row same_setting (flat_map settings_in v.histories) (flat_map settings_in w.histories) (map setting_columns (db.trees settings_tree)) it.settings is.settings
 
@@ -210,6 +251,10 @@ module _ (n : SchemaVersion) (db : Database) where
   history_content v w it is =
       same_parts id_of (λ (c : ContentRow). c.id) contents_in (λ h c there. content_of_id h.entry.id h.content c there) v.histories w.histories
       (one_history w.histories (ordered_ids w is)) (contents_within v w it is)
+
+  history_external : (v w : Vault) → SpellsAs n db w → IsWithin (flat_map external_in v.histories) (flat_map external_in w.histories) → (g h : History) → Has v.histories g → Has w.histories h → g.entry.id ≡ h.entry.id → IsWithin (external_in g) (external_in h)
+  history_external v w is =
+      same_parts id_of (λ (own : ℕ). own) external_in (λ h own there. external_of_id h.entry.id h.content own there) v.histories w.histories (one_history w.histories (ordered_ids w is))
 
   history_settings : (v w : Vault) → SpellsAs n db v → SpellsAs n db w → (g h : History) → Has v.histories g → Has w.histories h → g.entry.id ≡ h.entry.id → IsWithin (settings_in g) (settings_in h)
   history_settings v w it is =
@@ -253,21 +298,50 @@ module _ (n : SchemaVersion) (db : Database) where
       (tenures_there g.entry.id g.tenures h.tenures (subst (λ i. IsWithin (tenures_in g) (map (tenure_at i) h.tenures)) (sym id) there))
       (tenures_there g.entry.id h.tenures g.tenures (subst (λ i. IsWithin (map (tenure_at i) h.tenures) (tenures_in g)) (sym id) back))
 
-tenures_within : (db : Database) (v w : Vault) → SpellsAs Third db v → SpellsAs Third db w → IsWithin (flat_map tenures_in v.histories) (flat_map tenures_in w.histories)
-tenures_within db v w it is = within_by_rows tenure_row same_tenure (flat_map tenures_in v.histories) (flat_map tenures_in w.histories) (map tenure_columns (db.trees tenures_tree)) it.tenures is.tenures
+-- a schema version that registers no contents that are kept outside has none
+no_external : (n : SchemaVersion) → is_external n ≡ false → (db : Database) (v : Vault) → SpellsAs n db v → (xs : List ℕ) → IsWithin (flat_map external_in v.histories) xs
+no_external n none db v it xs own there =
+    let found = has_part external_in own v.histories there in
+    let h : History = found.0 in
+    let whole : IsWhole false h = subst (λ external. IsWhole external h) none (whole_there n db v it h found.1) in
+    absurd (none_outside h.entry.id h.content (inside_as h.entry.marker h whole) own found.2)
+
+external_within : (n : SchemaVersion) (db : Database) (v w : Vault) → SpellsAs n db v → SpellsAs n db w → IsWithin (flat_map external_in v.histories) (flat_map external_in w.histories)
+external_within First db v w it is = no_external First refl db v it (flat_map external_in w.histories)
+external_within Second db v w it is = no_external Second refl db v it (flat_map external_in w.histories)
+external_within Third db v w it is = no_external Third refl db v it (flat_map external_in w.histories)
+external_within Fourth db v w it is =
+    within_by_rows external_row same_external (flat_map external_in v.histories) (flat_map external_in w.histories) (map external_columns (db.trees external_tree)) it.external is.external
+
+tenures_within : (db : Database) (v w : Vault) → IsPermutation (map tenure_row (flat_map tenures_in v.histories)) (map tenure_columns (db.trees tenures_tree)) → IsPermutation (map tenure_row (flat_map tenures_in w.histories)) (map tenure_columns (db.trees tenures_tree))
+    → IsWithin (flat_map tenures_in v.histories) (flat_map tenures_in w.histories)
+tenures_within db v w = within_by_rows tenure_row same_tenure (flat_map tenures_in v.histories) (flat_map tenures_in w.histories) (map tenure_columns (db.trees tenures_tree))
 
 same_tenures : (n : SchemaVersion) (db : Database) (v w : Vault) → SpellsAs n db v → SpellsAs n db w → (g h : History) → Has v.histories g → Has w.histories h → g.entry ≡ h.entry → g.tenures ≡ h.tenures
 same_tenures First db v w it is = same_first_tenures First db v w it is it.kept.unmoved is.kept.unmoved
 same_tenures Second db v w it is = same_first_tenures Second db v w it is it.kept.unmoved is.kept.unmoved
-same_tenures Third db v w it is = same_stated_tenures Third db v w it is (tenures_within db v w it is) (tenures_within db w v is it)
+same_tenures Third db v w it is = same_stated_tenures Third db v w it is (tenures_within db v w it.tenures is.tenures) (tenures_within db w v is.tenures it.tenures)
+same_tenures Fourth db v w it is = same_stated_tenures Fourth db v w it is (tenures_within db v w it.tenures is.tenures) (tenures_within db w v is.tenures it.tenures)
 
 module _ (n : SchemaVersion) (db : Database) where
+  content_there : (v : Vault) → SpellsAs n db v → (h : History) → Has v.histories h → IsContentOf h.entry h.content
+  content_there v it h there = whole_content h.entry.marker (is_external n) h.entry h.content h.settings (whole_there n db v it h there)
+
+  same_history_content : (v w : Vault) → SpellsAs n db v → SpellsAs n db w → (g h : History) → Has v.histories g → Has w.histories h → g.entry ≡ h.entry → g.content ≡ h.content
+  same_history_content v w it is g h in_v in_w same =
+      let id : g.entry.id ≡ h.entry.id = ap (λ e. e.id) same in
+      let there = history_content n db v w it is g h in_v in_w id in
+      let back = history_content n db w v is it h g in_w in_v (sym id) in
+      let out = history_external n db v w is (external_within n db v w it is) g h in_v in_w id in
+      let in_ = history_external n db w v it (external_within n db w v is it) h g in_w in_v (sym id) in
+      same_contents_given g.entry.id g.entry g.content h.content (content_there v it g in_v) (subst (λ e. IsContentOf e h.content) (sym same) (content_there w is h in_w))
+      (subst (λ i. IsWithin (contents_in g) (content_if_given i h.content)) (sym id) there) (subst (λ i. IsWithin (content_if_given i h.content) (contents_in g)) (sym id) back)
+      (subst (λ i. IsWithin (external_in g) (external_if_given i h.content)) (sym id) out) (subst (λ i. IsWithin (external_if_given i h.content) (external_in g)) (sym id) in_)
+
   same_history_there : (v w : Vault) → SpellsAs n db v → SpellsAs n db w → (g h : History) → Has v.histories g → Has w.histories h → g.entry ≡ h.entry → g ≡ h
   same_history_there v w it is g h in_v in_w same =
       let id : g.entry.id ≡ h.entry.id = ap (λ e. e.id) same in
-      let content : g.content ≡ h.content =
-      same_contents_given g.entry.id g.content h.content (inside n v it.kept g in_v) (inside n w is.kept h in_w) (subst (λ i. IsWithin (contents_in g) (content_if_given i h.content)) (sym id) (history_content n db v w it is g h in_v in_w id))
-      (subst (λ i. IsWithin (content_if_given i h.content) (contents_in g)) (sym id) (history_content n db w v is it h g in_w in_v (sym id))) in
+      let content : g.content ≡ h.content = same_history_content v w it is g h in_v in_w same in
       let settings : g.settings ≡ h.settings =
       same_settings g.entry.id 1 g.settings h.settings (subst (λ i. IsWithin (settings_in g) (settings_from i 1 h.settings)) (sym id) (history_settings n db v w it is g h in_v in_w id))
       (subst (λ i. IsWithin (settings_from i 1 h.settings) (settings_in g)) (sym id) (history_settings n db w v is it h g in_w in_v (sym id))) in
@@ -299,7 +373,19 @@ same_vault_as n db v w it is =
     let notes = same_ascending note_cmp notes_total v.notes w.notes first.notes second.notes (notes_within n db v w it is) (notes_within n db w v is it) in
     let histories =
     same_ascending (on id_of nat_cmp) (by_number_total id_of) v.histories w.histories (ordered_ids n db v it) (ordered_ids n db w is) (histories_within n db v w it is) (histories_within n db w v is it) in
-    rw (it.kept.inside ∙ sym is.kept.inside, last, departments, callers, same_buckets n db v w it is, notes, histories, moves) refl
+    rw (it.kept.external ∙ sym is.kept.external, last, departments, callers, same_buckets n db v w it is, notes, histories, moves) refl
 
-pub same_vault : (db : Database) (v w : Vault) → SpellsAs newest db v → SpellsAs newest db w → v ≡ w
-same_vault db v w it is = same_vault_as newest db v w it is
+-- a file has one edition
+two_editions : (n m : SchemaVersion) (db : Database) → db.schema ≡ schema_of n → db.schema ≡ schema_of m → length (schema_of n).tables ≡ length (schema_of m).tables
+two_editions n m db has is = ap (λ (s : Schema). length s.tables) (sym has ∙ is)
+
+pub one_edition : (external also : Bool) (db : Database) → db.schema ≡ vault_schema external → db.schema ≡ vault_schema also → external ≡ also
+one_edition false false db has is = refl
+one_edition true true db has is = refl
+one_edition false true db has is = absurd (let n : 11 ≡ 12 = two_editions Third Fourth db has is in omega (arith, n))
+one_edition true false db has is = absurd (let n : 12 ≡ 11 = two_editions Fourth Third db has is in omega (arith, n))
+
+pub same_vault : (db : Database) (v w : Vault) → Spells db v → Spells db w → v ≡ w
+same_vault db v w it is =
+    let same : w.external ≡ v.external = sym (one_edition v.external w.external db it.schema is.schema) in
+    same_vault_as (edition_of v.external) db v w it (subst (λ external. SpellsAs (edition_of external) db w) same is)

@@ -14,7 +14,7 @@ use Rattle.vault_core_model.specs.declared.records.Note.{Note}
 use Rattle.vault_core_model.specs.Order.{IsAscending, name_cmp}
 use Rattle.vault_core_model.specs.Vault.{Vault, config_in}
 use Rattle.vault_audit_model.specs.declared.schema.SchemaVersion.{SchemaVersion}
-use Rattle.vault_audit_model.specs.SchemaVersions.{number_of}
+use Rattle.vault_audit_model.specs.SchemaVersions.{number_of, is_external}
 use Rattle.vault_audit_model.specs.declared.rows.MetaRow.{MetaRow}
 use Rattle.vault_audit_model.specs.Limits.{IsMetaRow, IsPlainName}
 use Rattle.vault_audit_model.specs.Relations.{AreCallers, AreEntries, AreContents, AreSettings, AreNotes, AreTenuresOf, AreBuckets, IsPast, IsWithin}
@@ -52,15 +52,15 @@ joined (c ∷ cs) [] ts = []
 joined (c ∷ cs) (s ∷ ss) [] = []
 joined (c ∷ cs) (s ∷ ss) (t ∷ ts) = put_together c s t ∷ joined cs ss ts
 
--- these histories in these buckets, at the moment and with the moves that meta states
+-- these histories in these buckets, at the moment and with the moves that meta states, of which their tenures speak
 abbrev pub versions_at : MetaRow → List Bucket → List History → Vault
 versions_at m buckets hs =
     record { external = false; last = m.last; departments = []; callers = []; buckets = buckets; notes = []; histories = hs; moves = m.moves }
 
--- the vault of these parts
-abbrev pub vault_of : MetaRow → List (List ℕ) → List Caller → List Bucket → List Note → List History → List History → List History → Vault
-vault_of m departments callers buckets notes contents settings tenures = record {
-  external = false;
+-- the vault of these parts, in tables of that schema version
+abbrev pub vault_of : SchemaVersion → MetaRow → List (List ℕ) → List Caller → List Bucket → List Note → List History → List History → List History → Vault
+vault_of ed m departments callers buckets notes contents settings tenures = record {
+  external = is_external ed;
   last = m.last;
   departments = departments;
   callers = callers;
@@ -81,10 +81,10 @@ pub record AreParts (ed : SchemaVersion) (db : Database) (m : MetaRow) (departme
   pub departments_are : AreDepartments db departments
   pub callers_are : AreCallers db callers
   pub buckets_are : AreBuckets ed db buckets
-  pub entries_are : AreEntries db entries
-  pub contents_are : AreContents db entries contents
+  pub entries_are : AreEntries (is_external ed) db entries
+  pub contents_are : AreContents ed db entries contents
   pub settings_are : AreSettings db entries settings
-  pub notes_are : AreNotes db entries notes
+  pub notes_are : AreNotes (is_external ed) db entries notes
   pub tenures_are : (entries_in tenures ≡ entries) × AreTenuresOf ed db (versions_at m buckets tenures)
   pub past : AllByRecursion (IsPast m.last) entries
   pub employed : AllByRecursion (WorksFor departments) callers

@@ -9,7 +9,7 @@ use Rattle.sqlite_value.specs.Order.{column, value_cmp}
 use Rattle.sqlite_rules.specs.Lists.{Has}
 use Rattle.sqlite.specs.Effect.{Database}
 use Rattle.vault_audit_model.specs.declared.schema.SchemaVersion.{SchemaVersion}
-use Rattle.vault_audit_model.specs.Spells.{tenure_rows_in}
+use Rattle.vault_audit_model.specs.Spells.{tenure_rows_in, external_rows_in}
 use Rattle.vault_audit_model.specs.Tables.{departments_tree, callers_tree, buckets_tree, rules_tree, entries_tree, contents_tree, settings_tree, intake_tree, heads_tree}
 
 -- each of the first values that is not NULL is one of the second
@@ -36,4 +36,5 @@ pub record AreTied (n : SchemaVersion) (db : Database) : Type 0 where
   pub entries_of_settings : HaveTiedParents (map (λ r. column r 1) (db.trees settings_tree)) (map (λ r. column r 0) (db.trees entries_tree))
   pub entries_of_notes : HaveTiedParents (map (λ r. column r 10) (db.trees intake_tree)) (map (λ r. column r 0) (db.trees entries_tree))
   pub entries_of_heads : HaveTiedParents (map (λ r. column r 3) (db.trees heads_tree)) (map (λ r. column r 0) (db.trees entries_tree))
+  pub entries_of_external : HaveTiedParents (map (λ r. column r 0) (external_rows_in n db)) (map (λ r. column r 0) (db.trees entries_tree))
   pub departments_of_tenures : HaveParents (map (λ r. column r 2) (tenure_rows_in n db)) (map (λ r. column r 1) (db.trees departments_tree))

@@ -17,14 +17,16 @@ ghost use Rattle.vault_core_model.specs.declared.records.Entry.{Entry};
 ghost use Rattle.vault_core_model.specs.Vault.{Vault, config_in};
 ghost use Rattle.vault_audit_model.specs.declared.schema.SchemaVersion.{SchemaVersion};
 ghost use Rattle.vault_audit_model.specs.Rows.{caller_row, bucket_row, entry_row, caller_columns, bucket_columns, entry_columns};
-ghost use Rattle.vault_audit_model.specs.Spells.{SpellsAs, bucket_of, tenure_rows_of, tenure_rows_in};
+ghost use Rattle.vault_audit_model.specs.Spells.{SpellsAs, Spells, bucket_of, tenure_rows_of, tenure_rows_in};
 ghost use Rattle.vault_audit_model.specs.Tables.{schema_of, departments_tree, callers_tree, buckets_tree, entries_tree};
 ghost use Rattle.vault_audit_model.specs.Tenures.{IsUnmovedIn};
 ghost use Rattle.vault_audit_laws.specs.Ties.{AreTied, is_among};
 
-/// The rows of a database of a schema version spell at most one vault.
+/// The rows of a database of a schema version spell at most one vault, and so do those of a vault's file, which registers
+/// contents that are kept outside or does not.
 pub fn one_vault()
-    ensures { (n : SchemaVersion) (db : Database) (v w : Vault) → SpellsAs n db v → SpellsAs n db w → v ≡ w }
+    ensures versioned { (n : SchemaVersion) (db : Database) (v w : Vault) → SpellsAs n db v → SpellsAs n db w → v ≡ w }
+    ensures filed { (db : Database) (v w : Vault) → Spells db v → Spells db w → v ≡ w }
 {}
 
 /// In a database that obeys the schema of a vault, what a row names stands in its table.

@@ -18,5 +18,5 @@ pub fn parts_make_the_vault()
     ensures { (ed : SchemaVersion) (db : Database) (m : MetaRow) (departments : List (List ℕ)) (callers : List Caller) (buckets : List Bucket)
         (notes : List Note) (entries : List Entry) (contents settings tenures : List History) →
         AreParts ed db m departments callers buckets notes entries contents settings tenures →
-        SpellsAs ed db (vault_of m departments callers buckets notes contents settings tenures) }
+        SpellsAs ed db (vault_of ed m departments callers buckets notes contents settings tenures) }
 {}

@@ -1,5 +1,5 @@
 -- The walk over the entries by their ids.
-use Rattle.std.proofs.Common.{◌<◌, ◌≡◌, ◌+◌, pos, List, [], ◌∷◌, drop, length, map, true, false, Some, None, Less, IsPermutation, IsSorted, refl, sym, ap, ◌∙◌, arith, add-zero}
+use Rattle.std.proofs.Common.{◌<◌, ◌≡◌, ◌+◌, pos, List, [], ◌∷◌, drop, length, map, Bool, true, false, Some, None, Less, IsPermutation, IsSorted, refl, sym, ap, ◌∙◌, arith, add-zero}
 use Rattle.std.specs.List.{AllByRecursion}
 use Rattle.sqlite_value.specs.Order.{Row}
 use Rattle.sqlite_value.proofs.OrderLemmas.{value_cmp-Int}
@@ -28,11 +28,11 @@ Fit = AllFit entry_row ComesNext with_entry
 abbrev end_of : NumberPass → List Entry → NumberPass
 end_of = after entry_row ComesNext with_entry
 
-numbered : (p : NumberPass) (es : List Entry) → Fit p es → AreNumbered p.next p.low es
+numbered : (p : NumberPass) (es : List Entry) → Fit p es → AreNumbered p.external p.next p.low es
 numbered p [] fit = tt
 numbered p (e ∷ es) fit = (fit.0, numbered (with_entry p e) es fit.1)
 
-fitting : (p : NumberPass) (es : List Entry) → AreNumbered p.next p.low es → Fit p es
+fitting : (p : NumberPass) (es : List Entry) → AreNumbered p.external p.next p.low es → Fit p es
 fitting p [] are = tt
 fitting p (e ∷ es) are = (are.0, fitting (with_entry p e) es are.1)
 
@@ -59,20 +59,23 @@ pub answers : (n : SchemaVersion) (a b : State) → a.now.schema ≡ schema_of n
 answers n a b schema rows shown =
     walked numbers_walk a b (schema_of n) schema (numbers_walk_plain n) (numbers_walk_is n).1 entries_tree 0 (drop 1 (terms_of entries)) _ (numbers_walk_is n).0 refl rows shown
 
-abbrev start : NumberPass
-start = record { next = 1; low = 0 }
+abbrev start : Bool → NumberPass
+start external = record { external = external; next = 1; low = 0 }
 
 -- the rows of numbered entries rise
-pub rising : (es : List Entry) → AreNumbered 1 0 es → IsAscending (λ a b. first_cmp a b ≡ Less) (map entry_row es)
-rising es are = rise start es (fitting start es are)
+pub rising : (external : Bool) (es : List Entry) → AreNumbered external 1 0 es → IsAscending (λ a b. first_cmp a b ≡ Less) (map entry_row es)
+rising external es are = rise (start external) es (fitting (start external) es are)
 
-module _ (n : SchemaVersion) (old new : State) (has : old.now.schema ≡ schema_of n) (same : IsUnchanged old new) (r : NumberPass) where
-  pub numbers_yes : Walked (Takes entry_row ComesNext with_entry) (Refuses entry_row ComesNext with_entry) numbers_walk old new start r true → AreEntriesUpTo new.now (Some r.next)
+module _ (n : SchemaVersion) (old new : State) (has : old.now.schema ≡ schema_of n) (same : IsUnchanged old new) (external : Bool) (r : NumberPass) where
+  abbrev begun : NumberPass
+  begun = start external
+
+  pub numbers_yes : Walked (Takes entry_row ComesNext with_entry) (Refuses entry_row ComesNext with_entry) numbers_walk old new begun r true → AreEntriesUpTo external new.now (Some r.next)
   numbers_yes h =
-      let it = walk_yes entry_row ComesNext with_entry same_entry (schema_of n) numbers_walk _ _ (numbers_walk_is n).0 source (answers n) old new has same start r h in
-      let next : r.next ≡ (end_of start it.0).next = ap (λ (p : NumberPass). p.next) it.3 in
-      let count = counted start it.0 in
-      (it.0, it.1, numbered start it.0 it.2, omega (arith, next, count))
+      let it = walk_yes entry_row ComesNext with_entry same_entry (schema_of n) numbers_walk _ _ (numbers_walk_is n).0 source (answers n) old new has same begun r h in
+      let next : r.next ≡ (end_of begun it.0).next = ap (λ (p : NumberPass). p.next) it.3 in
+      let count = counted begun it.0 in
+      (it.0, it.1, numbered begun it.0 it.2, omega (arith, next, count))
 
-  pub numbers_no : Walked (Takes entry_row ComesNext with_entry) (Refuses entry_row ComesNext with_entry) numbers_walk old new start r false → AreEntriesUpTo new.now None
-  numbers_no h es are numbers = walk_no entry_row ComesNext with_entry same_entry (schema_of n) numbers_walk _ _ (numbers_walk_is n).0 source (answers n) old new has same start r (rise start) h es are (fitting start es numbers)
+  pub numbers_no : Walked (Takes entry_row ComesNext with_entry) (Refuses entry_row ComesNext with_entry) numbers_walk old new begun r false → AreEntriesUpTo external new.now None
+  numbers_no h es are numbers = walk_no entry_row ComesNext with_entry same_entry (schema_of n) numbers_walk _ _ (numbers_walk_is n).0 source (answers n) old new has same begun r (rise begun) h es are (fitting begun es numbers)

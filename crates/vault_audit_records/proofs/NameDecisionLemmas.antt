@@ -27,7 +27,7 @@ use Rattle.vault_audit_records.proofs.NameRiseLemmas.{ascending, in_limits, rise
 use Rattle.vault_audit_records.proofs.NameRowLemmas.{same_name}
 use Rattle.vault_audit_records.proofs.NameTextLemmas.{callers_walk, callers_walk_is, callers_walk_plain, departments_walk, departments_walk_is, departments_walk_plain}
 use Rattle.vault_audit_model.specs.declared.schema.SchemaVersion.{SchemaVersion}
-use Rattle.vault_audit_model.specs.declared.schema.SchemaVersion.TheVariants.{First, Second, Third}
+use Rattle.vault_audit_model.specs.declared.schema.SchemaVersion.TheVariants.{First, Second, Third, Fourth}
 
 -- ---- callers
 
@@ -56,6 +56,8 @@ departments_answer Second a b schema rows shown =
     walked (departments_walk Second) a b (schema_of Second) schema (departments_walk_plain Second) (departments_walk_is Second).1 departments_tree 1 (drop 1 (department_terms Second)) _ (departments_walk_is Second).0 refl rows shown
 departments_answer Third a b schema rows shown =
     walked (departments_walk Third) a b (schema_of Third) schema (departments_walk_plain Third) (departments_walk_is Third).1 departments_tree 1 (drop 1 (department_terms Third)) _ (departments_walk_is Third).0 refl rows shown
+departments_answer Fourth a b schema rows shown =
+    walked (departments_walk Fourth) a b (schema_of Fourth) schema (departments_walk_plain Fourth) (departments_walk_is Fourth).1 departments_tree 1 (drop 1 (department_terms Fourth)) _ (departments_walk_is Fourth).0 refl rows shown
 
 alike : (before : Option (List ℕ)) (x y : DepartmentRow) → department_row x ≡ department_row y → with_department before x ≡ with_department before y
 alike before x y e = ap Some (same_name x y e)

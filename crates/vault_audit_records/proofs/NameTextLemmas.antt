@@ -10,7 +10,7 @@ use Rattle.vault_audit_schema.specs.Texts.{names_of, select_text, terms_of}
 use Rattle.vault_audit_rows.proofs.ScanLemmas.{walk_of}
 use Rattle.vault_audit_rows.specs.Health.{Asks}
 use Rattle.vault_audit_model.specs.declared.schema.SchemaVersion.{SchemaVersion}
-use Rattle.vault_audit_model.specs.declared.schema.SchemaVersion.TheVariants.{First, Second, Third}
+use Rattle.vault_audit_model.specs.declared.schema.SchemaVersion.TheVariants.{First, Second, Third, Fourth}
 
 abbrev pub callers_walk : List ℕ
 callers_walk = select_text callers (codes " ORDER BY name")
@@ -38,15 +38,18 @@ unfolding understood everything
 departments_walk_is First = (refl, refl)
 departments_walk_is Second = (refl, refl)
 departments_walk_is Third = (refl, refl)
+departments_walk_is Fourth = (refl, refl)
 
 pub departments_walk_plain : (n : SchemaVersion) → IsPlain (understood (schema_of n) (departments_walk n))
 unfolding understood everything
 departments_walk_plain First = (refl, refl)
 departments_walk_plain Second = (refl, refl)
 departments_walk_plain Third = (refl, refl)
+departments_walk_plain Fourth = (refl, refl)
 
 pub departments_walk_asks : (n : SchemaVersion) → Asks (schema_of n) (departments_walk n)
 unfolding understood everything
 departments_walk_asks First = record { is = (omega (arith), refl, (refl, refl, refl, refl)); unlisted = refl }
 departments_walk_asks Second = record { is = (omega (arith), refl, (refl, refl, refl, refl)); unlisted = refl }
 departments_walk_asks Third = record { is = (omega (arith), refl, (refl, refl, refl, refl)); unlisted = refl }
+departments_walk_asks Fourth = record { is = (omega (arith), refl, (refl, refl, refl, refl)); unlisted = refl }

@@ -37,7 +37,7 @@ use Rattle.vault_audit_records.proofs.WholeWalkLemmas.{pass_only}
 use Rattle.vault_audit_records.proofs.RuleGroupLemmas.{start, make, ascend, rows_fit, after_none, rules_fit, rules_owned}
 use Rattle.vault_audit_records.proofs.RuleTextLemmas.{buckets_walk, buckets_walk_is, buckets_walk_plain, rules_walk, rules_walk_is, rules_walk_plain, buckets_beside, buckets_beside_is}
 use Rattle.vault_audit_model.specs.declared.schema.SchemaVersion.{SchemaVersion}
-use Rattle.vault_audit_model.specs.declared.schema.SchemaVersion.TheVariants.{First, Second, Third}
+use Rattle.vault_audit_model.specs.declared.schema.SchemaVersion.TheVariants.{First, Second, Third, Fourth}
 use Rattle.vault_audit_model.proofs.ListLemmas.{all_as}
 
 -- ---- the walks
@@ -58,6 +58,8 @@ rule_answers Second a b schema rows shown =
     pair_walked (rules_walk Second) a b (schema_of Second) schema (rules_walk_plain Second) (rules_walk_is Second).1 rules_tree 1 2 (drop 2 (rule_terms Second)) _ (rules_walk_is Second).0 refl rows shown
 rule_answers Third a b schema rows shown =
     pair_walked (rules_walk Third) a b (schema_of Third) schema (rules_walk_plain Third) (rules_walk_is Third).1 rules_tree 1 2 (drop 2 (rule_terms Third)) _ (rules_walk_is Third).0 refl rows shown
+rule_answers Fourth a b schema rows shown =
+    pair_walked (rules_walk Fourth) a b (schema_of Fourth) schema (rules_walk_plain Fourth) (rules_walk_is Fourth).1 rules_tree 1 2 (drop 2 (rule_terms Fourth)) _ (rules_walk_is Fourth).0 refl rows shown
 
 module _ (n : SchemaVersion) (old new : State) (has : old.now.schema ≡ schema_of n) (same : IsUnchanged old new) where
   pub buckets_stated : (r : Option (List ℕ)) (b : Bool) → Walked (Takes bucket_row IsNextBucket with_bucket) (Refuses bucket_row IsNextBucket with_bucket) buckets_walk old new None r b → DecidesBucketRows new.now b

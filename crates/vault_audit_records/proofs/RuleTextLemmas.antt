@@ -7,7 +7,7 @@ use Rattle.sqlite.proofs.Callers.{IsPlain, command_of}
 use Rattle.sqlite_sql.specs.Term.{lit}
 use Rattle.sqlite_value.specs.declared.value.Value.TheVariants.{Int}
 use Rattle.vault_audit_model.specs.declared.schema.SchemaVersion.{SchemaVersion}
-use Rattle.vault_audit_model.specs.declared.schema.SchemaVersion.TheVariants.{First, Second, Third}
+use Rattle.vault_audit_model.specs.declared.schema.SchemaVersion.TheVariants.{First, Second, Third, Fourth}
 use Rattle.vault_audit_model.specs.Queries.{Selects}
 use Rattle.vault_audit_model.specs.Tables.{schema_of, buckets, buckets_tree, rules, rules_tree}
 use Rattle.vault_audit_schema.specs.Selects.{rules_select, rule_terms}
@@ -43,18 +43,21 @@ unfolding understood everything
 rules_walk_is First = (refl, refl)
 rules_walk_is Second = (refl, refl)
 rules_walk_is Third = (refl, refl)
+rules_walk_is Fourth = (refl, refl)
 
 pub rules_walk_plain : (n : SchemaVersion) → IsPlain (understood (schema_of n) (rules_walk n))
 unfolding understood everything
 rules_walk_plain First = (refl, refl)
 rules_walk_plain Second = (refl, refl)
 rules_walk_plain Third = (refl, refl)
+rules_walk_plain Fourth = (refl, refl)
 
 pub rules_walk_asks : (n : SchemaVersion) → Asks (schema_of n) (rules_walk n)
 unfolding understood everything
 rules_walk_asks First = record { is = (omega (arith), refl, (refl, refl, refl, refl)); unlisted = refl }
 rules_walk_asks Second = record { is = (omega (arith), refl, (refl, refl, refl, refl)); unlisted = refl }
 rules_walk_asks Third = record { is = (omega (arith), refl, (refl, refl, refl, refl)); unlisted = refl }
+rules_walk_asks Fourth = record { is = (omega (arith), refl, (refl, refl, refl, refl)); unlisted = refl }
 
 abbrev pub buckets_beside : List ℕ
 buckets_beside = codes "SELECT 0, b.name FROM rules AS r LEFT JOIN buckets AS b ON b.name = r.bucket"

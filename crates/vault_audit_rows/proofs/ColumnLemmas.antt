@@ -2,9 +2,10 @@
 use Rattle.std.proofs.Common.{◌≡◌, ◌≢◌, ◌<◌, ◌≤◌, ◌^◌, ℕ, Bool, true, false, List, length, Option, Some, None, IfSome, arith, [], ◌∷◌, is_none, nat_lt, IsTrue, refl}
 use Rattle.std.proofs.lemmas.Bool.Decides.{nat_tests}
 use Rattle.sqlite_value.specs.declared.value.Value.{Value}
-use Rattle.vault_base.specs.Limits.{most_content, most_rules}
+use Rattle.vault_base.specs.Limits.{most_rules}
 use Rattle.vault_core_model.proofs.RightLemmas.{is_below}
 use Rattle.vault_core_model.specs.Rights.{rights_number}
+use Rattle.vault_core_model.specs.Sound.{most_bytes}
 use Rattle.vault_core_model.specs.declared.rights.Rights.{Rights}
 use Rattle.vault_core_model.specs.declared.records.Author.{Author}
 use Rattle.vault_core_model.specs.declared.records.Author.TheVariants as author
@@ -19,16 +20,23 @@ pub no_author : (v : Value) → ((b : Bool) → v ≢ flag b) → (a : Author) �
 no_author v none (author.Caller name) is = none false is
 no_author v none (author.Rule id) is = none true is
 
-pub sized_within : (marker : Bool) (size : ℕ) (digest : Option (List ℕ)) → IsSizedAs marker size digest → size ≤ most_content
-sized_within true size digest h = omega (arith, h.0)
-sized_within false size None h = elim h [ ]
-sized_within false size (Some d) h = h.0
+pub sized_within : (marker external : Bool) (size : ℕ) (digest : Option (List ℕ)) → IsSizedAs marker external size digest → size ≤ most_bytes external None
+sized_within true external size digest h = omega (arith, h.0)
+sized_within false external size None h = elim h [ ]
+sized_within false external size (Some d) h = h.0
 
-pub sized_digest : (marker : Bool) (size : ℕ) (digest : Option (List ℕ)) → IsSizedAs marker size digest → IfSome digest (λ d. length d ≡ 32)
-sized_digest true size None h = tt
-sized_digest true size (Some d) h = absurd (let e = h.1 in cc)
-sized_digest false size None h = elim h [ ]
-sized_digest false size (Some d) h = h.1
+pub sized_digest : (marker external : Bool) (size : ℕ) (digest : Option (List ℕ)) → IsSizedAs marker external size digest → IfSome digest (λ d. length d ≡ 32)
+sized_digest true external size None h = tt
+sized_digest true external size (Some d) h = absurd (let e = h.1 in cc)
+sized_digest false external size None h = elim h [ ]
+sized_digest false external size (Some d) h = h.1
+
+-- a vault that registers contents that are kept outside has the wider limit
+pub sized_wider : (marker external : Bool) (size : ℕ) (digest : Option (List ℕ)) → IsSizedAs marker external size digest → IsSizedAs marker true size digest
+sized_wider true external size digest h = h
+sized_wider false external size None h = elim h [ ]
+sized_wider false true size (Some d) h = h
+sized_wider false false size (Some d) h = (omega (arith, h.0), h.1)
 
 pub rights_fit : (r : Rights) → rights_number r < 2 ^ 32
 rights_fit r = omega (arith, is_below r)

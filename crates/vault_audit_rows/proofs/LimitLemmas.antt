@@ -7,23 +7,24 @@ use Rattle.std.proofs.lemmas.Slice.Eq.{bytes_eq-Decides}
 use Rattle.vault_base.specs.declared.content.Content.{Content}
 use Rattle.vault_base.specs.declared.content.Content.TheVariants.{Inside, External}
 use Rattle.vault_base.specs.Days.{last_moment}
-use Rattle.vault_base.specs.Limits.{most_content, most_moves, most_settings}
+use Rattle.vault_base.specs.Limits.{most_content, most_external, most_moves, most_settings}
 use Rattle.vault_base.specs.Name.{is_version_id}
 use Rattle.vault_rules.specs.declared.rule.Rule.{Rule}
-use Rattle.vault_core_model.specs.Sound.{LiesBetween, IsInTime, FollowOn, end_of, AreTenures, HasTenuresAs, HasTenures, HasItsContent, IsWholeAs, IsWhole, AreIdsFrom, AreInOrder}
+use Rattle.vault_core_model.specs.Sound.{most_bytes, LiesBetween, IsInTime, FollowOn, end_of, AreTenures, HasTenuresAs, HasTenures, HasItsContent, IsWholeAs, IsWhole, AreIdsFrom, AreInOrder}
 use Rattle.vault_core_model.specs.Vault.{Vault, has_department}
 use Rattle.vault_core_model.specs.declared.records.Bucket.{Bucket}
 use Rattle.vault_core_model.specs.declared.records.Entry.{Entry}
 use Rattle.vault_core_model.specs.declared.records.History.{History}
+use Rattle.vault_core_model.specs.declared.records.Note.{Note}
 use Rattle.vault_core_model.specs.declared.records.Removal.{Removal}
 use Rattle.vault_core_model.specs.declared.records.Setting.{Setting}
 use Rattle.vault_core_model.specs.declared.records.Tenure.{Tenure}
-use Rattle.vault_audit_model.specs.Limits.{IsPlainName, IsBucketName, IsBucket, IsRule, AreRules, IsHistory, IsSetting, IsTenure, IsRuleRow, IsContentRow, IsSettingRow, IsTenureRow}
+use Rattle.vault_audit_model.specs.Limits.{IsPlainName, IsBucketName, IsBucket, IsRule, AreRules, IsEntry, IsNote, IsHistory, IsSetting, IsTenure, IsRuleRow, IsContentRow, IsSettingRow, IsTenureRow, IsExternalRow}
 use Rattle.vault_audit_model.specs.Relations.{AreTenuresInLimits, AreNumbered}
 use Rattle.vault_audit_model.specs.declared.schema.SchemaVersion.{SchemaVersion}
-use Rattle.vault_audit_model.specs.Spells.{IsKeptAs, rules_from, rules_if_given, rules_in, content_if_given, contents_in, settings_from, settings_in, tenures_in, tenure_at}
+use Rattle.vault_audit_model.specs.Spells.{IsKeptAs, rules_from, rules_if_given, rules_in, content_if_given, contents_in, external_if_given, external_in, settings_from, settings_in, tenures_in, tenure_at}
 use Rattle.vault_audit_model.proofs.ListLemmas.{all_as, all_both}
-use Rattle.vault_audit_rows.proofs.ColumnLemmas.{few}
+use Rattle.vault_audit_rows.proofs.ColumnLemmas.{few, sized_wider}
 
 -- ---- lists
 
@@ -73,7 +74,12 @@ given_content id None is small = tt
 given_content id (Some (Inside bytes)) is small = (record { id = is; size = small bytes refl }, tt)
 given_content id (Some (External r)) is small = tt
 
-content_rows : (external : Bool) (h : History) → IsHistory h × IsWhole external h → AllByRecursion IsContentRow (contents_in h)
+given_external : (id : ℕ) (content : Option Content) → IsTrue (is_version_id id) → AllByRecursion IsExternalRow (external_if_given id content)
+given_external id None is = tt
+given_external id (Some (Inside bytes)) is = tt
+given_external id (Some (External r)) is = (is, tt)
+
+content_rows : (external : Bool) (h : History) → IsHistory external h × IsWhole external h → AllByRecursion IsContentRow (contents_in h)
 content_rows external h (is, whole) =
     given_content h.entry.id h.content is.entry.id (λ bytes same. sized h.entry.marker external h.entry h.entry.removal bytes h.settings refl (subst (λ c. IsWholeAs h.entry.marker external h.entry c h.settings) same whole))
 
@@ -89,7 +95,7 @@ placed_settings id place [] is low high all = tt
 placed_settings id place (s ∷ ss) is low high all =
     (record { id = is; place = (low, omega (arith, high)); setting = all.0 }, placed_settings id (place + 1) ss is (omega (arith, low)) (omega (arith, high)) all.1)
 
-setting_rows : (external : Bool) (h : History) → IsHistory h × IsWhole external h → AllByRecursion IsSettingRow (settings_in h)
+setting_rows : (external : Bool) (h : History) → IsHistory external h × IsWhole external h → AllByRecursion IsSettingRow (settings_in h)
 setting_rows external h (is, whole) =
     let count = most_of external h whole in
     placed_settings h.entry.id 1 h.settings is.entry.id (omega arith) (omega (arith, count)) is.settings
@@ -129,18 +135,32 @@ within_as : (marker : Bool) (v : Vault) (h : History) → AllByRecursion IsPlain
 within_as true v h names low few has = subst (AllByRecursion IsTenure) (sym has) tt
 within_as false v h names low few has = within v h.entry h.tenures names low few has.0 has.1
 
-tenure_rows : (h : History) → IsHistory h × AreTenuresInLimits h → AllByRecursion IsTenureRow (tenures_in h)
-tenure_rows h (is, are) = all_mapped IsTenureRow (tenure_at h.entry.id) h.tenures (all_as (λ t its. record { id = is.entry.id; tenure = its }) h.tenures are)
+tenure_rows : (external : Bool) (h : History) → IsHistory external h × AreTenuresInLimits h → AllByRecursion IsTenureRow (tenures_in h)
+tenure_rows external h (is, are) = all_mapped IsTenureRow (tenure_at h.entry.id) h.tenures (all_as (λ t its. record { id = is.entry.id; tenure = its }) h.tenures are)
 
-pub numbers_of : (next low last : ℕ) (hs : List History) → AreIdsFrom next hs → AreInOrder low last hs → AllByRecursion IsHistory hs → AreNumbered next low (map (λ h. h.entry) hs)
-numbers_of next low last [] ids order all = tt
-numbers_of next low last (h ∷ hs) ids order all = ((all.0.entry, (ids.0, order.0)), numbers_of (next + 1) h.entry.admitted last hs ids.1 order.1 all.1)
+pub numbers_of : (external : Bool) (next low last : ℕ) (hs : List History) → AreIdsFrom next hs → AreInOrder low last hs → AllByRecursion (IsHistory external) hs → AreNumbered external next low (map (λ h. h.entry) hs)
+numbers_of external next low last [] ids order all = tt
+numbers_of external next low last (h ∷ hs) ids order all = ((all.0.entry, (ids.0, order.0)), numbers_of external (next + 1) h.entry.admitted last hs ids.1 order.1 all.1)
+
+-- ---- the wider limits of a vault that registers contents that are kept outside
+
+pub entry_wider : (external : Bool) (e : Entry) → IsEntry external e → IsEntry true e
+entry_wider external e is =
+    record { id = is.id; bucket = is.bucket; key = is.key; sized = sized_wider e.marker external e.size e.digest is.sized; admitted = is.admitted; by = is.by; removal = is.removal }
+
+size_wider : (external : Bool) (size : ℕ) → size ≤ most_bytes external None → size ≤ most_external
+size_wider true size low = low
+size_wider false size low = omega (arith, low)
+
+pub note_wider : (external : Bool) (n : Note) → IsNote external n → IsNote true n
+note_wider external n is =
+    record { bucket = is.bucket; batch = is.batch; line = is.line; key = is.key; size = size_wider external n.size is.size; digest = is.digest; retention = is.retention; id = is.id }
 
 -- ---- of a vault that tables keep
 
 module _ {n : SchemaVersion} (v : Vault) (kept : IsKeptAs n v) where
-  pub wholes : AllByRecursion (λ h. IsHistory h × IsWhole v.external h) v.histories
-  wholes = all_both IsHistory (IsWhole v.external) v.histories kept.limits.histories kept.sound.whole
+  pub wholes : AllByRecursion (λ h. IsHistory v.external h × IsWhole v.external h) v.histories
+  wholes = all_both (IsHistory v.external) (IsWhole v.external) v.histories kept.limits.histories kept.sound.whole
 
   pub tenured : AllByRecursion AreTenuresInLimits v.histories
   tenured =
@@ -151,11 +171,14 @@ module _ {n : SchemaVersion} (v : Vault) (kept : IsKeptAs n v) where
   pub contents_limited : AllByRecursion IsContentRow (flat_map contents_in v.histories)
   contents_limited = all_flat IsContentRow contents_in v.histories (all_as (content_rows v.external) v.histories wholes)
 
+  pub external_limited : AllByRecursion IsExternalRow (flat_map external_in v.histories)
+  external_limited = all_flat IsExternalRow external_in v.histories (all_as (λ (h : History) (is : IsHistory v.external h). given_external h.entry.id h.content is.entry.id) v.histories kept.limits.histories)
+
   pub settings_limited : AllByRecursion (λ h. AllByRecursion IsSettingRow (settings_in h)) v.histories
   settings_limited = all_as (setting_rows v.external) v.histories wholes
 
   pub tenures_limited : AllByRecursion (λ h. AllByRecursion IsTenureRow (tenures_in h)) v.histories
-  tenures_limited = all_as tenure_rows v.histories (all_both IsHistory AreTenuresInLimits v.histories kept.limits.histories tenured)
+  tenures_limited = all_as (tenure_rows v.external) v.histories (all_both (IsHistory v.external) AreTenuresInLimits v.histories kept.limits.histories tenured)
 
   pub rules_limited : AllByRecursion (λ b. AllByRecursion IsRuleRow (rules_in b)) v.buckets
   rules_limited = all_as (λ (b : Bucket) (is : IsBucket b). given_rules b.name b.rules is.name is.rules) v.buckets kept.limits.buckets

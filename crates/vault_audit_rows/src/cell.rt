@@ -102,6 +102,17 @@ pub fn number_within(row: &Row, at: usize, least: u32, most: u32) -> Option<u32>
     Some(n)
 }
 
+/// The number in a column, where it is this at most.
+pub fn number_up_to(row: &Row, at: usize, most: u64) -> Option<u64>
+    ensures { MatchOption result ((n : ℕ) → n ≤ most → column row.now at ≢ number n) (λ n. (column row.now at ≡ number n) × (n ≤ most)) }
+{
+    let n = number(row, at)?;
+    if most < n {
+        return None;
+    }
+    Some(n)
+}
+
 /// The number in a column, where it is below 2^32, or NULL.
 pub fn small_number_or_null(row: &Row, at: usize) -> Option<Option<u32>>
     ensures { MatchOption result ((o : Option ℕ) → IfSome o (λ n. n < 2 ^ 32) → column row.now at ≢ number_or_null o) (λ o. column row.now at ≡ number_or_null o) }

@@ -1,5 +1,5 @@
 //! Rows of the tables, each read as the record that it states.
-ghost use Rattle.std.specs.Prelude.{◌≡◌, ◌≢◌, IfOk, IfErr, MatchOption};
+ghost use Rattle.std.specs.Prelude.{◌≡◌, ◌≢◌, ◌↔◌, ℕ, IsTrue, IfOk, IfErr, MatchOption};
 ghost use Rattle.sqlite_value.specs.Order.{column};
 ghost use Rattle.vault_tally.specs.declared.row.Row.{Row as SumsOf};
 ghost use Rattle.vault_audit_model.specs.Values.{number as value};
@@ -14,8 +14,8 @@ ghost use Rattle.vault_audit_model.specs.declared.rows.ContentRow.{ContentRow};
 ghost use Rattle.vault_audit_model.specs.declared.rows.SettingRow.{SettingRow};
 ghost use Rattle.vault_audit_model.specs.declared.rows.HeadRow.{HeadRow};
 ghost use Rattle.vault_audit_model.specs.declared.rows.TenureRow.{TenureRow};
-ghost use Rattle.vault_audit_model.specs.Limits.{IsMetaRow, IsDepartmentRow, IsCaller, IsBucketRow, IsRuleRow, IsEntry, IsContentRow, IsSettingRow, IsNote, IsHeadRow, IsTenureRow};
-ghost use Rattle.vault_audit_model.specs.Rows.{meta_row, department_row, caller_row, bucket_row, rule_row, entry_row, content_row, setting_row, note_row, head_row, tenure_row};
+ghost use Rattle.vault_audit_model.specs.Limits.{IsMetaRow, IsDepartmentRow, IsCaller, IsBucketRow, IsRuleRow, IsEntry, IsContentRow, IsSettingRow, IsNote, IsHeadRow, IsTenureRow, IsExternalRow};
+ghost use Rattle.vault_audit_model.specs.Rows.{meta_row, department_row, caller_row, bucket_row, rule_row, entry_row, content_row, setting_row, note_row, head_row, tenure_row, external_row};
 
 use crate::cell::{content, digest, flag, flag_or_null, moment, number, number_within, version_id};
 use crate::misread::Misread;
@@ -25,24 +25,32 @@ use crate::name::{
 };
 use crate::several_columns::{
     Bounds, Extent, author, bounds_of, days_or_null, default, extent_of, noncurrent, removal,
-    retention, rights,
+    retention, rights, size,
 };
 use sqlite::Row;
 use vault_audit_model::rows::{
     BucketRow, ContentRow, DepartmentRow, HeadRow, MetaRow, RuleRow, SettingRow, TenureRow,
 };
 use vault_base::limits::{MOST_CONTENT, MOST_MOVES, MOST_RULES, MOST_SETTINGS};
+use vault_base::name::VersionId;
 use vault_core_model::records::{BucketConfig, Caller, Entry, Head, Note, Setting, Tenure};
 use vault_lock::lock::Lock;
 use vault_rules::rule::Rule;
 use vault_tally::row::Row as Sums;
+
+/// Whether the vault follows no list of commands: it is at place 0, and that is done.
+fn follows_no_list(row: &Row) -> bool
+    ensures { IsTrue result ↔ ((column row.now 5 ≡ value 0) × (column row.now 6 ≡ value 1)) }
+{
+    number(row, 5) == Some(0) && number(row, 6) == Some(1)
+}
 
 /// The row of `meta`, of any schema version.
 pub fn read_meta(row: &Row) -> Result<MetaRow, Misread>
     ensures ok { IfOk result (λ x. (row.now ≡ meta_row x) × IsMetaRow x) }
     ensures wrong { IfErr result (λ e. e ≡ Misread.Wrong → (x : MetaRow) → IsMetaRow x → row.now ≢ meta_row x) }
 {
-    if row.column_count() != 5 {
+    if row.column_count() != 7 {
         return Err(Misread::Wrong);
     }
     let one = number(row, 0).ok_or(Misread::Wrong)?;
@@ -50,7 +58,7 @@ pub fn read_meta(row: &Row) -> Result<MetaRow, Misread>
     let last = moment(row, 2).ok_or(Misread::Wrong)?;
     let next = number(row, 3).ok_or(Misread::Wrong)?;
     let moves = number_within(row, 4, 0, MOST_MOVES).ok_or(Misread::Wrong)?;
-    if one != 1 {
+    if one != 1 || !follows_no_list(row) {
         return Err(Misread::Wrong);
     }
     Ok(MetaRow {
@@ -170,12 +178,12 @@ pub fn read_rule(row: &Row) -> Result<RuleRow, Misread>
     })
 }
 
-/// A row of `entries`.
+/// A row of `entries`, of a vault that may register contents that are kept outside.
 #[tactic(auto, using(crate::proofs::RowLemmas::row_of_12))]
-pub fn read_entry(row: &Row) -> Result<Entry, Misread>
+pub fn read_entry(row: &Row, external: bool) -> Result<Entry, Misread>
     ensures row { IfOk result (λ x. row.now ≡ entry_row x) }
-    ensures fits { IfOk result IsEntry }
-    ensures wrong { IfErr result (λ e. e ≡ Misread.Wrong → (x : Entry) → IsEntry x → row.now ≢ entry_row x) }
+    ensures fits { IfOk result (IsEntry external) }
+    ensures wrong { IfErr result (λ e. e ≡ Misread.Wrong → (x : Entry) → IsEntry external x → row.now ≢ entry_row x) }
 {
     if row.column_count() != 12 {
         return Err(Misread::Wrong);
@@ -185,7 +193,7 @@ pub fn read_entry(row: &Row) -> Result<Entry, Misread>
         marker,
         size,
         digest,
-    } = extent_of(row, 3, 4, 5).ok_or(Misread::Wrong)?;
+    } = extent_of(row, external, 3, 4, 5).ok_or(Misread::Wrong)?;
     let admitted = moment(row, 6).ok_or(Misread::Wrong)?;
     let bucket = bucket_name(row, 1)?;
     let key = object_key(row, 2)?;
@@ -220,6 +228,17 @@ pub fn read_content(row: &Row) -> Result<ContentRow, Misread>
     Ok(ContentRow { id, content })
 }
 
+/// A row of `external`: the id of a version whose bytes are kept outside.
+pub fn read_external(row: &Row) -> Result<VersionId, Misread>
+    ensures ok { IfOk result (λ x. (row.now ≡ external_row x) × IsExternalRow x) }
+    ensures wrong { IfErr result (λ e. e ≡ Misread.Wrong → (x : ℕ) → IsExternalRow x → row.now ≢ external_row x) }
+{
+    if row.column_count() != 1 {
+        return Err(Misread::Wrong);
+    }
+    version_id(row, 0).ok_or(Misread::Wrong)
+}
+
 /// A row of `settings`.
 #[tactic(auto, using(crate::proofs::RowLemmas::row_of_8))]
 pub fn read_setting(row: &Row) -> Result<SettingRow, Misread>
@@ -248,18 +267,18 @@ pub fn read_setting(row: &Row) -> Result<SettingRow, Misread>
     })
 }
 
-/// A row of `intake`.
+/// A row of `intake`, of a vault that may register contents that are kept outside.
 #[tactic(auto, using(crate::proofs::RowLemmas::row_of_10))]
-pub fn read_note(row: &Row) -> Result<Note, Misread>
+pub fn read_note(row: &Row, external: bool) -> Result<Note, Misread>
     ensures row { IfOk result (λ x. row.now ≡ note_row x) }
-    ensures fits { IfOk result IsNote }
-    ensures wrong { IfErr result (λ e. e ≡ Misread.Wrong → (x : Note) → IsNote x → row.now ≢ note_row x) }
+    ensures fits { IfOk result (IsNote external) }
+    ensures wrong { IfErr result (λ e. e ≡ Misread.Wrong → (x : Note) → IsNote external x → row.now ≢ note_row x) }
 {
     if row.column_count() != 10 {
         return Err(Misread::Wrong);
     }
     let line = number_within(row, 2, 1, u32::MAX).ok_or(Misread::Wrong)?;
-    let size = number_within(row, 4, 0, MOST_CONTENT as u32).ok_or(Misread::Wrong)?;
+    let size = size(row, 4, external).ok_or(Misread::Wrong)?;
     let digest = digest(row, 5).ok_or(Misread::Wrong)?;
     let retention = retention(row, 6, 7).ok_or(Misread::Wrong)?;
     let hold = flag_or_null(row, 8).ok_or(Misread::Wrong)?;
@@ -272,7 +291,7 @@ pub fn read_note(row: &Row) -> Result<Note, Misread>
         batch,
         line,
         key,
-        size: u64::from(size),
+        size,
         digest,
         retention,
         hold,

@@ -2,7 +2,7 @@
 ghost use Rattle.std.specs.Prelude.{◌≡◌, ◌≢◌, ◌↔◌, ◌==◌, ◌/◌, ◌%◌, ◌<◌, ◌^◌, ◌≤◌, ℕ, Bool, List, length, Option, IsTrue, IfOk, IfErr, IfSome, MatchOption};
 ghost use Rattle.sqlite_value.specs.declared.value.Value.TheVariants.{Null, Text};
 ghost use Rattle.sqlite_value.specs.Order.{column};
-ghost use Rattle.vault_base.specs.Limits.{most_content};
+ghost use Rattle.vault_core_model.specs.Sound.{most_bytes};
 ghost use Rattle.vault_lock.specs.Retention.{is_period};
 ghost use Rattle.vault_lock.specs.declared.retention.Mode.{Mode};
 ghost use Rattle.vault_lock.specs.declared.retention.Period.{Period};
@@ -20,14 +20,13 @@ ghost use Rattle.vault_audit_model.specs.Values.{number, number_or_null, bytes_o
 ghost use Rattle.vault_audit_rows.specs.Cells.{ShowNoRemoval};
 
 use crate::cell::{
-    digest_or_null, flag, is_null, moment, number, number_within, small_number,
-    small_number_or_null,
+    digest_or_null, flag, is_null, moment, number, number_up_to, small_number, small_number_or_null,
 };
 use crate::misread::Misread;
 use crate::name::{caller_name, rule_id};
 use sqlite::Row;
 use vault_base::content::Digest;
-use vault_base::limits::MOST_CONTENT;
+use vault_base::limits::{MOST_CONTENT, MOST_EXTERNAL};
 use vault_core_model::records::{Author, Cause, Removal};
 use vault_core_model::rights::Rights;
 use vault_lock::retention::{Default, Mode, Period, Retention};
@@ -243,10 +242,28 @@ pub struct Extent {
     pub digest: Option<Digest>,
 }
 
+/// The greatest size of a version, whose content may be gone: a vault may register contents that are kept outside.
+fn greatest_size(external: bool) -> u64
+    ensures { result ≡ most_bytes external None }
+{
+    if external {
+        MOST_EXTERNAL
+    } else {
+        MOST_CONTENT as u64
+    }
+}
+
+/// The size of a version in a column.
+pub fn size(row: &Row, at: usize, external: bool) -> Option<u64>
+    ensures { MatchOption result ((n : ℕ) → n ≤ most_bytes external None → column row.now at ≢ number n) (λ n. (column row.now at ≡ number n) × (n ≤ most_bytes external None)) }
+{
+    number_up_to(row, at, greatest_size(external))
+}
+
 /// Whether a marker has no size and no digest, and a version has one.
-fn is_sized(marker: bool, size: u32, digest: &Option<Digest>) -> bool
-    requires { (size ≤ most_content) × IfSome digest.now (λ d. length d ≡ 32) }
-    ensures { IsTrue result ↔ IsSizedAs marker size digest.now }
+fn is_sized(marker: bool, size: u64, digest: &Option<Digest>) -> bool
+    requires { IfSome digest.now (λ d. length d ≡ 32) }
+    ensures { (external : Bool) → size ≤ most_bytes external None → IsTrue result ↔ IsSizedAs marker external size digest.now }
 {
     match digest {
         None => marker && size == 0,
@@ -256,20 +273,26 @@ fn is_sized(marker: bool, size: u32, digest: &Option<Digest>) -> bool
 
 /// What three columns say of an entry's size.
 #[tactic(auto, using(crate::proofs::ColumnLemmas::sized_within, crate::proofs::ColumnLemmas::sized_digest))]
-pub fn extent_of(row: &Row, marker_at: usize, size_at: usize, digest_at: usize) -> Option<Extent>
+pub fn extent_of(
+    row: &Row,
+    external: bool,
+    marker_at: usize,
+    size_at: usize,
+    digest_at: usize,
+) -> Option<Extent>
     ensures { MatchOption result
-        ((m : Bool) → (s : ℕ) → (d : Option (List ℕ)) → IsSizedAs m s d → column row.now marker_at ≡ flag m → column row.now size_at ≡ number s → column row.now digest_at ≢ bytes_or_null d)
-        (λ x. (column row.now marker_at ≡ flag x.marker) × (column row.now size_at ≡ number x.size) × (column row.now digest_at ≡ bytes_or_null x.digest) × IsSizedAs x.marker x.size x.digest) }
+        ((m : Bool) → (s : ℕ) → (d : Option (List ℕ)) → IsSizedAs m external s d → column row.now marker_at ≡ flag m → column row.now size_at ≡ number s → column row.now digest_at ≢ bytes_or_null d)
+        (λ x. (column row.now marker_at ≡ flag x.marker) × (column row.now size_at ≡ number x.size) × (column row.now digest_at ≡ bytes_or_null x.digest) × IsSizedAs x.marker external x.size x.digest) }
 {
     let marker = flag(row, marker_at)?;
-    let size = number_within(row, size_at, 0, MOST_CONTENT as u32)?;
+    let size = size(row, size_at, external)?;
     let digest = digest_or_null(row, digest_at)?;
     if !is_sized(marker, size, &digest) {
         return None;
     }
     Some(Extent {
         marker,
-        size: u64::from(size),
+        size,
         digest,
     })
 }

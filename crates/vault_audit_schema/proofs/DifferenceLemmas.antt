@@ -5,17 +5,18 @@ use Rattle.std.specs.Option.{option_map}
 use Rattle.std.proofs.lemmas.Bool.{cases_order}
 use Rattle.std.proofs.lemmas.Option.{slice_get-map, same_Some}
 use Rattle.vault_base.specs.declared.refusal.Table.{Table}
-use Rattle.vault_base.specs.declared.refusal.Table.TheVariants.{Meta, Departments, Callers, Buckets, Rules, Entries, Contents, Settings, Intake, Heads, Tenures}
+use Rattle.vault_base.specs.declared.refusal.Table.TheVariants.{Meta, Departments, Callers, Buckets, Rules, Entries, Contents, Settings, Intake, Heads, Tenures, External}
+use Rattle.sqlite.specs.Schema.{Schema}
 use Rattle.sqlite.specs.Table.{Table as Made}
 use Rattle.vault_audit_model.specs.declared.schema.SchemaVersion.{SchemaVersion}
-use Rattle.vault_audit_model.specs.declared.schema.SchemaVersion.TheVariants.{First, Second, Third}
+use Rattle.vault_audit_model.specs.declared.schema.SchemaVersion.TheVariants.{First, Second, Third, Fourth}
 use Rattle.vault_audit_model.specs.Order.{place_of, made_in}
 use Rattle.vault_audit_model.specs.Tables.{schema_of}
 use Rattle.vault_audit_schema.specs.Compare.{IsFirstUnlike}
-use Rattle.vault_audit_schema.specs.Places.{HasTable, IsInPlace, AreInPlace, BeginTo, IsReportedOf}
+use Rattle.vault_audit_schema.specs.Places.{HasTable, IsInPlace, AreInPlace, BeginTo, IsReportedOf, IsReportedIn}
 use Rattle.vault_audit_schema.proofs.CompareLemmas.{unlike_not}
 
-pub place_below : (t : Table) → place_of t < 11
+pub place_below : (t : Table) → place_of t < 12
 place_below Meta = omega arith
 place_below Departments = omega arith
 place_below Callers = omega arith
@@ -27,9 +28,10 @@ place_below Settings = omega arith
 place_below Intake = omega arith
 place_below Heads = omega arith
 place_below Tenures = omega arith
+place_below External = omega arith
 
 -- each place is that of a table
-placed : (at : ℕ) → at < 11 → (t : Table) × (place_of t ≡ at)
+placed : (at : ℕ) → at < 12 → (t : Table) × (place_of t ≡ at)
 placed zero h = (Meta, refl)
 placed (suc zero) h = (Departments, refl)
 placed (suc (suc zero)) h = (Callers, refl)
@@ -41,16 +43,18 @@ placed (suc (suc (suc (suc (suc (suc (suc zero))))))) h = (Settings, refl)
 placed (suc (suc (suc (suc (suc (suc (suc (suc zero)))))))) h = (Intake, refl)
 placed (suc (suc (suc (suc (suc (suc (suc (suc (suc zero))))))))) h = (Heads, refl)
 placed (suc (suc (suc (suc (suc (suc (suc (suc (suc (suc zero)))))))))) h = (Tenures, refl)
-placed (suc (suc (suc (suc (suc (suc (suc (suc (suc (suc (suc n))))))))))) h = absurd (omega arith)
+placed (suc (suc (suc (suc (suc (suc (suc (suc (suc (suc (suc zero))))))))))) h = (External, refl)
+placed (suc (suc (suc (suc (suc (suc (suc (suc (suc (suc (suc (suc n)))))))))))) h = absurd (omega arith)
 
 -- how many a schema version has
 abbrev count : SchemaVersion → ℕ
 count n = length (schema_of n).tables
 
-few : (n : SchemaVersion) → count n < 12
+few : (n : SchemaVersion) → count n < 13
 few First = omega arith
 few Second = omega arith
 few Third = omega arith
+few Fourth = omega arith
 
 -- a table stands in the schema version's list at its place
 made_at : (n : SchemaVersion) (t : Table) → HasTable n t → slice_get (made_in n) (place_of t) ≡ Some t
@@ -67,6 +71,11 @@ made_at n Heads has = refl
 made_at First Tenures has = absurd (omega (arith, has))
 made_at Second Tenures has = absurd (omega (arith, has))
 made_at Third Tenures has = refl
+made_at Fourth Tenures has = refl
+made_at First External has = absurd (omega (arith, has))
+made_at Second External has = absurd (omega (arith, has))
+made_at Third External has = absurd (omega (arith, has))
+made_at Fourth External has = refl
 
 -- so where its forms have these names, the form at this place has the table's
 pub named_at : {F : Type 0} (n : SchemaVersion) (name_of : F → Table) (forms : List F) → map name_of forms ≡ made_in n → (form : F) (at : ℕ) → slice_get forms at ≡ Some form
@@ -104,7 +113,7 @@ same_place n tables at t unlike before here = elim (cases_order (place_of t) at)
   | inl e ↦ e
   | inr (inl less) ↦ absurd (here (λ has. agree_before tables (schema_of n).tables at (place_of t) unlike.before less))
   | inr (inr more) ↦
-      let below : place_of t < 11 = place_below t in
+      let below : place_of t < 12 = place_below t in
       let has : place_of t < count n = has_out n tables t here in
       let found : (u : Table) × (place_of u ≡ at) = placed at (omega (arith, below, more)) in
       let lower : place_of found.0 < place_of t = rw found.1 more in
@@ -155,3 +164,15 @@ module _ (n : SchemaVersion) (tables : List Made) (at : ℕ) (stated : Table) (u
         here = it.1;
         first = λ t before here. named t (has_out n tables t here) (same_place n tables at t unlike before here);
       }
+
+-- ---- of the tables of a schema
+
+module _ (n : SchemaVersion) (schema : Schema) (tables : List Made) (stated : Table) (same : tables ≡ schema.tables) (it : IsReportedOf n tables stated) where
+  of_its : IsReportedOf n schema.tables stated
+  of_its = subst (λ (ts : List Made). IsReportedOf n ts stated) same it
+
+  pub reported_in : IsReportedIn n schema stated
+  reported_in = record { differs = λ e. of_its.differs (ap (λ (s : Schema). s.tables) e); begin = of_its.begin; here = of_its.here }
+
+  pub first_in : (t : Table) → ((u : Table) → place_of u < place_of t → IsInPlace n schema.tables u) → ¬ IsInPlace n schema.tables t → Some stated ≡ Some t
+  first_in t before here = ap Some (of_its.first t before here)

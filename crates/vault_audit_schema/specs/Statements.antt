@@ -1,5 +1,5 @@
 -- What a statement that makes a table or an index says, over the tables that are there before it.
-use Rattle.std.specs.Prelude.{◌≡◌, ◌≤◌, ◌+◌, ◌*◌, ◌^◌, ◌&&◌, ◌==◌, nat_lt, ℕ, true, false, List, [], length, filter, take, codes, Result, Ok, Err, IsUtf8}
+use Rattle.std.specs.Prelude.{◌≡◌, ◌≤◌, ◌+◌, ◌*◌, ◌^◌, ◌&&◌, ◌==◌, nat_lt, ℕ, Bool, true, false, List, [], ◌∷◌, length, filter, take, drop, codes, Result, Ok, Err, IsUtf8}
 use Rattle.std.specs.List.{list_any}
 use Rattle.sqlite_value.specs.declared.value.Value.TheVariants.{Text}
 use Rattle.sqlite_resolve.specs.declared.compiled.Compiled.{Compiled}
@@ -18,15 +18,38 @@ use Rattle.vault_base.specs.declared.refusal.Table.{Table}
 use Rattle.vault_base.specs.declared.refusal.Table.TheVariants as table
 use Rattle.vault_audit_model.specs.Commands.{commanded, statement_in}
 use Rattle.vault_audit_model.specs.Order.{place_of}
-use Rattle.vault_audit_model.specs.Tables.{vault_schema, entries}
+use Rattle.vault_audit_model.specs.SchemaVersions.{edition_of, newest}
+use Rattle.vault_audit_model.specs.Tables.{schema_of, meta_as, entries}
 
--- the first n tables of a vault, with the indexes that they bring
-abbrev pub schema_of_first : ℕ → Schema
-schema_of_first n = record {
-  tables = take n vault_schema.tables;
-  indexes = filter (λ i. i.is_unique && list_any (λ t. t.tree == i.table) (take n vault_schema.tables)) vault_schema.indexes;
+-- The tables in the order in which they are made. A vault's file has the last if it registers contents that are kept outside, and of the others meta alone depends on that.
+abbrev pub tables_in_order : Bool → List Columns
+tables_in_order external = meta_as (edition_of external) ∷ drop 1 (schema_of newest).tables
+
+-- the first n of them, with the indexes that they bring
+abbrev pub schema_of_first : Bool → ℕ → Schema
+schema_of_first external n = record {
+  tables = take n (tables_in_order external);
+  indexes = filter (λ i. i.is_unique && list_any (λ t. t.tree == i.table) (take n (tables_in_order external))) (schema_of newest).indexes;
   views = [];
 }
+
+-- the first n of them, with all indexes
+abbrev pub schema_with_indexes : Bool → ℕ → Schema
+schema_with_indexes external n = record { tables = take n (tables_in_order external); indexes = (schema_of newest).indexes; views = [] }
+
+-- what is there before a table is made; the index of the entries is made before the last table
+abbrev pub schema_before : Bool → Table → Schema
+schema_before external table.External = schema_with_indexes external (place_of table.External)
+schema_before external t = schema_of_first external (place_of t)
+
+-- what is there once it is made: the vault's schema, if it is the last that the file has and all indexes are made
+abbrev pub schema_once : Bool → Table → Schema
+schema_once external table.External = schema_with_indexes external (place_of table.External + 1)
+schema_once external t = schema_of_first external (place_of t + 1)
+
+-- what is there before that index is made: all tables but the last
+abbrev pub schema_before_index : Bool → Schema
+schema_before_index external = schema_of_first external (place_of table.External)
 
 -- the text is one statement, without a parameter
 abbrev pub IsAlone : List ℕ → Result Compiled CompileError → Type 0
@@ -61,23 +84,23 @@ pub record IsTakenAsIndex (schema : Schema) (text : List ℕ) (of : Columns) (ma
   pub short : nat_lt (length made.name + length of.name + length text + 200) (10 ^ 9) ≡ true
 
 -- the text, all of it, makes this table as a vault has it, after those that come before it
-pub record IsCreationOf (t : Table) (text : List ℕ) : Type 0 where
-  pub command : commanded (understood (schema_of_first (place_of t)) text) ≡ CreateTable
-  pub whole : statement_in text (understood (schema_of_first (place_of t)) text) ≡ text
-  pub plain : IsPlain (understood (schema_of_first (place_of t)) text)
-  pub alone : IsAlone text (understood (schema_of_first (place_of t)) text)
+pub record IsCreationOf (external : Bool) (t : Table) (text : List ℕ) : Type 0 where
+  pub command : commanded (understood (schema_before external t) text) ≡ CreateTable
+  pub whole : statement_in text (understood (schema_before external t) text) ≡ text
+  pub plain : IsPlain (understood (schema_before external t) text)
+  pub alone : IsAlone text (understood (schema_before external t) text)
   pub made : Columns
   pub defined : table_defined_by text ≡ Ok made
-  pub next : created (schema_of_first (place_of t)) made ≡ schema_of_first (place_of t + 1)
-  pub taken : IsTakenAsTable (schema_of_first (place_of t)) text made
+  pub next : created (schema_before external t) made ≡ schema_once external t
+  pub taken : IsTakenAsTable (schema_before external t) text made
 
--- the text, all of it, makes the index of the entries, after all tables
-pub record IsIndexCreation (text : List ℕ) : Type 0 where
-  pub command : commanded (understood (schema_of_first 11) text) ≡ CreateIndex (place_of table.Entries)
-  pub whole : statement_in text (understood (schema_of_first 11) text) ≡ text
-  pub plain : IsPlain (understood (schema_of_first 11) text)
-  pub alone : IsAlone text (understood (schema_of_first 11) text)
+-- the text, all of it, makes the index of the entries, after all tables but the last
+pub record IsIndexCreation (external : Bool) (text : List ℕ) : Type 0 where
+  pub command : commanded (understood (schema_before_index external) text) ≡ CreateIndex (place_of table.Entries)
+  pub whole : statement_in text (understood (schema_before_index external) text) ≡ text
+  pub plain : IsPlain (understood (schema_before_index external) text)
+  pub alone : IsAlone text (understood (schema_before_index external) text)
   pub made : Index
   pub defined : index_defined_by entries text ≡ Ok made
-  pub next : indexed (schema_of_first 11) entries made ≡ vault_schema
-  pub taken : IsTakenAsIndex (schema_of_first 11) text entries made
+  pub next : indexed (schema_before_index external) entries made ≡ schema_before external table.External
+  pub taken : IsTakenAsIndex (schema_before_index external) text entries made

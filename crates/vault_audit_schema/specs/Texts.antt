@@ -1,7 +1,8 @@
 -- The texts of statements on a table, made of its columns, and what such a query shows of a row.
 use Rattle.std.specs.Prelude.{ℕ, ◌+◌, List, [], ◌∷◌, ◌++◌, Some, None, Option, codes, drop, length, map}
 use Rattle.sqlite.specs.Table.{Table}
-use Rattle.sqlite_sql.specs.Term.{Term, col}
+use Rattle.sqlite_value.specs.declared.value.Value.{Value}
+use Rattle.sqlite_sql.specs.Term.{Term, col, lit}
 use Rattle.sqlite_schema.specs.declared.schema.Column.{Column}
 
 -- the names of these columns
@@ -30,10 +31,20 @@ query_text shown t ending = codes "SELECT " ++ listed shown ++ codes " FROM " ++
 abbrev pub select_text : Table → List ℕ → List ℕ
 select_text t ending = query_text (names_of t) t ending
 
+-- what is there for a column that a schema version lacks: how SQL writes it, and its value
+pub record Absent : Type 0 where
+  pub written : List ℕ
+  pub value : Value
+
+-- these for the columns, by the columns' names
+abbrev pub absent_as : List Absent → List Column → List (List ℕ)
+absent_as [] cs = []
+absent_as (a ∷ absents) [] = []
+absent_as (a ∷ absents) (c ∷ cs) = (a.written ++ codes " AS " ++ c.name) ∷ absent_as absents cs
+
 -- the same over the table of an earlier schema version, with what is there for each column that it lacks
-abbrev pub select_text_as : List ℕ → Table → Table → List ℕ → List ℕ
-select_text_as absent old new ending =
-    query_text (names_of old ++ map (λ (c : Column). absent ++ codes " AS " ++ c.name) (later_columns old new)) old ending
+abbrev pub select_text_as : List Absent → Table → Table → List ℕ → List ℕ
+select_text_as absents old new ending = query_text (names_of old ++ absent_as absents (later_columns old new)) old ending
 
 -- the statement that puts rows in, and what follows the columns
 abbrev pub insert_into_text : Table → List ℕ → List ℕ
@@ -57,6 +68,6 @@ terms_by (Some at) columns = col 1 0 ∷ terms_from 2 (drop 1 columns)
 abbrev pub terms_of : Table → List Term
 terms_of t = terms_by t.key t.columns
 
--- the same over the table of an earlier schema version, with this for each column that it lacks
-abbrev pub terms_as : Term → Table → Table → List Term
-terms_as absent old new = terms_of old ++ map (λ (c : Column). absent) (later_columns old new)
+-- the same over the table of an earlier schema version, with the value of each column that it lacks
+abbrev pub terms_as : List Absent → Table → List Term
+terms_as absents old = terms_of old ++ map (λ (a : Absent). lit a.value) absents

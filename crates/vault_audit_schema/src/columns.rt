@@ -1,8 +1,8 @@
 //! The columns of each table, said once. `callers_columns!(select_text, " ORDER BY name")` hands those of `callers` to
-//! `select_text!`, with what comes after them; so do the other ten, and so with each macro that makes something of columns.
+//! `select_text!`, with what comes after them; so do the other eleven, and so with each macro that makes something of columns.
 //!
-//! A column is its name and what SQL says of it. One that came with a later schema version comes after a `;`, with what it is
-//! where a schema version lacks it.
+//! A column is its name and what SQL says of it. One that came with the second or the third schema version comes after a `;`,
+//! and one that came with the fourth after a `|`, each with what it is where a schema version lacks it.
 
 /// The columns of `meta`.
 #[macro_export]
@@ -15,6 +15,8 @@ macro_rules! meta_columns {
                 last INTEGER NOT NULL,
                 next INTEGER NOT NULL;
                 moves INTEGER NOT NULL = 0
+                | place INTEGER NOT NULL = 0
+                | done INTEGER NOT NULL = 1
             )
             $(, $more)*
         )
@@ -203,6 +205,19 @@ macro_rules! tenures_columns {
                 n INTEGER NOT NULL,
                 dept TEXT NOT NULL REFERENCES departments (name),
                 moment INTEGER NOT NULL
+            )
+            $(, $more)*
+        )
+    };
+}
+
+/// The columns of `external`.
+#[macro_export]
+macro_rules! external_columns {
+    ($make:ident $(, $more:expr)*) => {
+        $make!(
+            external(
+                id INTEGER PRIMARY KEY REFERENCES entries (id)
             )
             $(, $more)*
         )

@@ -49,7 +49,7 @@ const ENTRIES_HELD: IndexForm = IndexForm {
     is_unique: false,
 };
 
-/// The indexes in the order in which they are made, the last two of the third schema version alone.
+/// The indexes in the order in which they are made, the last two since the third schema version.
 static INDEXES: [IndexForm; 10] = [
     brought_by!(DEPARTMENTS, "departments", &[1]),
     brought_by!(CALLERS, "callers", &[1]),
@@ -69,7 +69,7 @@ pub(crate) fn indexes_of(schema_version: SchemaVersion) -> &'static [IndexForm]
 {
     match schema_version {
         SchemaVersion::First | SchemaVersion::Second => &INDEXES[..8],
-        SchemaVersion::Third => &INDEXES,
+        SchemaVersion::Third | SchemaVersion::Fourth => &INDEXES,
     }
 }
 

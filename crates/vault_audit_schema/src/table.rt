@@ -12,7 +12,8 @@ use crate::column::{ColumnForm, ReferenceForm};
 use crate::compare::{Form, have_forms};
 use crate::{
     buckets_columns, callers_columns, contents_columns, departments_columns, entries_columns,
-    heads_columns, intake_columns, meta_columns, rules_columns, settings_columns, tenures_columns,
+    external_columns, heads_columns, intake_columns, meta_columns, rules_columns, settings_columns,
+    tenures_columns,
 };
 use sqlite_items::Items;
 use sqlite_schema::schema::{self, Kind};
@@ -73,6 +74,7 @@ macro_rules! table {
             $first:ident $first_kind:ident $($first_word:ident)* $(($first_at:ident))?
             $(, $name:ident $kind:ident $($word:ident)* $(($at:ident))?)*
             $(; $later:ident $later_kind:ident $($later_word:ident)* = $absent:tt)*
+            $(| $newest:ident $newest_kind:ident $($newest_word:ident)* = $none:tt)*
         ),
         $table:expr, $tree:expr, $key:expr, $references:expr $(, $constraint:expr)?
     ) => {
@@ -84,6 +86,7 @@ macro_rules! table {
                 column!($first $first_kind $($first_word)*)
                 $(, column!($name $kind $($word)*))*
                 $(, column!($later $later_kind $($later_word)*))*
+                $(, column!($newest $newest_kind $($newest_word)*))*
             ],
             references: $references,
             creation: concat!(
@@ -98,6 +101,10 @@ macro_rules! table {
                     ", ", stringify!($later), " ", stringify!($later_kind),
                     $(" ", stringify!($later_word),)*
                 )*
+                $(
+                    ", ", stringify!($newest), " ", stringify!($newest_kind),
+                    $(" ", stringify!($newest_word),)*
+                )*
                 $(", ", $constraint,)? ") STRICT"
             ),
         }
@@ -111,6 +118,7 @@ macro_rules! earlier_table {
             $first:ident $first_kind:ident $($first_word:ident)* $(($first_at:ident))?
             $(, $name:ident $kind:ident $($word:ident)* $(($at:ident))?)*
             $(; $later:ident $later_kind:ident $($later_word:ident)* = $absent:tt)*
+            $(| $newest:ident $newest_kind:ident $($newest_word:ident)* = $none:tt)*
         )
         $(, $more:expr)*
     ) => {
@@ -118,6 +126,28 @@ macro_rules! earlier_table {
             $title(
                 $first $first_kind $($first_word)* $(($first_at))?
                 $(, $name $kind $($word)* $(($at))?)*
+            )
+            $(, $more)*
+        )
+    };
+}
+
+/// The same of the third schema version, which lacks the columns of the fourth.
+macro_rules! third_table {
+    (
+        $title:ident(
+            $first:ident $first_kind:ident $($first_word:ident)* $(($first_at:ident))?
+            $(, $name:ident $kind:ident $($word:ident)* $(($at:ident))?)*
+            $(; $later:ident $later_kind:ident $($later_word:ident)* = $absent:tt)*
+            $(| $newest:ident $newest_kind:ident $($newest_word:ident)* = $none:tt)*
+        )
+        $(, $more:expr)*
+    ) => {
+        table!(
+            $title(
+                $first $first_kind $($first_word)* $(($first_at))?
+                $(, $name $kind $($word)* $(($at))?)*
+                $(; $later $later_kind $($later_word)* = $absent)*
             )
             $(, $more)*
         )
@@ -137,6 +167,15 @@ macro_rules! refers {
 
 /// `meta` of the first two schema versions.
 const FIRST_META: TableForm = meta_columns!(earlier_table, Table::Meta, 0, KeyForm::Number, &[]);
+
+/// `meta` of the third schema version.
+pub(crate) const THIRD_META: TableForm = meta_columns!(
+    third_table,
+    Table::Meta,
+    0,
+    KeyForm::Number,
+    &[]
+);
 
 pub(crate) const META: TableForm = meta_columns!(table, Table::Meta, 0, KeyForm::Number, &[]);
 
@@ -249,6 +288,14 @@ pub(crate) const TENURES: TableForm = tenures_columns!(
     "PRIMARY KEY (id, n)"
 );
 
+pub(crate) const EXTERNAL: TableForm = external_columns!(
+    table,
+    Table::External,
+    21,
+    KeyForm::Number,
+    &[refers!(0, Entries, "id")]
+);
+
 /// The tables in the order in which they are made: those of which schema versions have forms of their own, between the others,
 /// and after them those that a schema version has besides.
 macro_rules! tables {
@@ -264,7 +311,9 @@ static FIRST_TABLES: [TableForm; 10] = tables!(FIRST_META, FIRST_DEPARTMENTS, FI
 
 static SECOND_TABLES: [TableForm; 10] = tables!(FIRST_META, FIRST_DEPARTMENTS, RULES);
 
-static THIRD_TABLES: [TableForm; 11] = tables!(META, DEPARTMENTS, RULES, TENURES);
+static THIRD_TABLES: [TableForm; 11] = tables!(THIRD_META, DEPARTMENTS, RULES, TENURES);
+
+static FOURTH_TABLES: [TableForm; 12] = tables!(META, DEPARTMENTS, RULES, TENURES, EXTERNAL);
 
 /// The tables of a schema version, in the order in which they are made.
 pub(crate) fn tables_of(schema_version: SchemaVersion) -> &'static [TableForm]
@@ -275,6 +324,7 @@ pub(crate) fn tables_of(schema_version: SchemaVersion) -> &'static [TableForm]
         SchemaVersion::First => &FIRST_TABLES,
         SchemaVersion::Second => &SECOND_TABLES,
         SchemaVersion::Third => &THIRD_TABLES,
+        SchemaVersion::Fourth => &FOURTH_TABLES,
     }
 }
 

@@ -58,10 +58,10 @@ none_above i (t ∷ ts) all = rw (apart_above t.id i all.0) (none_above i ts all
 abbrev pub found_among : List Entry → ℕ → Option Entry
 found_among es i = find (λ e. e.id == i) es
 
-pub each_found : (n low : ℕ) (es : List Entry) → AreNumbered n low es → AllByRecursion (λ e. found_among es e.id ≡ Some e) es
-each_found n low [] are = tt
-each_found n low (e ∷ es) are =
-    (rw (alike e.id e.id refl) refl, after es (higher (n + 1) e.admitted es are.1) (each_found (n + 1) e.admitted es are.1))
+pub each_found : (external : Bool) (n low : ℕ) (es : List Entry) → AreNumbered external n low es → AllByRecursion (λ e. found_among es e.id ≡ Some e) es
+each_found external n low [] are = tt
+each_found external n low (e ∷ es) are =
+    (rw (alike e.id e.id refl) refl, after es (higher external (n + 1) e.admitted es are.1) (each_found external (n + 1) e.admitted es are.1))
   where
     after : (xs : List Entry) → AllByRecursion (λ x. n + 1 ≤ x.id) xs → AllByRecursion (λ x. found_among es x.id ≡ Some x) xs → AllByRecursion (λ x. found_among (e ∷ es) x.id ≡ Some x) xs
     after [] up all = tt
@@ -71,9 +71,9 @@ abbrev pub IsGiven : Option Entry → Type 0
 IsGiven None = ⊥
 IsGiven (Some e) = Unit {0}
 
-pub found_below : (n low i : ℕ) (es : List Entry) → AreNumbered n low es → IsGiven (found_among es i) → i < n + length es
-found_below n low i [] are given = absurd given
-found_below n low i (e ∷ es) are given = of (e.id == i) refl given (found_below (n + 1) e.admitted i es are.1)
+pub found_below : (external : Bool) (n low i : ℕ) (es : List Entry) → AreNumbered external n low es → IsGiven (found_among es i) → i < n + length es
+found_below external n low i [] are given = absurd given
+found_below external n low i (e ∷ es) are given = of (e.id == i) refl given (found_below external (n + 1) e.admitted i es are.1)
   where
     of : (b : Bool) → (e.id == i) ≡ b → IsGiven (cond b (Some e) (found_among es i)) → (IsGiven (found_among es i) → i < n + 1 + length es) → i < n + length (e ∷ es)
     of true is _ _ = let same : e.id ≡ i = grind (arith, nat_tests) in omega (arith, same, are.0.1.0)

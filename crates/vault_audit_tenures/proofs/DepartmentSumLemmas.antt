@@ -24,6 +24,7 @@ use Rattle.vault_audit_tenures.specs.declared.sums.totals.Totals.{Totals}
 use Rattle.vault_audit_tenures.specs.DepartmentSums.{HasTotal, HaveTotals}
 use Rattle.vault_audit_tenures.specs.Totals.{total_of, IsTotal, AreTotals}
 use Rattle.vault_audit_tenures.proofs.TotalLemmas.{sums_are}
+use Rattle.vault_audit_model.specs.SchemaVersions.{is_external}
 
 -- the row has the sums over its tenures, which are within what the department may admit and receive
 abbrev HasSums : List History → DepartmentRow → Type 0
@@ -97,7 +98,7 @@ each_within v (d ∷ ds) sound = (sound.within d, each_within v ds sound)
 
 -- where a department lacks its sums, whatever the vault is, no vault has these tables
 pub no_sums : (n : SchemaVersion) (db : Database)
-    → ((v : Vault) → AreBuckets n db v.buckets → AreEntries db (entries_in v.histories) → AllByRecursion (IsPast v.last) (entries_in v.histories) → AreTenuresOf n db v → DecidesSums n db v.histories false)
+    → ((v : Vault) → AreBuckets n db v.buckets → AreEntries (is_external n) db (entries_in v.histories) → AllByRecursion (IsPast v.last) (entries_in v.histories) → AreTenuresOf n db v → DecidesSums n db v.histories false)
     → (v : Vault) → ¬ AreSoundAs n db v
 no_sums n db stated v it =
     let kept = it.spells.kept in

@@ -25,8 +25,8 @@ use Rattle.vault_core_laws.proofs.Tenures.{reaches}
 
 -- ---- limits
 
-is_owned : (bs : List Bucket) (e : Entry) (t : Tenure) → AllByRecursion IsBucket bs → IsEntry e → IsTenure t → IsOwned (owned_in bs e t)
-is_owned bs e t all is limits = record {
+is_owned : (external : Bool) (bs : List Bucket) (e : Entry) (t : Tenure) → AllByRecursion IsBucket bs → IsEntry external e → IsTenure t → IsOwned (owned_in bs e t)
+is_owned external bs e t all is limits = record {
   id = is.id;
   tenure = limits;
   admitted = is.admitted;
@@ -47,11 +47,11 @@ rows_owned v hs = map-flat_map row_of (owned_of v) hs ∙ flat_map_same_on _ ten
 
 -- ---- of one version
 
-module _ (v : Vault) (buckets : AllByRecursion IsBucket v.buckets) where
+module _ (external : Bool) (v : Vault) (buckets : AllByRecursion IsBucket v.buckets) where
   abbrev pub Ends : Option OwnedTenure → List OwnedTenure → Type 0
   Ends before ts = Fit (at v.moves v.last before) ts × AreEnded (at v.moves v.last before) ts
 
-  module _ (e : Entry) (is : IsEntry e) (rest : List OwnedTenure) (on : (s : OwnedTenure) → s.id ≡ e.id → IsLast s → Ends (Some s) rest) where
+  module _ (e : Entry) (is : IsEntry external e) (rest : List OwnedTenure) (on : (s : OwnedTenure) → s.id ≡ e.id → IsLast s → Ends (Some s) rest) where
     abbrev one : Tenure → OwnedTenure
     one = owned_in v.buckets e
 
@@ -62,7 +62,7 @@ module _ (v : Vault) (buckets : AllByRecursion IsBucket v.buckets) where
     run_fits t [] follow limits ends = on (one t) refl ends
     run_fits t (u ∷ us) follow limits ends =
         let more = run_fits u us follow.4 limits.1 ends in
-        (((is_owned v.buckets e u buckets is limits.0, timely u us follow.1 follow.4, inl (refl, (follow.0, follow.2, follow.3))), more.0), more.1)
+        (((is_owned external v.buckets e u buckets is limits.0, timely u us follow.1 follow.4, inl (refl, (follow.0, follow.2, follow.3))), more.0), more.1)
 
     follows_first : (before : Option OwnedTenure) (t : Tenure) → IfSome before (λ s. (s.id < e.id) × IsLast s) → t.number ≡ 0 → t.from ≡ e.admitted → Follows before (one t)
     follows_first None t ended zero_th from = (zero_th, from)
@@ -72,7 +72,7 @@ module _ (v : Vault) (buckets : AllByRecursion IsBucket v.buckets) where
     version_fits before [] ended are limits ends = absurd are
     version_fits before (t ∷ ts) ended are limits ends =
         let more = run_fits t ts are.2 limits.1 ends in
-        (((is_owned v.buckets e t buckets is limits.0, timely t ts (omega (arith, are.0)) are.2, follows_first before t ended are.0 are.1), more.0), more.1)
+        (((is_owned external v.buckets e t buckets is limits.0, timely t ts (omega (arith, are.0)) are.2, follows_first before t ended are.0 are.1), more.0), more.1)
 
   with_owner : (o : Option Removal) (h : History) → IsWithBucket v o h → EndsAs (option_map (λ (r : Removal). r.at) o) (owner_of v.buckets h.entry) (last_tenure h.tenures)
   with_owner None h ends = ends
@@ -88,12 +88,12 @@ module _ (v : Vault) (buckets : AllByRecursion IsBucket v.buckets) where
   raised None m n low ended = tt
   raised (Some s) m n low ended = let up = ended.0 in (omega (arith, low, up), ended.1)
 
-  history_fits : (marker : Bool) (h : History) (rest : List OwnedTenure) (before : Option OwnedTenure) → IsEntry h.entry → AreTenuresInLimits h → IsTenuredAs marker v h → IfSome before (λ s. (s.id < h.entry.id) × IsLast s)
+  history_fits : (marker : Bool) (h : History) (rest : List OwnedTenure) (before : Option OwnedTenure) → IsEntry external h.entry → AreTenuresInLimits h → IsTenuredAs marker v h → IfSome before (λ s. (s.id < h.entry.id) × IsLast s)
       → ((s : OwnedTenure) → s.id ≡ h.entry.id → IsLast s → Ends (Some s) rest) → Ends before rest → Ends before (owned_of v h ++ rest)
   history_fits true h rest before is limits none ended on same = subst (λ ts. Ends before (map (owned_in v.buckets h.entry) ts ++ rest)) (sym none) same
   history_fits false h rest before is limits had ended on same = version_fits h.entry is rest on before h.tenures ended had.0 limits (with_owner h.entry.removal h had.1)
 
-  pub all_fit : (n low : ℕ) (before : Option OwnedTenure) (hs : List History) → IfSome before (λ s. (s.id < n) × IsLast s) → AreNumbered n low (entries_in hs) → AllByRecursion AreTenuresInLimits hs → AllByRecursion (IsTenured v) hs → Ends before (all_owned v hs)
+  pub all_fit : (n low : ℕ) (before : Option OwnedTenure) (hs : List History) → IfSome before (λ s. (s.id < n) × IsLast s) → AreNumbered external n low (entries_in hs) → AllByRecursion AreTenuresInLimits hs → AllByRecursion (IsTenured v) hs → Ends before (all_owned v hs)
   all_fit n low before [] ended are limits had = at_end before n ended
   all_fit n low before (h ∷ hs) ended are limits had =
       let id : h.entry.id ≡ n = are.0.1.0 in
@@ -103,10 +103,10 @@ module _ (v : Vault) (buckets : AllByRecursion IsBucket v.buckets) where
 
 -- ---- the versions have them
 
-none_later : (i n low : ℕ) (hs : List History) → i < n → AreNumbered n low (entries_in hs) → has_id i (flat_map tenures_in hs) ≡ false
-none_later i n low [] below are = refl
-none_later i n low (h ∷ hs) below are =
-    skip i h.entry.id h.tenures (flat_map tenures_in hs) (apart_above h.entry.id i (let id = are.0.1.0 in omega (arith, below, id))) ∙ none_later i (n + 1) h.entry.admitted hs (omega (arith, below)) are.1
+none_later : (external : Bool) (i n low : ℕ) (hs : List History) → i < n → AreNumbered external n low (entries_in hs) → has_id i (flat_map tenures_in hs) ≡ false
+none_later external i n low [] below are = refl
+none_later external i n low (h ∷ hs) below are =
+    skip i h.entry.id h.tenures (flat_map tenures_in hs) (apart_above h.entry.id i (let id = are.0.1.0 in omega (arith, below, id))) ∙ none_later external i (n + 1) h.entry.admitted hs (omega (arith, below)) are.1
 
 some_had : (v : Vault) (marker : Bool) (h : History) → IsTenuredAs marker v h → is_some_of h.tenures ≡ not marker
 some_had v true h none = rw none refl
@@ -116,11 +116,11 @@ some_had v false h had = some h.tenures had.0
     some [] are = absurd are
     some (t ∷ ts) are = refl
 
-pub all_set : (v : Vault) (n low : ℕ) (hs : List History) → AreNumbered n low (entries_in hs) → AllByRecursion (IsTenured v) hs → AllByRecursion (HasSome (flat_map tenures_in hs)) (entries_in hs)
-all_set v n low [] are had = tt
-all_set v n low (h ∷ hs) are had =
+pub all_set : (external : Bool) (v : Vault) (n low : ℕ) (hs : List History) → AreNumbered external n low (entries_in hs) → AllByRecursion (IsTenured v) hs → AllByRecursion (HasSome (flat_map tenures_in hs)) (entries_in hs)
+all_set external v n low [] are had = tt
+all_set external v n low (h ∷ hs) are had =
     let id : h.entry.id ≡ n = are.0.1.0 in
     let rest = flat_map tenures_in hs in
-    let none : has_id h.entry.id rest ≡ false = none_later h.entry.id (n + 1) h.entry.admitted hs (omega (arith, id)) are.1 in
-    let up = subst (λ i. AllByRecursion (λ e. i + 1 ≤ e.id) (entries_in hs)) (sym id) (higher (n + 1) h.entry.admitted (entries_in hs) are.1) in
-    (own h.entry.id h.tenures rest none ∙ some_had v h.entry.marker h had.0, set_more h.entry.id h.tenures rest (entries_in hs) up (all_set v (n + 1) h.entry.admitted hs are.1 had.1))
+    let none : has_id h.entry.id rest ≡ false = none_later external h.entry.id (n + 1) h.entry.admitted hs (omega (arith, id)) are.1 in
+    let up = subst (λ i. AllByRecursion (λ e. i + 1 ≤ e.id) (entries_in hs)) (sym id) (higher external (n + 1) h.entry.admitted (entries_in hs) are.1) in
+    (own h.entry.id h.tenures rest none ∙ some_had v h.entry.marker h had.0, set_more h.entry.id h.tenures rest (entries_in hs) up (all_set external v (n + 1) h.entry.admitted hs are.1 had.1))

@@ -121,8 +121,8 @@ module _ (v : Vault) where
     tenured = (some_had e.marker e (t.tenure ∷ part.run) some (is_chain e t part.run zero_th from is part.follow) (is_held e t part.run is part.ends), later.tenured);
   }
 
-  module _ (all : List Entry) where
-    pub make : (n low : ℕ) (es : List Entry) (ts : List OwnedTenure) → AreNumbered (n + 1) low es → Anew v.moves v.last n ts → AllByRecursion (IsOfOne v.buckets all) ts → AllByRecursion (λ e. found_among all e.id ≡ Some e) es
+  module _ (external : Bool) (all : List Entry) where
+    pub make : (n low : ℕ) (es : List Entry) (ts : List OwnedTenure) → AreNumbered external (n + 1) low es → Anew v.moves v.last n ts → AllByRecursion (IsOfOne v.buckets all) ts → AllByRecursion (λ e. found_among all e.id ≡ Some e) es
         → AllByRecursion (HasSome (map row_of ts)) es → AllByRecursion (λ t. t.id < (n + 1) + length es) (map row_of ts) → Made es ts
     make n low [] [] are new of found set ids = record { histories = []; entries = refl; rows = refl; limits = tt; tenured = tt }
     make n low [] (t ∷ ts) are new of found set ids = absurd (let up = new.0 in let down = ids.0 in omega (arith, up, down))
@@ -147,7 +147,7 @@ module _ (v : Vault) where
             let those = cut v.moves v.last v.buckets all t ts new.1.1 new.2 new.3 of.0 of.1 in
             let part = those.cut in
             let whole : map row_of (t ∷ ts) ≡ run_of t.id (t.tenure ∷ part.run) ++ map row_of part.rest = ap (λ (xs : List TenureRow). row_of t ∷ xs) part.whole in
-            let up = subst (λ i. AllByRecursion (λ x. i + 1 ≤ x.id) es) (sym same) (higher (n + 1 + 1) e.admitted es are.1) in
+            let up = subst (λ i. AllByRecursion (λ x. i + 1 ≤ x.id) es) (sym same) (higher external (n + 1 + 1) e.admitted es are.1) in
             let others = set_less t.id (t.tenure ∷ part.run) (map row_of part.rest) es up (subst (λ xs. AllByRecursion (HasSome xs) es) whole set.1) in
             let lower = after_run (λ x. x.id < (n + 1) + length (e ∷ es)) (run_of t.id (t.tenure ∷ part.run)) (map row_of part.rest) (subst (AllByRecursion (λ x. x.id < (n + 1) + length (e ∷ es))) whole ids) in
             let begins = subst (λ i. Anew v.moves v.last i part.rest) same part.new in

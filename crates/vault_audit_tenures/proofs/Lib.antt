@@ -10,6 +10,7 @@ pub mod SoundLemmas
 pub mod SumRowLemmas
 pub mod SumTextLemmas
 pub mod DecisionLemmas
+pub mod TableLemmas
 pub mod TenureJoinLemmas
 pub mod TenureRowLemmas
 pub mod TenureSumLemmas

@@ -38,6 +38,7 @@ use Rattle.vault_audit_records.proofs.EntryNumberLemmas.{rising}
 use Rattle.vault_audit_rows.proofs.JoinLemmas.{joined_of, shown_joined, shown_by_join, joined_with, IsOrderOf}
 use Rattle.vault_audit_tenures.specs.OwnedEntries.{owned_row, owned_in, IsOwned}
 use Rattle.vault_audit_tenures.proofs.SumTextLemmas.{owned_text, owned_shown, owned_order, owned_is, owned_plain}
+use Rattle.vault_audit_model.specs.SchemaVersions.{is_external}
 
 -- ---- a list of no length, and one of one row, under a map
 
@@ -134,7 +135,7 @@ pub each_one : {X Y : Type 0} (f : X → List Y) (g : X → Y) → ((x : X) → 
 each_one f g same [] = refl
 each_one f g same (x ∷ xs) = rw (same x) (ap (λ ys. g x ∷ ys) (each_one f g same xs))
 
-module _ (n : SchemaVersion) (db : Database) (bs : List Bucket) (es : List Entry) (buckets : AreBuckets n db bs) (entries : AreEntries db es) where
+module _ (n : SchemaVersion) (db : Database) (bs : List Bucket) (es : List Entry) (buckets : AreBuckets n db bs) (entries : AreEntries (is_external n) db es) where
   abbrev rows_stated : List Values
   rows_stated = map owned_row (map (owned_in bs) es)
 
@@ -150,9 +151,9 @@ module _ (n : SchemaVersion) (db : Database) (bs : List Bucket) (es : List Entry
       subst (IsPermutation rows_stated) (sym (source_is db)) (subst (λ xs. IsPermutation xs (flat_map (shown_for (db.trees buckets_tree)) (map entry_columns (db.trees entries_tree)))) each (IsPermutation-flat_map (shown_for (db.trees buckets_tree)) _ _ entries.0))
 
 -- by rising id
-pub owned_rise : (bs : List Bucket) (es : List Entry) → AreNumbered 1 0 es → Rises (λ a b. first_cmp a b ≡ Less) (map owned_row (map (owned_in bs) es))
-owned_rise bs es are =
-    let up = ascending_from_map (λ a b. first_cmp a b ≡ Less) entry_row es (rising es are) in
+pub owned_rise : (external : Bool) (bs : List Bucket) (es : List Entry) → AreNumbered external 1 0 es → Rises (λ a b. first_cmp a b ≡ Less) (map owned_row (map (owned_in bs) es))
+owned_rise external bs es are =
+    let up = ascending_from_map (λ a b. first_cmp a b ≡ Less) entry_row es (rising external es are) in
     subst (Rises (λ a b. first_cmp a b ≡ Less)) (sym (map-map owned_row (owned_in bs) es)) (ascending-map (λ a b. first_cmp a b ≡ Less) (λ (e : Entry). owned_row (owned_in bs e)) es up)
 
 -- ---- what the statement answers
@@ -182,8 +183,8 @@ pub removed_by : (o : Option Removal) → IfSome o IsRemoval → IfSome (option_
 removed_by None is = tt
 removed_by (Some r) is = is.at
 
-is_owned : (bs : List Bucket) (e : Entry) → AllByRecursion IsBucket bs → IsEntry e → IsOwned (owned_in bs e)
-is_owned bs e all is = record {
+is_owned : (external : Bool) (bs : List Bucket) (e : Entry) → AllByRecursion IsBucket bs → IsEntry external e → IsOwned (owned_in bs e)
+is_owned external bs e all is = record {
   id = is.id;
   admitted = is.admitted;
   removed = removed_by e.removal is.removal;
@@ -191,6 +192,6 @@ is_owned bs e all is = record {
 }
 
 -- each of these rows holds an entry in its limits
-pub each_reads_so : (next low : ℕ) (bs : List Bucket) (es : List Entry) → AllByRecursion IsBucket bs → AreNumbered next low es → AllByRecursion (ReportsOne owned_row IsOwned) (map owned_row (map (owned_in bs) es))
-each_reads_so next low bs [] all are = tt
-each_reads_so next low bs (e ∷ es) all are = ((owned_in bs e, refl, is_owned bs e all are.0.0), each_reads_so (next + 1) e.admitted bs es all are.1)
+pub each_reads_so : (external : Bool) (next low : ℕ) (bs : List Bucket) (es : List Entry) → AllByRecursion IsBucket bs → AreNumbered external next low es → AllByRecursion (ReportsOne owned_row IsOwned) (map owned_row (map (owned_in bs) es))
+each_reads_so external next low bs [] all are = tt
+each_reads_so external next low bs (e ∷ es) all are = ((owned_in bs e, refl, is_owned external bs e all are.0.0), each_reads_so external (next + 1) e.admitted bs es all are.1)

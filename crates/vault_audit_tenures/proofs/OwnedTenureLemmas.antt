@@ -33,6 +33,7 @@ use Rattle.vault_audit_tenures.specs.Presence.{AreRowsOf}
 use Rattle.vault_audit_tenures.proofs.ChainLemmas.{found_among, each_found, owner_of, IsOf, IsOfOne, row_of}
 use Rattle.vault_audit_tenures.proofs.FitLemmas.{all_owned, rows_owned}
 use Rattle.vault_audit_tenures.proofs.OwnedEntryLemmas.{row_of_bucket, bucket_beside, dept_shown, each_one, found}
+use Rattle.vault_audit_model.specs.SchemaVersions.{is_external}
 
 -- ---- the bucket of a name
 
@@ -96,7 +97,7 @@ map_alike_on f g (x ∷ xs) all = rw (all.0, map_alike_on f g xs all.1) refl
 
 -- ---- all rows
 
-module _ (n : SchemaVersion) (db : Database) (bs : List Bucket) (es : List Entry) (buckets : AreBuckets n db bs) (entries : AreEntries db es) where
+module _ (n : SchemaVersion) (db : Database) (bs : List Bucket) (es : List Entry) (buckets : AreBuckets n db bs) (entries : AreEntries (is_external n) db es) where
   abbrev stored : List Values
   stored = db.trees tenures_tree
 
@@ -115,7 +116,7 @@ module _ (n : SchemaVersion) (db : Database) (bs : List Bucket) (es : List Entry
       let with = with_buckets (db.trees buckets_tree) (tenure_columns r) in
       ap (λ f. flat_map f there) (λ i e. sym (map-map (with_both (tenure_columns r) (entry_columns e)) bucket_columns (or_nulls (filter (λ b. agrees (column b 1) (column e 2)) (db.trees buckets_tree)))) i)
       ∙ sym (flat_map-map with entry_columns there)
-      ∙ ap (flat_map with) (beside_is (db.trees entries_tree) es entries.0 entries.1 (column r 1))
+      ∙ ap (flat_map with) (beside_is (is_external n) (db.trees entries_tree) es entries.0 entries.1 (column r 1))
       ∙ append-nil _
       ∙ of_bucket (find (is_id (column r 1)) es) (tenure_columns r)
 
@@ -155,7 +156,7 @@ module _ (n : SchemaVersion) (db : Database) (bs : List Bucket) (es : List Entry
 
 -- ---- from histories
 
-module _ (n : SchemaVersion) (db : Database) (v : Vault) (es : List Entry) (buckets : AreBuckets n db v.buckets) (entries : AreEntries db es) where
+module _ (n : SchemaVersion) (db : Database) (v : Vault) (es : List Entry) (buckets : AreBuckets n db v.buckets) (entries : AreEntries (is_external n) db es) where
   one_stated : (e : Entry) → found_among es e.id ≡ Some e → (t : Tenure) → shown_for v.buckets (find (is_id (number e.id)) es) (tenure_row (row_of (owned_in v.buckets e t))) ≡ owned_row (owned_in v.buckets e t)
   one_stated e found t = ap (λ o. shown_for v.buckets o (tenure_row (row_of (owned_in v.buckets e t)))) (found_number es e.id ∙ found)
 
@@ -174,7 +175,7 @@ module _ (n : SchemaVersion) (db : Database) (v : Vault) (es : List Entry) (buck
   shown_are hs same are =
       let ts = all_owned v hs in
       let decides = λ (c : Values). shown_for v.buckets (find (is_id (column c 0)) es) c in
-      let each = subst (AllByRecursion (λ e. found_among es e.id ≡ Some e)) (sym same) (each_found 1 0 es entries.1) in
+      let each = subst (AllByRecursion (λ e. found_among es e.id ≡ Some e)) (sym same) (each_found (is_external n) 1 0 es entries.1) in
       let mine : map decides (map tenure_row (flat_map tenures_in hs)) ≡ map owned_row ts =
       ap (λ (xs : List TenureRow). map decides (map tenure_row xs)) (sym (rows_owned v hs)) ∙ ap (map decides) (map-map tenure_row row_of ts) ∙ map-map decides (λ t. tenure_row (row_of t)) ts ∙ map_alike_on _ owned_row ts (all_same hs each) in
       subst (λ xs. IsPermutation xs (shown_in db)) mine (subst (IsPermutation (map decides (map tenure_row (flat_map tenures_in hs)))) (sym (source_is n db v.buckets es buckets entries)) (IsPermutation-map decides _ _ are))

@@ -19,8 +19,11 @@ use Rattle.vault_audit_rows.proofs.BesideLemmas.{agree_numbers, beside_row, besi
 use Rattle.vault_audit_tenures.specs.Presence.{AreRowsOf, HasSome, DecidesPresence}
 use Rattle.vault_audit_tenures.proofs.TenureTextLemmas.{tenures_beside, tenures_beside_is}
 use Rattle.vault_audit_model.proofs.ListLemmas.{all_as}
+use Rattle.vault_audit_model.specs.SchemaVersions.{is_external}
+use Rattle.vault_audit_tenures.specs.Decided.{HasTenuresTable}
+use Rattle.vault_audit_model.specs.declared.schema.SchemaVersion.{SchemaVersion}
 
-module _ (db : Database) (es : List Entry) (are : AreEntries db es) (ts : List TenureRow) (rows : AreRowsOf db ts) where
+module _ (external : Bool) (db : Database) (es : List Entry) (are : AreEntries external db es) (ts : List TenureRow) (rows : AreRowsOf db ts) where
   abbrev Tenures : List Row
   Tenures = db.trees tenures_tree
 
@@ -39,7 +42,7 @@ module _ (db : Database) (es : List Entry) (are : AreEntries db es) (ts : List T
   set_no all =
       of_stored entry_row entry_columns Besides es (db.trees entries_tree) are.0 (all_as (λ e stated. met_no (col 1 3) 1 0 (entry_row e) e.marker (λ s. refl) Tenures (has e.id ∙ stated)) es all)
 
-module _ (old new : State) (has : old.now.schema ≡ schema_of Third) (same : IsUnchanged old new) where
-  pub presence : (b : Bool) → Checked ReportsAbsence tenures_beside old new b → DecidesPresence new.now b
-  presence true h es are ts rows = set_yes new.now es are ts rows (beside_yes tenures_beside_is (λ trees. (refl, refl)) ReportsAbsence old new has same h)
-  presence false h es are ts rows = λ all. beside_no tenures_beside_is (λ trees. (refl, refl)) ReportsAbsence old new has same h (set_no new.now es are ts rows all)
+module _ (n : SchemaVersion) (table : HasTenuresTable n) (old new : State) (has : old.now.schema ≡ schema_of n) (same : IsUnchanged old new) where
+  pub presence : (b : Bool) → Checked ReportsAbsence tenures_beside old new b → DecidesPresence (is_external n) new.now b
+  presence true h es are ts rows = set_yes (is_external n) new.now es are ts rows (beside_yes (tenures_beside_is n table) (λ trees. (refl, refl)) ReportsAbsence old new has same h)
+  presence false h es are ts rows = λ all. beside_no (tenures_beside_is n table) (λ trees. (refl, refl)) ReportsAbsence old new has same h (set_no (is_external n) new.now es are ts rows all)

@@ -61,11 +61,11 @@ stated_later : (id : ℕ) (e : Entry) (ts : List Tenure) → id < e.id → AllBy
 stated_later id e [] low = tt
 stated_later id e (t ∷ ts) low = (low, stated_later id e ts low)
 
-pub all_later : (id next low : ℕ) (hs : List History) → id < next → AreNumbered next low (entries_in hs) → AllByRecursion (IsBefore id) (flat_map stated_in hs)
-all_later id next low [] below are = tt
-all_later id next low (h ∷ hs) below are =
+pub all_later : (external : Bool) (id next low : ℕ) (hs : List History) → id < next → AreNumbered external next low (entries_in hs) → AllByRecursion (IsBefore id) (flat_map stated_in hs)
+all_later external id next low [] below are = tt
+all_later external id next low (h ∷ hs) below are =
     all-append (IsBefore id) (stated_in h) (flat_map stated_in hs) (stated_later id h.entry h.tenures (omega (arith, below, are.0.1.0)))
-    (all_later id (next + 1) h.entry.admitted hs (omega (arith, below)) are.1)
+    (all_later external id (next + 1) h.entry.admitted hs (omega (arith, below)) are.1)
 
 -- ---- all of them
 
@@ -74,12 +74,12 @@ by_tenures : (e : Entry) (ts : List Tenure) (rest : List StatedTenure) → AllBy
 by_tenures e [] rest later = refl
 by_tenures e (t ∷ ts) rest later = one_version e true t ts rest later
 
-pub shares_are : (next low : ℕ) (hs : List History) → AreNumbered next low (entries_in hs) → shares_stated true (flat_map stated_in hs) ≡ flat_map shares_of hs
-shares_are next low [] are = refl
-shares_are next low (h ∷ hs) are =
+pub shares_are : (external : Bool) (next low : ℕ) (hs : List History) → AreNumbered external next low (entries_in hs) → shares_stated true (flat_map stated_in hs) ≡ flat_map shares_of hs
+shares_are external next low [] are = refl
+shares_are external next low (h ∷ hs) are =
     let here = are.0.1.0 in
-    by_tenures h.entry h.tenures (flat_map stated_in hs) (all_later h.entry.id (next + 1) h.entry.admitted hs (omega (arith, here)) are.1)
-    ∙ ap (λ ss. shares_of h ++ ss) (shares_are (next + 1) h.entry.admitted hs are.1)
+    by_tenures h.entry h.tenures (flat_map stated_in hs) (all_later external h.entry.id (next + 1) h.entry.admitted hs (omega (arith, here)) are.1)
+    ∙ ap (λ ss. shares_of h ++ ss) (shares_are external (next + 1) h.entry.admitted hs are.1)
 
 -- ---- those of a department
 
@@ -123,8 +123,8 @@ days_of v h (t ∷ ts) false same has is all =
     let are : AreTenures v h.entry (t ∷ ts) = subst (λ xs. AreTenures v h.entry xs) same has.0 in
     days_of_one v.moves v.last h.entry.size h.entry.removal true t ts is are.2 all
 
-pub shares_dated : (v : Vault) (next low : ℕ) (hs : List History) → AreNumbered next low (entries_in hs) → AllByRecursion (IsTenured v) hs → AllByRecursion AreTenuresInLimits hs → AllByRecursion IsDated (flat_map shares_of hs)
-shares_dated v next low [] are all limits = tt
-shares_dated v next low (h ∷ hs) are all limits =
+pub shares_dated : (external : Bool) (v : Vault) (next low : ℕ) (hs : List History) → AreNumbered external next low (entries_in hs) → AllByRecursion (IsTenured v) hs → AllByRecursion AreTenuresInLimits hs → AllByRecursion IsDated (flat_map shares_of hs)
+shares_dated external v next low [] are all limits = tt
+shares_dated external v next low (h ∷ hs) are all limits =
     all-append IsDated (shares_of h) (flat_map shares_of hs) (days_of v h h.tenures h.entry.marker refl all.0 are.0.0.removal limits.0)
-    (shares_dated v (next + 1) h.entry.admitted hs are.1 all.1 limits.1)
+    (shares_dated external v (next + 1) h.entry.admitted hs are.1 all.1 limits.1)

@@ -34,17 +34,14 @@ stated_in_first db m meta v at_last many buckets entries past placed = stated_of
 stated_in_second : (db : Database) (m : MetaRow) → DecidesTenuresOf Second db m true
 stated_in_second db m meta v at_last many buckets entries past placed = stated_of_second v db (many ∙ no_moves_of_second db m meta) buckets.3 entries.1 past placed
 
-stated_in_third : (db : Database) (m : MetaRow) (answer : Result Bool Error) → IfOk answer (DecidesTenuresBy m.moves m.last db) → IfOk answer (DecidesTenuresOf Third db m)
-stated_in_third db m (Err e) stated = tt
-stated_in_third db m (Ok b) stated = λ meta v at_last many buckets entries past placed. stated v at_last many buckets entries
-
 module _ (n : SchemaVersion) (db : Database) (m : MetaRow) where
   pub if_older : (n ≡ First) ⊎ (n ≡ Second) → DecidesTenuresOf n db m true
   if_older (inl is) = subst (λ e. DecidesTenuresOf e db m true) (sym is) (stated_in_first db m)
   if_older (inr is) = subst (λ e. DecidesTenuresOf e db m true) (sym is) (stated_in_second db m)
 
-  pub if_third : n ≡ Third → (answer : Result Bool Error) → IfOk answer (DecidesTenuresBy m.moves m.last db) → IfOk answer (DecidesTenuresOf n db m)
-  if_third is answer stated = subst (λ e. IfOk answer (DecidesTenuresOf e db m)) (sym is) (stated_in_third db m answer stated)
+  pub if_later : (answer : Result Bool Error) → IfOk answer (DecidesTenuresBy n m.moves m.last db) → IfOk answer (DecidesTenuresOf n db m)
+  if_later (Err e) stated = tt
+  if_later (Ok b) stated = λ meta v at_last many buckets entries past placed. stated v at_last many buckets entries
 
   -- the row of meta is that of the vault
   same_numbers : IsMetaOf n db (Some m) → (v : Vault) → AreSoundAs n db v → meta_stated n v ≡ m

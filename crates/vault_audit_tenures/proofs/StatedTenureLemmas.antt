@@ -39,6 +39,8 @@ use Rattle.vault_audit_tenures.specs.declared.sums.tenures.StatedTenure.{StatedT
 use Rattle.vault_audit_tenures.specs.TenureSums.{stated_row, IsStated}
 use Rattle.vault_audit_tenures.proofs.ShareLemmas.{stated, stated_in, same_id, other_id, all_later}
 use Rattle.vault_audit_tenures.proofs.SumTextLemmas.{tenures_text, tenures_shown, tenures_order, tenures_is, tenures_plain}
+use Rattle.vault_audit_tenures.specs.Decided.{HasTenuresTable}
+use Rattle.vault_audit_model.specs.declared.schema.SchemaVersion.{SchemaVersion}
 
 -- ---- the entry of a history, found by its id
 
@@ -48,19 +50,19 @@ IsAt es id e = find (λ (x : Entry). x.id == id) es ≡ Some e
 abbrev IsIn : List Entry → History → Type 0
 IsIn es h = IsAt es h.entry.id h.entry
 
-in_more : (x : Entry) (es : List Entry) (next low : ℕ) (hs : List History) → x.id < next → AreNumbered next low (entries_in hs) → AllByRecursion (IsIn es) hs → AllByRecursion (IsIn (x ∷ es)) hs
-in_more x es next low [] below are all = tt
-in_more x es next low (h ∷ hs) below are all =
+in_more : (external : Bool) (x : Entry) (es : List Entry) (next low : ℕ) (hs : List History) → x.id < next → AreNumbered external next low (entries_in hs) → AllByRecursion (IsIn es) hs → AllByRecursion (IsIn (x ∷ es)) hs
+in_more external x es next low [] below are all = tt
+in_more external x es next low (h ∷ hs) below are all =
     let other = other_id x.id h.entry.id (omega (arith, below, are.0.1.0)) in
-    (ap (λ b. cond b (Some x) (find (λ (y : Entry). y.id == h.entry.id) es)) other ∙ all.0, in_more x es (next + 1) h.entry.admitted hs (omega (arith, below)) are.1 all.1)
+    (ap (λ b. cond b (Some x) (find (λ (y : Entry). y.id == h.entry.id) es)) other ∙ all.0, in_more external x es (next + 1) h.entry.admitted hs (omega (arith, below)) are.1 all.1)
 
-pub each_in : (next low : ℕ) (hs : List History) → AreNumbered next low (entries_in hs) → AllByRecursion (IsIn (entries_in hs)) hs
-each_in next low [] are = tt
-each_in next low (h ∷ hs) are =
+pub each_in : (external : Bool) (next low : ℕ) (hs : List History) → AreNumbered external next low (entries_in hs) → AllByRecursion (IsIn (entries_in hs)) hs
+each_in external next low [] are = tt
+each_in external next low (h ∷ hs) are =
     let here = are.0.1.0 in
     let first = same_id h.entry.id in (
       ap (λ b. cond b (Some h.entry) (find (λ (y : Entry). y.id == h.entry.id) (entries_in hs))) first,
-      in_more h.entry (entries_in hs) (next + 1) h.entry.admitted hs (omega (arith, here)) are.1 (each_in (next + 1) h.entry.admitted hs are.1),
+      in_more external h.entry (entries_in hs) (next + 1) h.entry.admitted hs (omega (arith, here)) are.1 (each_in external (next + 1) h.entry.admitted hs are.1),
     )
 
 -- ---- all rows
@@ -76,12 +78,12 @@ with_beside r x = column r 1 ∷ column r 2 ∷ column r 3 ∷ column r 4 ∷ co
 abbrev pub source : Database → List Values
 source db = join_rows tenures_tree 1 tenures_shown db.trees
 
-source_is : (db : Database) (es : List Entry) → AreEntries db es → source db ≡ map (extended es) (map tenure_columns (db.trees tenures_tree))
-source_is db es are =
+source_is : (external : Bool) (db : Database) (es : List Entry) → AreEntries external db es → source db ≡ map (extended es) (map tenure_columns (db.trees tenures_tree))
+source_is external db es are =
     one_each (shown_beside 1 tenures_shown db.trees) (λ r. extended es (tenure_columns r)) (λ r.
     let rows = or_nulls (filter (is_of (column r 1)) (db.trees entries_tree)) in
     let shown : shown_beside 1 tenures_shown db.trees r ≡ map (with_beside r) (map entry_columns rows) = sym (map-map (with_beside r) entry_columns rows) in
-    shown ∙ ap (map (with_beside r)) (beside_is (db.trees entries_tree) es are.0 are.1 (column r 1))) (db.trees tenures_tree)
+    shown ∙ ap (map (with_beside r)) (beside_is external (db.trees entries_tree) es are.0 are.1 (column r 1))) (db.trees tenures_tree)
     ∙ sym (map-map (extended es) tenure_columns (db.trees tenures_tree))
 
 -- the row of a tenure goes on to what is shown of it beside its version
@@ -100,12 +102,12 @@ extend_all es [] all = refl
 extend_all es (h ∷ hs) all = ap₂ (λ (xs ys : List Values). xs ++ ys) (extend_one es h h.tenures all.0) (extend_all es hs all.1)
 
 -- the query shows the tenures beside their versions, in some order
-pub shown_are : (db : Database) (hs : List History) → AreEntries db (entries_in hs) → IsPermutation (map tenure_row (flat_map tenures_in hs)) (map tenure_columns (db.trees tenures_tree)) → IsPermutation (map stated_row (flat_map stated_in hs)) (source db)
-shown_are db hs entries rows =
+pub shown_are : (external : Bool) (db : Database) (hs : List History) → AreEntries external db (entries_in hs) → IsPermutation (map tenure_row (flat_map tenures_in hs)) (map tenure_columns (db.trees tenures_tree)) → IsPermutation (map stated_row (flat_map stated_in hs)) (source db)
+shown_are external db hs entries rows =
     let es = entries_in hs in
     let each : map (extended es) (map tenure_row (flat_map tenures_in hs)) ≡ map stated_row (flat_map stated_in hs) =
-    map-map (extended es) tenure_row (flat_map tenures_in hs) ∙ map-flat_map (λ (x : TenureRow). extended es (tenure_row x)) tenures_in hs ∙ extend_all es hs (each_in 1 0 hs entries.1) ∙ sym (map-flat_map stated_row stated_in hs) in
-    subst (IsPermutation (map stated_row (flat_map stated_in hs))) (sym (source_is db es entries))
+    map-map (extended es) tenure_row (flat_map tenures_in hs) ∙ map-flat_map (λ (x : TenureRow). extended es (tenure_row x)) tenures_in hs ∙ extend_all es hs (each_in external 1 0 hs entries.1) ∙ sym (map-flat_map stated_row stated_in hs) in
+    subst (IsPermutation (map stated_row (flat_map stated_in hs))) (sym (source_is external db es entries))
     (subst (λ xs. IsPermutation xs (map (extended es) (map tenure_columns (db.trees tenures_tree)))) each (IsPermutation-map (extended es) _ _ rows))
 
 -- ---- in which order
@@ -166,19 +168,19 @@ by_tenures v h (t ∷ ts) false rest same is later up =
     let are : AreTenures v h.entry (t ∷ ts) = subst (λ xs. AreTenures v h.entry xs) same is.0 in
     one_rises v.moves (end_of v.last h.entry.removal) h.entry t ts rest are.2 later up
 
-pub stated_rise : (v : Vault) (next low : ℕ) (hs : List History) → AreNumbered next low (entries_in hs) → AllByRecursion (IsTenured v) hs → Rises (λ a b. row_order a b ≡ Less) (map stated_row (flat_map stated_in hs))
-stated_rise v next low [] are all = tt
-stated_rise v next low (h ∷ hs) are all =
+pub stated_rise : (external : Bool) (v : Vault) (next low : ℕ) (hs : List History) → AreNumbered external next low (entries_in hs) → AllByRecursion (IsTenured v) hs → Rises (λ a b. row_order a b ≡ Less) (map stated_row (flat_map stated_in hs))
+stated_rise external v next low [] are all = tt
+stated_rise external v next low (h ∷ hs) are all =
     let here = are.0.1.0 in
-    by_tenures v h h.tenures h.entry.marker (flat_map stated_in hs) refl all.0 (all_later h.entry.id (next + 1) h.entry.admitted hs (omega (arith, here)) are.1) (stated_rise v (next + 1) h.entry.admitted hs are.1 all.1)
+    by_tenures v h h.tenures h.entry.marker (flat_map stated_in hs) refl all.0 (all_later external h.entry.id (next + 1) h.entry.admitted hs (omega (arith, here)) are.1) (stated_rise external v (next + 1) h.entry.admitted hs are.1 all.1)
 
 -- ---- what the statement answers
 
 by_pair : IsOrderOf (beside_of tenures_tree 1 tenures_shown tenures_order) row_order
 by_pair a b = refl
 
-pub answers : (a b : State) → a.now.schema ≡ schema_of Third → (rows : List Values) → Shown tenures_text [] a b rows → IsPermutation (source a.now) rows × IsSorted row_order rows
-answers a b schema rows shown = joined tenures_text a b (schema_of Third) schema tenures_plain tenures_is.1 tenures_tree 1 tenures_shown tenures_order row_order _ tenures_is.0 by_pair refl rows shown
+pub answers : (n : SchemaVersion) → HasTenuresTable n → (a b : State) → a.now.schema ≡ schema_of n → (rows : List Values) → Shown tenures_text [] a b rows → IsPermutation (source a.now) rows × IsSorted row_order rows
+answers n has a b schema rows shown = joined tenures_text a b (schema_of n) schema (tenures_plain n has) (tenures_is n has).1 tenures_tree 1 tenures_shown tenures_order row_order _ (tenures_is n has).0 by_pair refl rows shown
 
 -- ---- limits
 
@@ -186,11 +188,11 @@ removed_by : (o : Option Removal) → IfSome o IsRemoval → IfSome (option_map 
 removed_by None is = tt
 removed_by (Some r) is = is.at
 
-reports_one : (e : Entry) (ts : List Tenure) (rest : List StatedTenure) → IsEntry e → AllByRecursion IsTenure ts → AllByRecursion (ReportsOne stated_row IsStated) (map stated_row rest) → AllByRecursion (ReportsOne stated_row IsStated) (map stated_row (map (stated e) ts ++ rest))
-reports_one e [] rest is all more = more
-reports_one e (t ∷ ts) rest is all more = ((stated e t, refl, record { id = is.id; tenure = all.0; removed = removed_by e.removal is.removal }), reports_one e ts rest is all.1 more)
+reports_one : (external : Bool) (e : Entry) (ts : List Tenure) (rest : List StatedTenure) → IsEntry external e → AllByRecursion IsTenure ts → AllByRecursion (ReportsOne stated_row IsStated) (map stated_row rest) → AllByRecursion (ReportsOne stated_row IsStated) (map stated_row (map (stated e) ts ++ rest))
+reports_one external e [] rest is all more = more
+reports_one external e (t ∷ ts) rest is all more = ((stated e t, refl, record { id = is.id; tenure = all.0; removed = removed_by e.removal is.removal }), reports_one external e ts rest is all.1 more)
 
 -- each of these rows holds a tenure in its limits
-pub each_reads_so : (next low : ℕ) (hs : List History) → AreNumbered next low (entries_in hs) → AllByRecursion AreTenuresInLimits hs → AllByRecursion (ReportsOne stated_row IsStated) (map stated_row (flat_map stated_in hs))
-each_reads_so next low [] are all = tt
-each_reads_so next low (h ∷ hs) are all = reports_one h.entry h.tenures (flat_map stated_in hs) are.0.0 all.0 (each_reads_so (next + 1) h.entry.admitted hs are.1 all.1)
+pub each_reads_so : (external : Bool) (next low : ℕ) (hs : List History) → AreNumbered external next low (entries_in hs) → AllByRecursion AreTenuresInLimits hs → AllByRecursion (ReportsOne stated_row IsStated) (map stated_row (flat_map stated_in hs))
+each_reads_so external next low [] are all = tt
+each_reads_so external next low (h ∷ hs) are all = reports_one external h.entry h.tenures (flat_map stated_in hs) are.0.0 all.0 (each_reads_so external (next + 1) h.entry.admitted hs are.1 all.1)

@@ -10,7 +10,7 @@ use Rattle.sqlite.specs.Listing.{understood, reads_listing}
 use Rattle.sqlite.proofs.Callers.{IsPlain, command_of}
 use Rattle.sqlite_sql.specs.Term.{Term, col}
 use Rattle.vault_audit_model.specs.declared.schema.SchemaVersion.{SchemaVersion}
-use Rattle.vault_audit_model.specs.declared.schema.SchemaVersion.TheVariants.{First, Second, Third}
+use Rattle.vault_audit_model.specs.declared.schema.SchemaVersion.TheVariants.{First, Second, Third, Fourth}
 use Rattle.vault_audit_model.specs.Queries.{table_scan, Selects}
 use Rattle.vault_audit_model.specs.Rows.{department_columns_as}
 use Rattle.vault_audit_model.specs.Tables.{schema_of, departments, departments_tree, buckets_tree, entries_tree, tenures_tree}
@@ -20,24 +20,28 @@ use Rattle.vault_audit_schema.specs.Texts.{names_of}
 use Rattle.vault_audit_rows.proofs.JoinLemmas.{joined_of}
 use Rattle.vault_audit_rows.proofs.ScanLemmas.{shows}
 use Rattle.vault_audit_rows.specs.Health.{Asks}
+use Rattle.vault_audit_tenures.specs.Decided.{HasTenuresTable}
 
 pub departments_scan : (n : SchemaVersion) → Selects (schema_of n) (departments_select n []) (table_scan departments_tree [] (department_terms n))
 unfolding understood everything
 departments_scan First = record { names = names_of departments; is = refl; plain = (refl, refl); unlisted = refl }
 departments_scan Second = record { names = names_of departments; is = refl; plain = (refl, refl); unlisted = refl }
 departments_scan Third = record { names = names_of departments; is = refl; plain = (refl, refl); unlisted = refl }
+departments_scan Fourth = record { names = names_of departments; is = refl; plain = (refl, refl); unlisted = refl }
 
 pub departments_asks : (n : SchemaVersion) → Asks (schema_of n) (departments_select n [])
 unfolding understood everything
 departments_asks First = record { is = (omega (arith), refl, (refl, refl, refl, refl)); unlisted = refl }
 departments_asks Second = record { is = (omega (arith), refl, (refl, refl, refl, refl)); unlisted = refl }
 departments_asks Third = record { is = (omega (arith), refl, (refl, refl, refl, refl)); unlisted = refl }
+departments_asks Fourth = record { is = (omega (arith), refl, (refl, refl, refl, refl)); unlisted = refl }
 
 -- it shows the columns of each row
 shown_columns : (n : SchemaVersion) (row : Row) → shows (department_terms n) [] row ≡ department_columns_as n row
 shown_columns First row = refl
 shown_columns Second row = refl
 shown_columns Third row = refl
+shown_columns Fourth row = refl
 
 pub departments_shows : (n : SchemaVersion) (rows : List Row) → map (shows (department_terms n) []) rows ≡ map (department_columns_as n) rows
 departments_shows n [] = refl
@@ -77,15 +81,24 @@ tenures_order = (col 1 1, ascending Binary) ∷ (col 1 2, ascending Binary) ∷ 
 abbrev pub tenures_names : List (List ℕ)
 tenures_names = codes "id" ∷ codes "n" ∷ codes "dept" ∷ codes "moment" ∷ codes "size" ∷ codes "removed" ∷ []
 
-pub tenures_is : (command_of (understood (schema_of Third) tenures_text) ≡ Select (record { lets = []; body = beside_of tenures_tree 1 tenures_shown tenures_order }) tenures_names)
-    × (reads_listing (schema_of Third) tenures_text ≡ false)
+pub tenures_is : (n : SchemaVersion) → HasTenuresTable n → (command_of (understood (schema_of n) tenures_text) ≡ Select (record { lets = []; body = beside_of tenures_tree 1 tenures_shown tenures_order }) tenures_names)
+    × (reads_listing (schema_of n) tenures_text ≡ false)
 unfolding understood everything
-tenures_is = (refl, refl)
+tenures_is First has = absurd has
+tenures_is Second has = absurd has
+tenures_is Third has = (refl, refl)
+tenures_is Fourth has = (refl, refl)
 
-pub tenures_plain : IsPlain (understood (schema_of Third) tenures_text)
+pub tenures_plain : (n : SchemaVersion) → HasTenuresTable n → IsPlain (understood (schema_of n) tenures_text)
 unfolding understood everything
-tenures_plain = (refl, refl)
+tenures_plain First has = absurd has
+tenures_plain Second has = absurd has
+tenures_plain Third has = (refl, refl)
+tenures_plain Fourth has = (refl, refl)
 
-pub tenures_asks : Asks (schema_of Third) tenures_text
+pub tenures_asks : (n : SchemaVersion) → HasTenuresTable n → Asks (schema_of n) tenures_text
 unfolding understood everything
-tenures_asks = record { is = (omega (arith), refl, (refl, refl, refl, refl)); unlisted = refl }
+tenures_asks First has = absurd has
+tenures_asks Second has = absurd has
+tenures_asks Third has = record { is = (omega (arith), refl, (refl, refl, refl, refl)); unlisted = refl }
+tenures_asks Fourth has = record { is = (omega (arith), refl, (refl, refl, refl, refl)); unlisted = refl }

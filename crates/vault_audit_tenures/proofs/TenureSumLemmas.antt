@@ -31,6 +31,10 @@ use Rattle.vault_audit_tenures.proofs.ShareLemmas.{stated_in, shares_are, items_
 use Rattle.vault_audit_tenures.proofs.SumTextLemmas.{tenures_text, tenures_is}
 use Rattle.vault_audit_tenures.proofs.StatedTenureLemmas.{source, shown_are, row_order, row_order_total, stated_rise, answers, each_reads_so}
 use Rattle.vault_audit_tenures.proofs.TotalLemmas.{no_item}
+use Rattle.vault_audit_model.specs.SchemaVersions.{is_external}
+use Rattle.vault_audit_tenures.specs.Decided.{HasTenuresTable}
+use Rattle.vault_audit_tenures.proofs.TableLemmas.{rows_as}
+use Rattle.vault_audit_model.specs.declared.schema.SchemaVersion.{SchemaVersion}
 
 abbrev as_pending : StatedTenure → Bool → Pending
 as_pending t first = record { stated = t; first = first }
@@ -90,27 +94,27 @@ module _ (name : List ℕ) where
 
 -- ---- the walk
 
-module _ (old new : State) (has : old.now.schema ≡ schema_of Third) (same : IsUnchanged old new) (p q : TenurePass) (v : Vault) (entries : AreEntries new.now (entries_in v.histories)) (are : AreTenuresOf Third new.now v) where
+module _ (n : SchemaVersion) (table : HasTenuresTable n) (old new : State) (has : old.now.schema ≡ schema_of n) (same : IsUnchanged old new) (p q : TenurePass) (v : Vault) (entries : AreEntries (is_external n) new.now (entries_in v.histories)) (are : AreTenuresOf n new.now v) where
   abbrev met : List StatedTenure
   met = flat_map stated_in v.histories
 
-  known : new.now.schema ≡ schema_of Third
+  known : new.now.schema ≡ schema_of n
   known = ap (λ (d : Database). d.schema) same.0.now_is ∙ has
 
   pub tenures_yes : ((name : List ℕ) → total_of p.totals name ≡ Some empty_sums) → p.pending ≡ None → Walked GoesIn ReportsNone tenures_text old new p q true → (r : Totals) → CountsLast q.totals q.pending r → AreTotals v.histories r
   tenures_yes empty none (rows, shown, goes) r left name =
-      let whole = answers old new has rows shown in
-      let shuffled = subst (λ (d : Database). IsPermutation (map stated_row met) (source d)) same.0.now_is (shown_are new.now v.histories entries are.rows) in
-      let order = sorted_unique row_order row_order_total (map stated_row met) rows (stated_rise v 1 0 v.histories entries.1 are.tenured) (IsPermutation-trans _ _ _ shuffled whole.0) whole.1 in
-      let shares = shares_are 1 0 v.histories entries.1 in
-      let dates = subst (AllByRecursion IsDated) (sym shares) (shares_dated v 1 0 v.histories entries.1 are.tenured are.limits) in
+      let whole = answers n table old new has rows shown in
+      let shuffled = subst (λ (d : Database). IsPermutation (map stated_row met) (source d)) same.0.now_is (shown_are (is_external n) new.now v.histories entries (rows_as n table new.now v are.rows)) in
+      let order = sorted_unique row_order row_order_total (map stated_row met) rows (stated_rise (is_external n) v 1 0 v.histories entries.1 are.tenured) (IsPermutation-trans _ _ _ shuffled whole.0) whole.1 in
+      let shares = shares_are (is_external n) 1 0 v.histories entries.1 in
+      let dates = subst (AllByRecursion IsDated) (sym shares) (shares_dated (is_external n) v 1 0 v.histories entries.1 are.tenured are.limits) in
       let counted = begun name p q r rows met none order dates goes left (subst (λ o. IsTotal o []) (sym (empty name)) no_item) in
       subst (IsTotal (total_of r name)) (ap (items_by name) shares ∙ items_are name v.histories) counted
 
   pub tenures_no : ¬ Walked GoesIn ReportsNone tenures_text old new p q false
   tenures_no (rows, row, m, begins, goes, never) =
-      let on = goes_on_to tenures_text new (schema_of Third) known _ _ tenures_is.0 same.0.is_open (rows ++ row ∷ []) begins in
-      let whole = answers new new known ((rows ++ row ∷ []) ++ on.0) on.1 in
-      let every = all-permutation (ReportsOne stated_row IsStated) _ _ (IsPermutation-trans _ _ _ (shown_are new.now v.histories entries are.rows) whole.0) (each_reads_so 1 0 v.histories entries.1 are.limits) in
+      let on = goes_on_to tenures_text new (schema_of n) known _ _ (tenures_is n table).0 same.0.is_open (rows ++ row ∷ []) begins in
+      let whole = answers n table new new known ((rows ++ row ∷ []) ++ on.0) on.1 in
+      let every = all-permutation (ReportsOne stated_row IsStated) _ _ (IsPermutation-trans _ _ _ (shown_are (is_external n) new.now v.histories entries (rows_as n table new.now v are.rows)) whole.0) (each_reads_so (is_external n) 1 0 v.histories entries.1 are.limits) in
       let it = between (ReportsOne stated_row IsStated) rows row [] (front_of (ReportsOne stated_row IsStated) (rows ++ row ∷ []) on.0 every) in
       never it.0 it.2 it.1

@@ -66,10 +66,10 @@ all_first : (bs : List Bucket) (hs : List History) → AllByRecursion (HasFirstT
 all_first bs [] = tt
 all_first bs (h ∷ hs) = (refl, all_first bs hs)
 
-all_in_limits : (bs : List Bucket) (next low : ℕ) (hs : List History) → AllByRecursion IsBucket bs → AreNumbered next low (entries_in hs) → AllByRecursion AreTenuresInLimits (map (tenured_in bs) hs)
-all_in_limits bs next low [] all are = tt
-all_in_limits bs next low (h ∷ hs) all are =
-    (in_limits h.entry.marker h.entry.admitted (config_in bs h.entry.bucket) are.0.0.admitted (named bs h.entry.bucket all), all_in_limits bs (next + 1) h.entry.admitted hs all are.1)
+all_in_limits : (external : Bool) (bs : List Bucket) (next low : ℕ) (hs : List History) → AllByRecursion IsBucket bs → AreNumbered external next low (entries_in hs) → AllByRecursion AreTenuresInLimits (map (tenured_in bs) hs)
+all_in_limits external bs next low [] all are = tt
+all_in_limits external bs next low (h ∷ hs) all are =
+    (in_limits h.entry.marker h.entry.admitted (config_in bs h.entry.bucket) are.0.0.admitted (named bs h.entry.bucket all), all_in_limits external bs (next + 1) h.entry.admitted hs all are.1)
 
 module _ (v : Vault) where
   with_bucket : (removal : Option Removal) (h : History) (c : BucketConfig) → config_of v h.entry.bucket ≡ Some c → IsWithBucket v removal (record h { tenures = first_tenures false h.entry.admitted (Some c) })
@@ -85,7 +85,7 @@ module _ (v : Vault) where
   all_tenured [] past placed = tt
   all_tenured (h ∷ hs) past placed = (has_first h.entry.marker (config_of v h.entry.bucket) h refl placed.0 past.0, all_tenured hs past.1 placed.1)
 
-  module _ (db : Database) (moves : v.moves ≡ 0) (buckets : AllByRecursion IsBucket v.buckets) (numbers : AreNumbered 1 0 (entries_in v.histories)) (past : AllByRecursion (IsPast v.last) (entries_in v.histories)) (placed : AllByRecursion (IsPlaced v) v.histories) where
+  module _ (db : Database) (moves : v.moves ≡ 0) (buckets : AllByRecursion IsBucket v.buckets) (numbers : AreNumbered false 1 0 (entries_in v.histories)) (past : AllByRecursion (IsPast v.last) (entries_in v.histories)) (placed : AllByRecursion (IsPlaced v) v.histories) where
     abbrev made : List History
     made = map (tenured_in v.buckets) v.histories
 
@@ -100,7 +100,7 @@ module _ (v : Vault) where
         record {
           rows = IsPermutation-refl [];
           unmoved = unmoved;
-          limits = all_in_limits v.buckets 1 0 v.histories buckets numbers;
+          limits = all_in_limits false v.buckets 1 0 v.histories buckets numbers;
           tenured = tenured_alike v v.histories made made (all_tenured v.histories past placed);
         },
       ),
@@ -114,7 +114,7 @@ module _ (v : Vault) where
         record {
           rows = IsPermutation-refl [];
           unmoved = unmoved;
-          limits = all_in_limits v.buckets 1 0 v.histories buckets numbers;
+          limits = all_in_limits false v.buckets 1 0 v.histories buckets numbers;
           tenured = tenured_alike v v.histories made made (all_tenured v.histories past placed);
         },
       ),

@@ -41,6 +41,7 @@ use Rattle.vault_audit_tenures.proofs.SumTextLemmas.{owned_text, owned_is}
 use Rattle.vault_audit_tenures.proofs.OwnedEntryLemmas.{source, shown_are, owned_rise, answers, each_reads_so}
 use Rattle.vault_audit_tenures.proofs.TotalLemmas.{no_item}
 use Rattle.vault_audit_tenures.proofs.ShareLemmas.{removal_days}
+use Rattle.vault_audit_model.specs.SchemaVersions.{is_external}
 
 -- ---- versions and their days
 
@@ -57,14 +58,14 @@ before_the_last : (admitted last : ℕ) (o : Option Removal) → admitted ≤ la
 before_the_last admitted last None early is lies = (early, omega arith)
 before_the_last admitted last (Some r) early is lies = (lies.0, is.at)
 
-is_dated_by : (last : ℕ) (bs : List Bucket) (e : Entry) → IsEntry e → IsPast last e → IsDated (owned_in bs e)
-is_dated_by last bs e is past =
+is_dated_by : (external : Bool) (last : ℕ) (bs : List Bucket) (e : Entry) → IsEntry external e → IsPast last e → IsDated (owned_in bs e)
+is_dated_by external last bs e is past =
     let lies = before_the_last e.admitted last e.removal is.admitted is.removal past.1 in
     subst (λ i. IsTrue (is_dated i)) (sym (stated_is bs e)) (dated e.admitted last_moment e.removal lies.0 lies.1 (omega arith))
 
-are_dated : (next low last : ℕ) (bs : List Bucket) (es : List Entry) → AreNumbered next low es → AllByRecursion (IsPast last) es → AllByRecursion IsDated (map (owned_in bs) es)
-are_dated next low last bs [] are past = tt
-are_dated next low last bs (e ∷ es) are past = (is_dated_by last bs e are.0.0 past.0, are_dated (next + 1) e.admitted last bs es are.1 past.1)
+are_dated : (external : Bool) (next low last : ℕ) (bs : List Bucket) (es : List Entry) → AreNumbered external next low es → AllByRecursion (IsPast last) es → AllByRecursion IsDated (map (owned_in bs) es)
+are_dated external next low last bs [] are past = tt
+are_dated external next low last bs (e ∷ es) are past = (is_dated_by external last bs e are.0.0 past.0, are_dated external (next + 1) e.admitted last bs es are.1 past.1)
 
 -- ---- the versions that are counted for a department are its tenures, where each version has its first one alone
 
@@ -112,7 +113,7 @@ module _ (name : List ℕ) where
 -- ---- the walk
 
 module _ (n : SchemaVersion) (old new : State) (has : old.now.schema ≡ schema_of n) (same : IsUnchanged old new) (p r : SumPass) (v : Vault)
-    (buckets : AreBuckets n new.now v.buckets) (entries : AreEntries new.now (entries_in v.histories)) (past : AllByRecursion (IsPast v.last) (entries_in v.histories)) (unmoved : IsUnmoved v) where
+    (buckets : AreBuckets n new.now v.buckets) (entries : AreEntries (is_external n) new.now (entries_in v.histories)) (past : AllByRecursion (IsPast v.last) (entries_in v.histories)) (unmoved : IsUnmoved v) where
   abbrev es : List Entry
   es = entries_in v.histories
 
@@ -126,14 +127,14 @@ module _ (n : SchemaVersion) (old new : State) (has : old.now.schema ≡ schema_
   totals_yes none (rows, shown, goes) name =
       let whole = answers n old new has rows shown in
       let are = subst (λ (d : Database). IsPermutation (map owned_row stated) (source d)) same.0.now_is (shown_are n new.now v.buckets es buckets entries) in
-      let order = sorted_unique first_cmp first_cmp_total (map owned_row stated) rows (owned_rise v.buckets es entries.1) (IsPermutation-trans _ _ _ are whole.0) whole.1 in
+      let order = sorted_unique first_cmp first_cmp_total (map owned_row stated) rows (owned_rise (is_external n) v.buckets es entries.1) (IsPermutation-trans _ _ _ are whole.0) whole.1 in
       let begun = subst (λ o. IsTotal o []) (sym (none name)) no_item in
-      subst (IsTotal (total_of r.totals name)) (items_are v.buckets name v.histories unmoved.tenures) (went name p r rows stated [] order (are_dated 1 0 v.last v.buckets es entries.1 past) goes begun)
+      subst (IsTotal (total_of r.totals name)) (items_are v.buckets name v.histories unmoved.tenures) (went name p r rows stated [] order (are_dated (is_external n) 1 0 v.last v.buckets es entries.1 past) goes begun)
 
   pub totals_no : ¬ Walked GoesIn ReportsNone owned_text old new p r false
   totals_no (rows, row, m, begins, goes, never) =
       let on = goes_on_to owned_text new (schema_of n) known _ _ (owned_is n).0 same.0.is_open (rows ++ row ∷ []) begins in
       let whole = answers n new new known ((rows ++ row ∷ []) ++ on.0) on.1 in
-      let every = all-permutation (ReportsOne owned_row IsOwned) _ _ (IsPermutation-trans _ _ _ (shown_are n new.now v.buckets es buckets entries) whole.0) (each_reads_so 1 0 v.buckets es buckets.3 entries.1) in
+      let every = all-permutation (ReportsOne owned_row IsOwned) _ _ (IsPermutation-trans _ _ _ (shown_are n new.now v.buckets es buckets entries) whole.0) (each_reads_so (is_external n) 1 0 v.buckets es buckets.3 entries.1) in
       let it = between (ReportsOne owned_row IsOwned) rows row [] (front (ReportsOne owned_row IsOwned) (rows ++ row ∷ []) on.0 every) in
       never it.0 it.2 it.1

@@ -18,5 +18,5 @@ abbrev pub HasSome : List TenureRow → Entry → Type 0
 HasSome ts e = list_any (λ t. t.id == e.id) ts ≡ not e.marker
 
 -- whether each version has a tenure and no marker has one
-abbrev pub DecidesPresence : Database → Bool → Type 0
-DecidesPresence db b = (es : List Entry) → AreEntries db es → (ts : List TenureRow) → AreRowsOf db ts → Decides b (AllByRecursion (HasSome ts) es)
+abbrev pub DecidesPresence : Bool → Database → Bool → Type 0
+DecidesPresence external db b = (es : List Entry) → AreEntries external db es → (ts : List TenureRow) → AreRowsOf db ts → Decides b (AllByRecursion (HasSome ts) es)

@@ -2,12 +2,13 @@
 ghost use Rattle.std.specs.Prelude.{◌≡◌, ◌↔◌, IsTrue, IfSome, IfOk, IfErr};
 ghost use Rattle.sqlite.specs.State.{HasCleanDisk};
 ghost use Rattle.sqlite.specs.Held.{state};
-ghost use Rattle.vault_audit_model.specs.declared.schema.SchemaVersion.TheVariants.{Third};
+ghost use Rattle.vault_audit_tenures.specs.Decided.{HasTenuresTable};
 ghost use Rattle.vault_audit_tenures.specs.Chain.{end_at, IsTimely, IsFirst, IsNext, IsLast, Follows, DecidesChains};
 ghost use Rattle.vault_audit_rows.specs.Health.{IsHealthy, IsMemory, IsOfSchemaVersion, OnlyLooks};
 
 use crate::owned_tenures::{OwnedTenure, read_owned};
 use sqlite::{Alter, Connection, Error, ErrorCode, Row};
+use vault_audit_model::schema::SchemaVersion;
 use vault_audit_rows::misread::Misread;
 use vault_audit_rows::walk::{Pass, walk};
 use vault_base::moment::Moment;
@@ -96,7 +97,8 @@ fn is_ended(tenure: &Option<OwnedTenure>) -> bool
 
 impl Pass for TenurePass {
     ghost use Rattle.vault_audit_rows.specs.Pass.{Takes, Refuses};
-    ghost use Rattle.vault_audit_tenures.specs.Chain.{ComesNext, with_tenure};
+    ghost use Rattle.vault_audit_tenures.specs.Decided.{HasTenuresTable};
+ghost use Rattle.vault_audit_tenures.specs.Chain.{ComesNext, with_tenure};
     ghost use Rattle.vault_audit_tenures.specs.OwnedTenures.{owned_row};
 
     ghost goes = { λ p row q. Takes owned_row ComesNext with_tenure p row q };
@@ -123,10 +125,12 @@ impl Pass for TenurePass {
 /// end, where n moves were made by the last moment.
 pub(crate) fn are_chains<S: Alter>(
     conn: &mut Connection<S>,
+    schema_version: SchemaVersion,
     moves: u64,
     last: Moment,
 ) -> Result<bool, Error>
-    requires { IsOfSchemaVersion S.Store conn.old Third }
+    requires table { HasTenuresTable schema_version }
+    requires schema { IsOfSchemaVersion S.Store conn.old schema_version }
     ensures reported { HasCleanDisk (state S.Store conn.new) → IfOk result (DecidesChains moves last (state S.Store conn.new).now) }
     ensures look { OnlyLooks S.Store conn.old conn.new result }
     ensures err { IsHealthy (state S.Store conn.new) → IfErr result IsMemory }

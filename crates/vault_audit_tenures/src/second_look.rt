@@ -2,8 +2,7 @@
 ghost use Rattle.std.specs.Prelude.{IsTrue, IfOk, IfErr};
 ghost use Rattle.sqlite.specs.State.{HasCleanDisk};
 ghost use Rattle.sqlite.specs.Held.{state};
-ghost use Rattle.vault_audit_model.specs.declared.schema.SchemaVersion.TheVariants.{Third};
-ghost use Rattle.vault_audit_tenures.specs.Decided.{DamagedUnless, DecidesTenuresBy, DecidesTenuresOf};
+ghost use Rattle.vault_audit_tenures.specs.Decided.{HasTenuresTable, DamagedUnless, DecidesTenuresBy, DecidesTenuresOf};
 ghost use Rattle.vault_audit_rows.specs.Health.{IsHealthy, IsMemory, IsOfSchemaVersion, OnlyLooks};
 
 use crate::chain::are_chains;
@@ -18,19 +17,21 @@ use vault_base::moment::Moment;
 /// by the last moment.
 fn check_rows_of_tenures<S: Alter>(
     conn: &mut Connection<S>,
+    schema_version: SchemaVersion,
     moves: u64,
     last: Moment,
 ) -> Result<bool, Error>
-    requires { IsOfSchemaVersion S.Store conn.old Third }
-    ensures reported { HasCleanDisk (state S.Store conn.new) → IfOk result (DecidesTenuresBy moves last (state S.Store conn.new).now) }
+    requires table { HasTenuresTable schema_version }
+    requires schema { IsOfSchemaVersion S.Store conn.old schema_version }
+    ensures reported { HasCleanDisk (state S.Store conn.new) → IfOk result (DecidesTenuresBy schema_version moves last (state S.Store conn.new).now) }
     ensures look { OnlyLooks S.Store conn.old conn.new result }
     ensures err { IsHealthy (state S.Store conn.new) → IfErr result IsMemory }
 {
-    let present = have_tenures(conn)?;
+    let present = have_tenures(conn, schema_version)?;
     if !present {
         return Ok(false);
     }
-    are_chains(conn, moves, last)
+    are_chains(conn, schema_version, moves, last)
 }
 
 /// Whether the tenures of the versions are those of a vault with this row of `meta`. A schema version
@@ -49,6 +50,8 @@ pub fn check_tenures<S: Alter>(
 {
     match schema_version {
         SchemaVersion::First | SchemaVersion::Second => Ok(true),
-        SchemaVersion::Third => check_rows_of_tenures(conn, meta.moves, meta.last),
+        SchemaVersion::Third | SchemaVersion::Fourth => {
+            check_rows_of_tenures(conn, schema_version, meta.moves, meta.last)
+        }
     }
 }

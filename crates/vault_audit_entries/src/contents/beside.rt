@@ -6,6 +6,7 @@ ghost use Rattle.vault_core_model.specs.declared.records.Entry.{Entry};
 ghost use Rattle.vault_audit_model.specs.declared.rows.ContentRow.{ContentRow as Given};
 ghost use Rattle.vault_audit_model.specs.Limits.{IsContentRow};
 ghost use Rattle.vault_audit_model.specs.Relations.{AreEntries};
+ghost use Rattle.vault_audit_model.specs.SchemaVersions.{is_external};
 ghost use Rattle.vault_audit_entries.specs.Contents.{held_row, DecidesHeld};
 ghost use Rattle.vault_audit_rows.specs.Health.{IsHealthy, IsMemory, IsOfSchemaVersion, OnlyLooks};
 
@@ -98,7 +99,7 @@ pub fn check_bytes<S: Alter>(
 ) -> Result<Option<u64>, Error>
     requires { IsOfSchemaVersion S.Store conn.old schema_version }
     ensures reported { HasCleanDisk (state S.Store conn.new) → IfOk result (λ found. (es : List Entry) →
-        AreEntries (state S.Store conn.new).now es → DecidesHeld (state S.Store conn.new).now es found) }
+        AreEntries (is_external schema_version) (state S.Store conn.new).now es → DecidesHeld schema_version (state S.Store conn.new).now es found) }
     ensures look { OnlyLooks S.Store conn.old conn.new result }
     ensures err { IsHealthy (state S.Store conn.new) → IfErr result IsMemory }
 {

@@ -3,6 +3,7 @@
 ghost use Rattle.std.specs.Prelude.{IfOk, IfErr};
 ghost use Rattle.sqlite.specs.State.{HasCleanDisk};
 ghost use Rattle.sqlite.specs.Held.{state};
+ghost use Rattle.vault_audit_model.specs.SchemaVersions.{is_external};
 ghost use Rattle.vault_audit_entries.specs.HeadCounts.{DecidesCountRows};
 ghost use Rattle.vault_audit_rows.specs.Health.{IsHealthy, IsMemory, IsOfSchemaVersion, OnlyLooks};
 
@@ -38,7 +39,7 @@ pub fn check_counts<S: Alter>(
     schema_version: SchemaVersion,
 ) -> Result<bool, Error>
     requires { IsOfSchemaVersion S.Store conn.old schema_version }
-    ensures reported { HasCleanDisk (state S.Store conn.new) → IfOk result (DecidesCountRows (state S.Store conn.new).now) }
+    ensures reported { HasCleanDisk (state S.Store conn.new) → IfOk result (DecidesCountRows (is_external schema_version) (state S.Store conn.new).now) }
     ensures look { OnlyLooks S.Store conn.old conn.new result }
     ensures err { IsHealthy (state S.Store conn.new) → IfErr result IsMemory }
 {

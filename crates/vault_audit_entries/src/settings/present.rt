@@ -2,6 +2,7 @@
 ghost use Rattle.std.specs.Prelude.{IfOk, IfErr};
 ghost use Rattle.sqlite.specs.State.{HasCleanDisk};
 ghost use Rattle.sqlite.specs.Held.{state};
+ghost use Rattle.vault_audit_model.specs.SchemaVersions.{is_external};
 ghost use Rattle.vault_audit_entries.specs.SettingPlaces.{DecidesPresence};
 ghost use Rattle.vault_audit_rows.specs.Health.{IsHealthy, IsMemory, IsOfSchemaVersion, OnlyLooks};
 
@@ -16,7 +17,7 @@ pub(crate) fn have_settings<S: Alter>(
     schema_version: SchemaVersion,
 ) -> Result<bool, Error>
     requires { IsOfSchemaVersion S.Store conn.old schema_version }
-    ensures reported { HasCleanDisk (state S.Store conn.new) → IfOk result (DecidesPresence (state S.Store conn.new).now) }
+    ensures reported { HasCleanDisk (state S.Store conn.new) → IfOk result (DecidesPresence (is_external schema_version) (state S.Store conn.new).now) }
     ensures look { OnlyLooks S.Store conn.old conn.new result }
     ensures err { IsHealthy (state S.Store conn.new) → IfErr result IsMemory }
 {

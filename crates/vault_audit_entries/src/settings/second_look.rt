@@ -6,6 +6,7 @@ ghost use Rattle.vault_core_model.specs.declared.records.Entry.{Entry};
 ghost use Rattle.vault_core_model.specs.Vault.{Vault};
 ghost use Rattle.vault_audit_model.specs.Spells.{AreSoundAs};
 ghost use Rattle.vault_audit_model.specs.Relations.{AreEntries, DecidesSettings};
+ghost use Rattle.vault_audit_model.specs.SchemaVersions.{is_external};
 ghost use Rattle.vault_audit_rows.specs.Health.{IsHealthy, IsMemory, IsOfSchemaVersion, OnlyLooks};
 
 use crate::settings::placed::are_placed;
@@ -23,7 +24,7 @@ pub fn check_history_of_settings<S: Alter>(
 ) -> Result<bool, Error>
     requires { IsOfSchemaVersion S.Store conn.old schema_version }
     ensures reported { HasCleanDisk (state S.Store conn.new) → IfOk result (λ found. (es : List Entry) →
-        AreEntries (state S.Store conn.new).now es → DecidesSettings (state S.Store conn.new).now es found) }
+        AreEntries (is_external schema_version) (state S.Store conn.new).now es → DecidesSettings (state S.Store conn.new).now es found) }
     ensures damaged { HasCleanDisk (state S.Store conn.new) → IfOk result (λ found. found ≡ false → (v : Vault) → ¬ AreSoundAs schema_version (state S.Store conn.new).now v) }
     ensures look { OnlyLooks S.Store conn.old conn.new result }
     ensures err { IsHealthy (state S.Store conn.new) → IfErr result IsMemory }

@@ -74,7 +74,9 @@ fn departments_walk(schema_version: SchemaVersion) -> &'static str
         SchemaVersion::First | SchemaVersion::Second => {
             departments_columns!(earlier_select_text, " ORDER BY name")
         }
-        SchemaVersion::Third => departments_columns!(select_text, " ORDER BY name"),
+        SchemaVersion::Third | SchemaVersion::Fourth => {
+            departments_columns!(select_text, " ORDER BY name")
+        }
     }
 }
 

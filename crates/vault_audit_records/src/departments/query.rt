@@ -11,6 +11,6 @@ pub fn departments_query(schema_version: SchemaVersion) -> &'static str
 {
     match schema_version {
         SchemaVersion::First | SchemaVersion::Second => departments_columns!(earlier_select_text),
-        SchemaVersion::Third => departments_columns!(select_text),
+        SchemaVersion::Third | SchemaVersion::Fourth => departments_columns!(select_text),
     }
 }

@@ -13,6 +13,8 @@ use vault_core_model::records::{Entry, Removal};
 /// The check of single rows of `entries`.
 #[derive(Drop)]
 pub struct EntryCheck {
+    /// Whether the vault may register contents that are kept outside.
+    pub external: bool,
     /// The last moment.
     pub last: Moment,
 }
@@ -39,11 +41,11 @@ impl Check for EntryCheck {
     ghost use Rattle.vault_audit_rows.specs.Records.{ReportsOne};
     ghost use Rattle.vault_audit_records.specs.Entries.{IsEntryBy};
 
-    ghost takes = { λ c. ReportsOne entry_row (IsEntryBy c.last) };
+    ghost takes = { λ c. ReportsOne entry_row (IsEntryBy c.external c.last) };
 
     #[tactic(auto, using(crate::proofs::EntryLemmas::as_past))]
     fn is_passed_by(&self, row: &Row) -> Result<bool, Error> {
-        match read_entry(row) {
+        match read_entry(row, self.external) {
             Ok(entry) => Ok(is_past(self.last, &entry)),
             Err(misread) => refused(misread),
         }

@@ -3,6 +3,7 @@ ghost use Rattle.std.specs.Prelude.{◌≡◌, ◌↔◌, None, IsTrue, IfOk, If
 ghost use Rattle.sqlite.specs.State.{HasCleanDisk};
 ghost use Rattle.sqlite.specs.Held.{state};
 ghost use Rattle.vault_core_model.specs.Vault.{Vault, next_id};
+ghost use Rattle.vault_audit_model.specs.SchemaVersions.{is_external};
 ghost use Rattle.vault_audit_model.specs.Spells.{AreSoundAs};
 ghost use Rattle.vault_audit_model.specs.Relations.{IsNextEntry};
 ghost use Rattle.vault_audit_records.specs.EntriesByNumber.{AreEntriesUpTo};
@@ -19,6 +20,8 @@ use vault_core_model::records::Entry;
 /// The check of entries by rising id.
 #[derive(Drop)]
 pub struct NumberPass {
+    /// Whether the vault may register contents that are kept outside.
+    pub external: bool,
     /// The id that is to come.
     pub next: u64,
     /// The seconds of the last admission.
@@ -45,7 +48,7 @@ impl Pass for NumberPass {
 
     #[tactic(auto, using(crate::proofs::EntryLemmas::one_entry))]
     fn take(&mut self, row: &Row) -> Result<bool, Error> {
-        let entry = match read_entry(row) {
+        let entry = match read_entry(row, self.external) {
             Ok(entry) => entry,
             Err(misread) => return refused(misread),
         };
@@ -67,13 +70,17 @@ pub fn check_numbers<S: Alter>(
     schema_version: SchemaVersion,
 ) -> Result<Option<u64>, Error>
     requires { IsOfSchemaVersion S.Store conn.old schema_version }
-    ensures reported { HasCleanDisk (state S.Store conn.new) → IfOk result (AreEntriesUpTo (state S.Store conn.new).now) }
+    ensures reported { HasCleanDisk (state S.Store conn.new) → IfOk result (AreEntriesUpTo (is_external schema_version) (state S.Store conn.new).now) }
     ensures damaged { HasCleanDisk (state S.Store conn.new) → IfOk result (λ found. found ≡ None → (v : Vault) → ¬ AreSoundAs schema_version (state S.Store conn.new).now v) }
     ensures next { HasCleanDisk (state S.Store conn.new) → IfOk result (λ found. IfSome found (λ next. (v : Vault) → AreSoundAs schema_version (state S.Store conn.new).now v → next_id v ≡ next)) }
     ensures look { OnlyLooks S.Store conn.old conn.new result }
     ensures err { IsHealthy (state S.Store conn.new) → IfErr result IsMemory }
 {
-    let mut pass = NumberPass { next: 1, low: 0 };
+    let mut pass = NumberPass {
+        external: schema_version.is_external(),
+        next: 1,
+        low: 0,
+    };
     let whole = walk(
         conn,
         entries_columns!(select_text, " ORDER BY id"),

@@ -106,10 +106,9 @@ fn rules_walk(schema_version: SchemaVersion) -> &'static str
 {
     match schema_version {
         SchemaVersion::First => rules_columns!(earlier_select_text, " ORDER BY bucket, n"),
-        SchemaVersion::Second | SchemaVersion::Third => rules_columns!(
-            select_text,
-            " ORDER BY bucket, n"
-        ),
+        SchemaVersion::Second | SchemaVersion::Third | SchemaVersion::Fourth => {
+            rules_columns!(select_text, " ORDER BY bucket, n")
+        }
     }
 }
 

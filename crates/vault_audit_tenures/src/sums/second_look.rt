@@ -5,6 +5,7 @@ ghost use Rattle.sqlite.specs.State.{HasCleanDisk};
 ghost use Rattle.sqlite.specs.Held.{state};
 ghost use Rattle.vault_core_model.specs.Vault.{Vault};
 ghost use Rattle.vault_audit_model.specs.Relations.{AreBuckets, AreEntries, AreTenuresOf, IsPast, DecidesSums};
+ghost use Rattle.vault_audit_model.specs.SchemaVersions.{is_external};
 ghost use Rattle.vault_audit_model.specs.Spells.{AreSoundAs, entries_in};
 ghost use Rattle.vault_audit_tenures.specs.Totals.{AreTotals};
 ghost use Rattle.vault_audit_rows.specs.Health.{IsHealthy, IsMemory, IsOfSchemaVersion, OnlyLooks};
@@ -25,14 +26,14 @@ fn take_sums<S: Alter>(
 ) -> Result<Option<Totals>, Error>
     requires { IsOfSchemaVersion S.Store conn.old schema_version }
     ensures reported { HasCleanDisk (state S.Store conn.new) → IfOk result (λ found. (v : Vault) →
-        AreBuckets schema_version (state S.Store conn.new).now v.buckets → AreEntries (state S.Store conn.new).now (entries_in v.histories) →
+        AreBuckets schema_version (state S.Store conn.new).now v.buckets → AreEntries (is_external schema_version) (state S.Store conn.new).now (entries_in v.histories) →
         AllByRecursion (IsPast v.last) (entries_in v.histories) → AreTenuresOf schema_version (state S.Store conn.new).now v → IsSomeAnd found (AreTotals v.histories)) }
     ensures look { OnlyLooks S.Store conn.old conn.new result }
     ensures err { IsHealthy (state S.Store conn.new) → IfErr result IsMemory }
 {
     match schema_version {
         SchemaVersion::First | SchemaVersion::Second => sum_versions(alloc, conn, schema_version),
-        SchemaVersion::Third => sum_tenures(alloc, conn),
+        SchemaVersion::Third | SchemaVersion::Fourth => sum_tenures(alloc, conn, schema_version),
     }
 }
 
@@ -46,7 +47,7 @@ pub fn check_sums<S: Alter>(
 ) -> Result<bool, Error>
     requires { IsOfSchemaVersion S.Store conn.old schema_version }
     ensures reported { HasCleanDisk (state S.Store conn.new) → IfOk result (λ hold. (v : Vault) →
-        AreBuckets schema_version (state S.Store conn.new).now v.buckets → AreEntries (state S.Store conn.new).now (entries_in v.histories) →
+        AreBuckets schema_version (state S.Store conn.new).now v.buckets → AreEntries (is_external schema_version) (state S.Store conn.new).now (entries_in v.histories) →
         AllByRecursion (IsPast v.last) (entries_in v.histories) → AreTenuresOf schema_version (state S.Store conn.new).now v → DecidesSums schema_version (state S.Store conn.new).now v.histories hold) }
     ensures damaged { HasCleanDisk (state S.Store conn.new) → IfOk result (λ hold. hold ≡ false → (v : Vault) → ¬ AreSoundAs schema_version (state S.Store conn.new).now v) }
     ensures look { OnlyLooks S.Store conn.old conn.new result }

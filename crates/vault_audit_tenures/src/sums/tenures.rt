@@ -4,7 +4,9 @@ ghost use Rattle.sqlite.specs.State.{HasCleanDisk};
 ghost use Rattle.sqlite.specs.Held.{state};
 ghost use Rattle.vault_core_model.specs.Vault.{Vault};
 ghost use Rattle.vault_audit_model.specs.Relations.{AreEntries, AreTenuresOf};
+ghost use Rattle.vault_audit_model.specs.SchemaVersions.{is_external};
 ghost use Rattle.vault_audit_model.specs.Spells.{entries_in};
+ghost use Rattle.vault_audit_tenures.specs.Decided.{HasTenuresTable};
 ghost use Rattle.vault_audit_tenures.specs.declared.sums.tenures.StatedTenure.{StatedTenure as Reported};
 ghost use Rattle.vault_audit_tenures.specs.TenureSums.{stated_row, IsStated, begins, share_as, last_share, share_before, CountsShare, CountsPending, CountsLast};
 ghost use Rattle.vault_audit_tenures.specs.Totals.{AreTotals};
@@ -186,10 +188,12 @@ impl Pass for TenurePass {
 pub fn sum_tenures<S: Alter>(
     alloc: Global,
     conn: &mut Connection<S>,
+    schema_version: SchemaVersion,
 ) -> Result<Option<Totals>, Error>
-    requires { IsOfSchemaVersion S.Store conn.old SchemaVersion.Third }
+    requires table { HasTenuresTable schema_version }
+    requires schema { IsOfSchemaVersion S.Store conn.old schema_version }
     ensures reported { HasCleanDisk (state S.Store conn.new) → IfOk result (λ found. (v : Vault) →
-        AreEntries (state S.Store conn.new).now (entries_in v.histories) → AreTenuresOf SchemaVersion.Third (state S.Store conn.new).now v →
+        AreEntries (is_external schema_version) (state S.Store conn.new).now (entries_in v.histories) → AreTenuresOf schema_version (state S.Store conn.new).now v →
         IsSomeAnd found (AreTotals v.histories)) }
     ensures look { OnlyLooks S.Store conn.old conn.new result }
     ensures err { IsHealthy (state S.Store conn.new) → IfErr result IsMemory }

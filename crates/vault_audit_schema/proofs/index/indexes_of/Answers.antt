@@ -8,4 +8,4 @@ returns-in-First c = elim c.in-First.is [ inl e ↦ rw e refl | inr e ↦ rw e r
 
 pub returns-in-Third : goal.returns-in-Third
 unfolding digits
-returns-in-Third c = rw c.in-Third.is refl
+returns-in-Third c = elim c.in-Third.is [ inl e ↦ rw e refl | inr e ↦ rw e refl ]

@@ -3,22 +3,9 @@ use Rattle.sqlite_trees.specs.Sound.{fits_kind, begins, is_free_name, same_name}
 use Rattle.sqlite.specs.Listing.{understood}
 use Rattle.sqlite_tied.specs.Compute.{everything}
 use Rattle.sqlite_value.specs.Order.{value_cmp}
-use Rattle.vault_audit_model.specs.Tables.{meta, departments, callers, buckets, rules, entries, contents, settings, intake, heads, tenures}
+use Rattle.vault_audit_model.specs.Tables.{departments, callers, buckets, rules, entries, contents, settings, intake, heads, tenures, external}
 use Rattle.vault_audit_schema.proofs.TakenLemmas.{ascii}
 use Rattle.vault_audit_schema.proofs.statements.creation.Goals as goal
-
-pub returns-in-Meta : goal.returns-in-Meta
-unfolding understood everything fits_kind begins is_free_name same_name value_cmp lib.Ieee.is_nan lib.Ieee.lt lib.Utf8.encode
-returns-in-Meta c = rw c.in-Meta.is (record {
-  command = refl;
-  whole = refl;
-  plain = (refl, refl);
-  alone = (omega (arith), refl);
-  made = record meta { tree = 0 };
-  defined = refl;
-  next = refl;
-  taken = record { utf8 = ascii _ refl refl; named = ascii _ refl refl; free = refl; apart = refl; own = refl; low = refl; reals = refl; keys = refl; formed = refl; fit = refl; short = refl };
-})
 
 pub returns-in-Departments : goal.returns-in-Departments
 unfolding understood everything fits_kind begins is_free_name same_name value_cmp lib.Ieee.is_nan lib.Ieee.lt lib.Utf8.encode
@@ -145,6 +132,19 @@ returns-in-Tenures c = rw c.in-Tenures.is (record {
   plain = (refl, refl);
   alone = (omega (arith), refl);
   made = record tenures { tree = 0 };
+  defined = refl;
+  next = refl;
+  taken = record { utf8 = ascii _ refl refl; named = ascii _ refl refl; free = refl; apart = refl; own = refl; low = refl; reals = refl; keys = refl; formed = refl; fit = refl; short = refl };
+})
+
+pub returns-in-External : goal.returns-in-External
+unfolding understood everything fits_kind begins is_free_name same_name value_cmp lib.Ieee.is_nan lib.Ieee.lt lib.Utf8.encode
+returns-in-External c = rw c.in-External.is (record {
+  command = refl;
+  whole = refl;
+  plain = (refl, refl);
+  alone = (omega (arith), refl);
+  made = record external { tree = 0 };
   defined = refl;
   next = refl;
   taken = record { utf8 = ascii _ refl refl; named = ascii _ refl refl; free = refl; apart = refl; own = refl; low = refl; reals = refl; keys = refl; formed = refl; fit = refl; short = refl };

@@ -9,7 +9,7 @@ use Rattle.vault_audit_schema.proofs.statements.index_creation.Goals as goal
 
 pub returns : goal.returns
 unfolding understood everything fits_kind begins is_free_name same_name value_cmp lib.Ieee.is_nan lib.Ieee.lt lib.Utf8.encode
-returns c = record {
+returns c external = record {
   command = refl;
   whole = refl;
   plain = (refl, refl);

@@ -9,12 +9,12 @@ use Rattle.vault_audit_tenures.proofs.TenureTextLemmas.{tenures_beside, tenures_
 use Rattle.vault_audit_tenures.proofs.present.have_tenures.Goals as goal
 
 pub check_rows-requires : goal.check_rows-requires
-check_rows-requires g c clean = subst (λ s. IsPlain (understood s tenures_beside)) (sym (c.requires clean)) tenures_beside_is.plain
+check_rows-requires g c clean = subst (λ s. IsPlain (understood s tenures_beside)) (sym (c.requires.schema clean)) (tenures_beside_is c.args.schema_version c.requires.table).plain
 
 pub returns-clause-reported : goal.returns-clause-reported
 returns-clause-reported g c clean =
     let early : HasCleanDisk (state g.S.Store c.args.conn.now) = omega (arith, c.check_rows.ensures.look.crash.clean) in
-    presence_if_ok (state g.S.Store c.args.conn.now) (state g.S.Store c.check_rows.new.conn) (c.requires early) c.check_rows.result (c.check_rows.ensures.look.same clean) (c.check_rows.ensures.checked clean)
+    presence_if_ok c.args.schema_version c.requires.table (state g.S.Store c.args.conn.now) (state g.S.Store c.check_rows.new.conn) (c.requires.schema early) c.check_rows.result (c.check_rows.ensures.look.same clean) (c.check_rows.ensures.checked clean)
 
 pub returns-clause-err : goal.returns-clause-err
-returns-clause-err g c well = c.check_rows.ensures.err well (λ clean. subst (λ s. Asks s tenures_beside) (sym (c.requires clean)) tenures_beside_asks)
+returns-clause-err g c well = c.check_rows.ensures.err well (λ clean. subst (λ s. Asks s tenures_beside) (sym (c.requires.schema clean)) (tenures_beside_asks c.args.schema_version c.requires.table))

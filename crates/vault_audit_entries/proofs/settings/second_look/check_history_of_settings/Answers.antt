@@ -2,6 +2,7 @@ use Rattle.std.proofs.Common.{◌≡◌, true, false, ap, subst, ◌∙◌, rule
 use Rattle.sqlite.specs.Effect.{Database}
 use Rattle.sqlite.specs.Held.{state}
 use Rattle.sqlite.specs.State.{HasCleanDisk}
+use Rattle.vault_audit_model.specs.SchemaVersions.{is_external}
 use Rattle.vault_audit_entries.specs.SettingPlaces.{DecidesPlaces, DecidesPresence}
 use Rattle.vault_audit_entries.proofs.SettingDecisionLemmas.{not_placed, not_present, stated, unsound}
 use Rattle.vault_audit_entries.proofs.SettingOwnerLemmas.{have_owners}
@@ -11,7 +12,7 @@ pub returns-then-not-placed-clause-reported : goal.returns-then-not-placed-claus
 returns-then-not-placed-clause-reported g c clean =
     let db = (state g.S.Store c.are_placed.new.conn).now in
     let no : c.in_ok-placed.placed ≡ false = search rules in
-    λ es are. not_placed db es are (subst (DecidesPlaces db) no (c.in_ok-placed.ensures.reported clean))
+    λ es are. not_placed (is_external c.args.schema_version) db es are (subst (DecidesPlaces db) no (c.in_ok-placed.ensures.reported clean))
 
 pub returns-then-not-placed-clause-damaged : goal.returns-then-not-placed-clause-damaged
 returns-then-not-placed-clause-damaged g c clean same = (unsound c.args.schema_version) (state g.S.Store c.are_placed.new.conn).now (returns-then-not-placed-clause-reported g c clean)
@@ -20,7 +21,7 @@ pub returns-then-not-present-clause-reported : goal.returns-then-not-present-cla
 returns-then-not-present-clause-reported g c clean =
     let db = (state g.S.Store c.have_settings.new.conn).now in
     let no : c.in_ok-present.present ≡ false = search rules in
-    λ es are. not_present db es are (subst (DecidesPresence db) no (c.in_ok-present.ensures.reported clean))
+    λ es are. not_present (is_external c.args.schema_version) db es are (subst (DecidesPresence (is_external c.args.schema_version) db) no (c.in_ok-present.ensures.reported clean))
 
 pub returns-then-not-present-clause-damaged : goal.returns-then-not-present-clause-damaged
 returns-then-not-present-clause-damaged g c clean same = (unsound c.args.schema_version) (state g.S.Store c.have_settings.new.conn).now (returns-then-not-present-clause-reported g c clean)
@@ -35,5 +36,6 @@ returns-clause-reported g c clean =
     let present : c.in_ok-present.present ≡ true = search rules in
     let same = c.in_ok-present.ensures.look.same clean in
     let schema = ap (λ (db : Database). db.schema) (same.0.now_is ∙ (c.in_ok-placed.ensures.look.same early).0.now_is) ∙ c.requires first in
-    stated before after same (subst (DecidesPlaces before.now) placed (c.in_ok-placed.ensures.reported early)) (subst (DecidesPresence after.now) present (c.in_ok-present.ensures.reported clean))
-    (have_owners c.args.schema_version after.now (c.references_hold.ensures same.0.is_open schema))
+    let external = is_external c.args.schema_version in
+    stated external before after same (subst (DecidesPlaces before.now) placed (c.in_ok-placed.ensures.reported early)) (subst (DecidesPresence external after.now) present (c.in_ok-present.ensures.reported clean))
+    (have_owners c.args.schema_version external after.now (c.references_hold.ensures same.0.is_open schema))

@@ -1,9 +1,10 @@
-use Rattle.std.proofs.Common.{◌≡◌, true, false, sym, subst, rules, arith}
+use Rattle.std.proofs.Common.{◌≡◌, true, false, Some, None, sym, subst, rules, arith}
 use Rattle.sqlite.specs.Held.{state}
 use Rattle.sqlite.specs.State.{HasCleanDisk}
 use Rattle.vault_audit_rows.specs.Health.{Asks, IsMemory}
 use Rattle.sqlite.specs.Given.{IsPlain}
 use Rattle.sqlite.specs.Listing.{understood}
+use Rattle.vault_audit_records.specs.EntriesByNumber.{AreEntriesUpTo}
 use Rattle.vault_audit_records.proofs.DamageLemmas.{no_numbers, next_of}
 use Rattle.vault_audit_records.proofs.EntryNumberLemmas.{numbers_yes, numbers_no}
 use Rattle.vault_audit_records.proofs.EntryTextLemmas.{numbers_walk, numbers_walk_plain, numbers_walk_asks}
@@ -16,13 +17,15 @@ pub returns-then-not-whole-clause-reported : goal.returns-then-not-whole-clause-
 returns-then-not-whole-clause-reported g c clean =
     let early : HasCleanDisk (state g.S.Store c.args.conn.now) = omega (arith, c.in_ok-whole.ensures.look.crash.clean) in
     let no : c.in_ok-whole.whole ≡ false = search rules in
-    numbers_no c.args.schema_version (state g.S.Store c.args.conn.now) (state g.S.Store c.walk.new.conn) (c.requires early) (c.in_ok-whole.ensures.look.same clean) c.walk.new.pass (rw no at (c.in_ok-whole.ensures.walked clean))
+    subst (λ external. AreEntriesUpTo external (state g.S.Store c.walk.new.conn).now None) c.is_external.ensures
+    (numbers_no c.args.schema_version (state g.S.Store c.args.conn.now) (state g.S.Store c.walk.new.conn) (c.requires early) (c.in_ok-whole.ensures.look.same clean) c.is_external.result c.walk.new.pass (rw no at (c.in_ok-whole.ensures.walked clean)))
 
 pub returns-clause-reported : goal.returns-clause-reported
 returns-clause-reported g c clean =
     let early : HasCleanDisk (state g.S.Store c.args.conn.now) = omega (arith, c.in_ok-whole.ensures.look.crash.clean) in
     let yes : c.in_ok-whole.whole ≡ true = search rules in
-    numbers_yes c.args.schema_version (state g.S.Store c.args.conn.now) (state g.S.Store c.walk.new.conn) (c.requires early) (c.in_ok-whole.ensures.look.same clean) c.walk.new.pass (rw yes at (c.in_ok-whole.ensures.walked clean))
+    subst (λ external. AreEntriesUpTo external (state g.S.Store c.walk.new.conn).now (Some c.walk.new.pass.next)) c.is_external.ensures
+    (numbers_yes c.args.schema_version (state g.S.Store c.args.conn.now) (state g.S.Store c.walk.new.conn) (c.requires early) (c.in_ok-whole.ensures.look.same clean) c.is_external.result c.walk.new.pass (rw yes at (c.in_ok-whole.ensures.walked clean)))
 
 pub returns-then-not-whole-clause-damaged : goal.returns-then-not-whole-clause-damaged
 returns-then-not-whole-clause-damaged g c clean same v = no_numbers c.args.schema_version (state g.S.Store c.walk.new.conn).now v (returns-then-not-whole-clause-reported g c clean)

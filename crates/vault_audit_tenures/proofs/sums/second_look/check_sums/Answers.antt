@@ -12,14 +12,15 @@ use Rattle.vault_audit_tenures.specs.DepartmentSums.{HaveTotals}
 use Rattle.vault_audit_tenures.specs.Totals.{AreTotals}
 use Rattle.vault_audit_tenures.proofs.DepartmentSumLemmas.{table_stated, no_sums}
 use Rattle.vault_audit_tenures.proofs.sums.second_look.check_sums.Goals as goal
+use Rattle.vault_audit_model.specs.SchemaVersions.{is_external}
 
 -- what is reported beside the totals is said of the table
 of_table : {E : Type 0} (n : SchemaVersion) (r : Result Bool E) (a b : State) (t : Totals) → OnOk r (IsUnchanged a b)
-    → ((v : Vault) → AreBuckets n a.now v.buckets → AreEntries a.now (entries_in v.histories) → AllByRecursion (IsPast v.last) (entries_in v.histories) → AreTenuresOf n a.now v → AreTotals v.histories t)
+    → ((v : Vault) → AreBuckets n a.now v.buckets → AreEntries (is_external n) a.now (entries_in v.histories) → AllByRecursion (IsPast v.last) (entries_in v.histories) → AreTenuresOf n a.now v → AreTotals v.histories t)
     → IfOk r (HaveTotals t n b.now)
-    → IfOk r (λ hold. (v : Vault) → AreBuckets n b.now v.buckets → AreEntries b.now (entries_in v.histories) → AllByRecursion (IsPast v.last) (entries_in v.histories) → AreTenuresOf n b.now v → DecidesSums n b.now v.histories hold)
+    → IfOk r (λ hold. (v : Vault) → AreBuckets n b.now v.buckets → AreEntries (is_external n) b.now (entries_in v.histories) → AllByRecursion (IsPast v.last) (entries_in v.histories) → AreTenuresOf n b.now v → DecidesSums n b.now v.histories hold)
 of_table n (Ok hold) a b t same totals stated = λ v buckets entries past tenures.
-    let before = subst (λ db. AreBuckets n db v.buckets × AreEntries db (entries_in v.histories) × AreTenuresOf n db v) same.0.now_is (buckets, entries, tenures) in
+    let before = subst (λ db. AreBuckets n db v.buckets × AreEntries (is_external n) db (entries_in v.histories) × AreTenuresOf n db v) same.0.now_is (buckets, entries, tenures) in
     table_stated v.histories t (totals v before.0 before.1 past before.2) n b.now hold stated
 of_table n (Err e) a b t same totals stated = tt
 
@@ -40,5 +41,5 @@ returns-in_default-clause-damaged g c clean same = no_sums c.args.schema_version
 pub returns-clause-damaged : goal.returns-clause-damaged
 returns-clause-damaged g c clean =
     let db = (state g.S.Store c.check_totals.new.conn).now in
-    refused_if_ok (λ hold. (v : Vault) → AreBuckets c.args.schema_version db v.buckets → AreEntries db (entries_in v.histories) → AllByRecursion (IsPast v.last) (entries_in v.histories) → AreTenuresOf c.args.schema_version db v → DecidesSums c.args.schema_version db v.histories hold)
+    refused_if_ok (λ hold. (v : Vault) → AreBuckets c.args.schema_version db v.buckets → AreEntries (is_external c.args.schema_version) db (entries_in v.histories) → AllByRecursion (IsPast v.last) (entries_in v.histories) → AreTenuresOf c.args.schema_version db v → DecidesSums c.args.schema_version db v.histories hold)
     ((v : Vault) → ¬ AreSoundAs c.args.schema_version db v) (no_sums c.args.schema_version db) c.check_totals.result (returns-clause-reported g c clean)

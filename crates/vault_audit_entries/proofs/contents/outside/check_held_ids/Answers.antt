@@ -1,0 +1,27 @@
+use Rattle.std.proofs.Common.{◌≡◌, true, false, sym, subst, rules, arith}
+use Rattle.sqlite.specs.Held.{state}
+use Rattle.sqlite.specs.State.{HasCleanDisk}
+use Rattle.vault_audit_rows.specs.Health.{Asks, IsMemory}
+use Rattle.sqlite.specs.Given.{IsPlain}
+use Rattle.sqlite.specs.Listing.{understood}
+use Rattle.vault_audit_entries.proofs.OutsideLemmas.{ids_yes, ids_no}
+use Rattle.vault_audit_entries.proofs.OutsideTextLemmas.{outside_walk, outside_walk_plain, outside_walk_asks}
+use Rattle.vault_audit_entries.proofs.contents.outside.check_held_ids.Goals as goal
+
+pub walk-requires : goal.walk-requires
+walk-requires g c clean = subst (λ s. IsPlain (understood s outside_walk)) (sym (c.requires clean)) outside_walk_plain
+
+pub returns-then-not-whole-clause-reported : goal.returns-then-not-whole-clause-reported
+returns-then-not-whole-clause-reported g c clean es are =
+    let early : HasCleanDisk (state g.S.Store c.args.conn.now) = omega (arith, c.in_ok-whole.ensures.look.crash.clean) in
+    let no : c.in_ok-whole.whole ≡ false = search rules in
+    ids_no (state g.S.Store c.args.conn.now) (state g.S.Store c.walk.new.conn) (c.requires early) (c.in_ok-whole.ensures.look.same clean) c.walk.new.pass es are (rw no at (c.in_ok-whole.ensures.walked clean))
+
+pub returns-clause-reported : goal.returns-clause-reported
+returns-clause-reported g c clean es are =
+    let early : HasCleanDisk (state g.S.Store c.args.conn.now) = omega (arith, c.in_ok-whole.ensures.look.crash.clean) in
+    let yes : c.in_ok-whole.whole ≡ true = search rules in
+    ids_yes (state g.S.Store c.args.conn.now) (state g.S.Store c.walk.new.conn) (c.requires early) (c.in_ok-whole.ensures.look.same clean) c.walk.new.pass es are (rw yes at (c.in_ok-whole.ensures.walked clean))
+
+pub returns-in_err-whole-clause-err : goal.returns-in_err-whole-clause-err
+returns-in_err-whole-clause-err g c well = let it : IsMemory c.in_err-whole.field-0.0 = c.in_err-whole.ensures.err well (λ clean. subst (λ s. Asks s outside_walk) (sym (c.requires clean)) outside_walk_asks) in search rules
