@@ -170,7 +170,7 @@ def forgeries() -> dict[str, Row]:
 
 
 @functools.cache
-def honest(is_external: bool = False) -> pathlib.Path:
+def honest_of(is_external: bool) -> pathlib.Path:
     """The vault of which forgeries are copies; its seals are in the file `seals` beside it."""
     folder, script = shared_folder() / f"honest-{is_external}", (FORGERIES / "vault.jsonl").read_text()
     folder.mkdir()
@@ -181,6 +181,10 @@ def honest(is_external: bool = False) -> pathlib.Path:
     check(sealed.status == 0, f"no seals: {sealed}")
     (folder / "seals").write_text(sealed.out)
     return folder / "vault"
+
+
+def honest() -> pathlib.Path:
+    return honest_of(False)
 
 
 def answer_of(ran: Ran) -> str:
@@ -208,7 +212,7 @@ ROWS = forgeries()
 class Forgeries(Case):
     def look_at(self, name: str) -> None:
         row, file = ROWS[name], self.folder / "vault"
-        before = honest(row.is_external)
+        before = honest_of(row.is_external)
         shutil.copyfile(before, file)
         carry_out(file, [*row.changes, (FORGERIES / "mend.sql").read_text()])
         found = {

@@ -187,13 +187,10 @@ def look_at_entries(base: sqlite3.Connection, meta: Meta) -> Faults:
 
 
 def look_at_contents(base: sqlite3.Connection, meta: Meta) -> Faults:
-    """Of a content that is kept outside there are the size and the digest of its entry, and nothing to compare."""
-    outside = " AND (c.id IS NOT NULL OR e.id NOT IN (SELECT id FROM external))" if meta.is_external else ""
     for (id,) in base.execute(
-        "SELECT e.id FROM entries AS e LEFT JOIN contents AS c ON c.id = e.id"
-        f" WHERE (NOT e.marker AND e.removed IS NULL) <> (c.id IS NOT NULL){outside}"
+        "SELECT e.id FROM contents JOIN entries AS e USING (id) WHERE e.marker OR e.removed IS NOT NULL"
     ):
-        yield f"version {id} is held and has no content, or has one and isn't a held version"
+        yield f"entry {id} has a content, and isn't a held version"
     for id, content, size, digest in base.execute(
         "SELECT c.id, c.bytes, e.size, e.digest FROM contents AS c JOIN entries AS e ON e.id = c.id"
     ):
@@ -201,6 +198,26 @@ def look_at_contents(base: sqlite3.Connection, meta: Meta) -> Faults:
             yield f"version {id} has {len(content)} bytes, and its size is {size}"
         elif hashlib.sha256(content).digest() != digest:
             yield f"version {id} has bytes of another digest than its own"
+
+
+def look_at_external(base: sqlite3.Connection, meta: Meta) -> Faults:
+    """The size and the digest of a content that is kept outside are those of its entry: there is nothing to compare."""
+    if not meta.is_external:
+        return
+    for id, is_inside in base.execute(
+        "SELECT e.id, c.id IS NOT NULL FROM external JOIN entries AS e USING (id) LEFT JOIN contents AS c USING (id)"
+        " WHERE c.id IS NOT NULL OR e.marker OR e.removed IS NOT NULL"
+    ):
+        yield f"version {id} is kept outside and inside" if is_inside else f"entry {id} isn't a held version"
+
+
+def look_at_held(base: sqlite3.Connection, meta: Meta) -> Faults:
+    outside = " UNION SELECT id FROM external" if meta.is_external else ""
+    for (id,) in base.execute(
+        "SELECT id FROM entries WHERE NOT marker AND removed IS NULL"
+        f" AND id NOT IN (SELECT id FROM contents{outside})"
+    ):
+        yield f"version {id} is held and has no content"
 
 
 def look_at_settings(base: sqlite3.Connection, meta: Meta) -> Faults:
@@ -283,16 +300,6 @@ def look_at_tenures(base: sqlite3.Connection, meta: Meta) -> Faults:
             yield f"tenure {step.number} of version {step.id}, of {step.dept}: {why}"
 
 
-def look_at_external(base: sqlite3.Connection, meta: Meta) -> Faults:
-    if not meta.is_external:
-        return
-    for id, is_inside in base.execute(
-        "SELECT e.id, c.id IS NOT NULL FROM external JOIN entries AS e USING (id) LEFT JOIN contents AS c USING (id)"
-        " WHERE c.id IS NOT NULL OR e.marker OR e.removed IS NOT NULL"
-    ):
-        yield f"version {id} is kept outside and inside" if is_inside else f"entry {id} isn't a held version"
-
-
 BESIDE: tuple[tuple[str, Callable[[sqlite3.Connection, Meta], Faults]], ...] = (
     ("meta", look_at_next),
     ("departments", look_at_departments),
@@ -300,11 +307,12 @@ BESIDE: tuple[tuple[str, Callable[[sqlite3.Connection, Meta], Faults]], ...] = (
     ("rules", look_at_rules),
     ("entries", look_at_entries),
     ("contents", look_at_contents),
+    ("external", look_at_external),
+    ("contents", look_at_held),
     ("settings", look_at_settings),
     ("intake", look_at_intake),
     ("heads", look_at_heads),
     ("tenures", look_at_tenures),
-    ("external", look_at_external),
 )
 
 
