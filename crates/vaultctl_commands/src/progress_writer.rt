@@ -19,7 +19,7 @@ impl<'a, W: Write> ProgressWriter<'a, W> {
 
     /// A writer over another one, of which no line was written yet, and the terminal that is reported.
     pub fn new(writer: &'a mut W, terminal: Option<Stderr>) -> ProgressWriter<'a, W>
-        ensures below { result.writer ≡ writer }
+        ensures below { result.writer ≡ writer.entry }
         ensures terminal { result.terminal ≡ terminal }
         ensures lines { result.lines ≡ 0 }
     {
