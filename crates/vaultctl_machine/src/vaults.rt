@@ -498,12 +498,7 @@ impl<'a, A: Start, B: Start> Machine<'a, VaultStore<A>, VaultStore<B>> {
     /// `NameTaken` where something is in it, or changes may be in the log beside it, and both are left as they are.
     /// `Memory` where memory was refused, `Device` where the file can't be made, and `InUse` where another program
     /// has it.
-    pub fn make(
-        &mut self,
-        path: &str,
-        start: A,
-        external: bool,
-    ) -> Result<FileVault<A>, OpenError>
+    pub fn make(&mut self, path: &str, start: A, external: bool) -> Result<FileVault<A>, OpenError>
         // It is counted just where there is one.
         ensures counted { OnOk result (self.new ≡ record self.old { looked = after_a_look self.old.looked; given = with_made self.old.given }) }
         ensures uncounted { OnErr result (self.new ≡ record self.old { looked = after_a_look self.old.looked; refused = self.new.refused }) }

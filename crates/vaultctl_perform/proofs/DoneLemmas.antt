@@ -68,8 +68,8 @@ module _ {D E : Type 0} {g : Ghosts D} {h : Ghosts E} (external : Bool) (image :
   copied_both source vault old mid new none still copies closed copied stands is same unchanged =
       let Stands : Held (FileStore E h) → Type 0 = λ conn. HasCleanDisk (file_state source) → HasCleanDisk (file_state conn) → (v : Vault) × IsFoundEarlier external image v × ∥ StandsFor (file_state conn) (registering external v) ∥₁ in
       let kept : Stands vault.conn = λ clean there.
-          let it = is clean there in
-          (it.0, it.1, subst (λ (v : Vault). ∥ StandsFor (file_state vault.conn) v ∥₁) it.2 (∥∥₁_map stands (λ stand. stand there))) in
+      let it = is clean there in
+      (it.0, it.1, subst (λ (v : Vault). ∥ StandsFor (file_state vault.conn) v ∥₁) it.2 (∥∥₁_map stands (λ stand. stand there))) in
       let copy : Closes none copies Stands = closes_one vault.conn none still copies Stands copied kept unchanged in
       (source, closed ∙ ap (λ (l : List (Held (FileStore D g) × Bool)). l ++ (source, true) ∷ []) same, copy)
 
