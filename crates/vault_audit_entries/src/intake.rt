@@ -155,7 +155,8 @@ pub fn check_notes<S: Alter>(
     schema_version: SchemaVersion,
 ) -> Result<bool, Error>
     requires { IsOfSchemaVersion S.Store conn.old schema_version }
-    ensures reported { HasCleanDisk (state S.Store conn.new) → IfOk result (λ b. (es : List Entry) → AreEntries (is_external schema_version) (state S.Store conn.new).now es → DecidesNotes (is_external schema_version) (state S.Store conn.new).now es b) }
+    ensures reported { HasCleanDisk (state S.Store conn.new) → IfOk result (λ b. (es : List Entry) →
+        AreEntries (is_external schema_version) (state S.Store conn.new).now es → DecidesNotes (is_external schema_version) (state S.Store conn.new).now es b) }
     ensures damaged { HasCleanDisk (state S.Store conn.new) → IfOk result (λ found. found ≡ false → (v : Vault) → ¬ AreSoundAs schema_version (state S.Store conn.new).now v) }
     ensures look { OnlyLooks S.Store conn.old conn.new result }
     ensures err { IsHealthy (state S.Store conn.new) → IfErr result IsMemory }

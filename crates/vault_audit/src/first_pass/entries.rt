@@ -28,7 +28,8 @@ pub fn check_entries<S: Alter>(
     last: Moment,
 ) -> Result<bool, Error>
     requires { HasCleanDisk (state S.Store conn.old) → BeginTo schema_version (state S.Store conn.old).now.schema.tables table.Entries }
-    ensures reported { HasCleanDisk (state S.Store conn.new) → IfOk result (AreRecords entry_row (IsEntryBy (is_external schema_version) last) (map entry_columns ((state S.Store conn.new).now.trees entries_tree))) }
+    ensures reported { HasCleanDisk (state S.Store conn.new) → IfOk result (AreRecords entry_row
+        (IsEntryBy (is_external schema_version) last) (map entry_columns ((state S.Store conn.new).now.trees entries_tree))) }
     ensures damaged { HasCleanDisk (state S.Store conn.new) → IfOk result (λ stated. stated ≡ false → (v : Vault) → v.last ≡ last → ¬ AreSoundAs schema_version (state S.Store conn.new).now v) }
     ensures look { OnlyLooks S.Store conn.old conn.new result }
     ensures err { IsHealthy (state S.Store conn.new) → IfErr result IsMemory }

@@ -94,7 +94,8 @@ pub fn check_table<S: Alter, R: Record>(
 ) -> Result<bool, Error>
     requires has { R.has_table schema_version }
     requires begin { HasCleanDisk (state S.Store conn.old) → BeginTo schema_version (state S.Store conn.old).now.schema.tables R.table }
-    ensures reported { HasCleanDisk (state S.Store conn.new) → IfOk result (AreRecords R.as_row (R.is_in_limits schema_version) (map (R.columns schema_version) ((state S.Store conn.new).now.trees R.tree))) }
+    ensures reported { HasCleanDisk (state S.Store conn.new) → IfOk result (AreRecords R.as_row
+        (R.is_in_limits schema_version) (map (R.columns schema_version) ((state S.Store conn.new).now.trees R.tree))) }
     ensures damaged { HasCleanDisk (state S.Store conn.new) → IfOk result (λ stated. stated ≡ false → (v : Vault) → ¬ AreSoundAs schema_version (state S.Store conn.new).now v) }
     ensures look { OnlyLooks S.Store conn.old conn.new result }
     ensures err { IsHealthy (state S.Store conn.new) → IfErr result IsMemory }

@@ -90,14 +90,13 @@ pub fn remove<S: Alter>(
             return Err(error);
         }
     };
-    let left = left_head(beside.newest, place.head);
     let sums = without_version(place.sums, &entry, beside.since, at);
     let part = RemovedEntry {
         at,
         id,
         entry: &entry,
         removal,
-        left,
+        left: left_head(beside.newest, place.head),
         dept: &place.config.dept,
         sums,
         external: beside.external,
