@@ -2,8 +2,9 @@
 
 The queries say what the program says: of each version by `head`, of removals by the register, of sums by `report`, and
 of what the lifecycle rules will do by a run; of the example year they say what was worked out by hand, of past moments
-too. A moment that isn't written as one is an error. The figures of the page are those of `report`, `register` and the
-queries; where chromium is there, the page is opened in it, searched and sorted, and printed.
+too, and the same where its contents are kept outside. A moment that isn't written as one is an error. The figures of
+the page are those of `report`, `register` and the queries; where chromium is there, the page is opened in it, searched
+and sorted, and printed.
 """
 
 import contextlib
@@ -18,6 +19,7 @@ import shutil
 import sqlite3
 import subprocess
 
+from trials.parts.outside import outside
 from trials.parts.program import (
     CONTRIB, DESK, NOBODY, OPENED_AT, TOP, Case, carry_out, check, needs, printed, ran_words, shared_folder
 )
@@ -29,9 +31,9 @@ LATER = "2025-06-10T12:00:00Z"
 class Vault:
     """A new vault in a folder, and how it is asked."""
 
-    def __init__(self, file, script=()):
+    def __init__(self, file, script=(), *words):
         self.file = file
-        self.run("init", file)
+        self.run("init", file, *words)
         replies = self.replay(script)
         check(all("ok" in it for it in replies), f"of a script is answered {replies}")
 
@@ -480,6 +482,31 @@ class Queries(OfTheYear):
         ran = ran_words("sqlite3", f"{copy.as_uri()}?immutable=1", query, **how)
         check(ran[:2] == (0, "16\n"), f"a read-only medium: {ran}")
         medium.chmod(0o755)
+
+
+class Outside(OfTheYear):
+    def test_same(self):
+        """Each query has the same rows where contents are kept outside, and of sizes above those that fit inside."""
+        other = Vault(self.folder / "outside.vault", [outside(it, 30) for it in SCRIPT], "--external")
+        asked = [(name, given) for name, given, *_ in YEAR]
+        names = {it.stem for it in (CONTRIB / "queries").glob("*.sql")}
+        for name, given in asked + [(it, {}) for it in names - {name for name, _ in asked}]:
+            self.assertEqual(other.query(name, **given), self.vault.query(name, **given), name)
+        look_at_events(other)
+        self.look_at_large(other)
+
+    def look_at_large(self, vault):
+        """The sums and the register of 3 GiB that come and go."""
+        size, line = 3 << 30, {"as": "cid", "bucket": "cases", "key": "film"}
+        put = {**line, "do": "put", "sha256": hashlib.sha256(b"film").hexdigest(), "size": size}
+        self.assertEqual(vault.replay([{**put, "at": "2026-01-02T00:00:00Z"}]), [{"ok": {"version_id": 17}}])
+        look_at_report(vault, vault, "2026-01-05T00:00:00Z")
+        (gone,) = vault.replay([{**line, "do": "delete-version", "at": "2026-01-06T00:00:00Z", "id": 17}])
+        check("ok" in gone, f"the removal is answered {gone}")
+        told = [(it["version"], it["size"]) for it in vault.query("removed", since="2026-01-06")]
+        check(told == [(17, size)], f"removed are {told}")
+        look_at_report(vault, vault, "2026-01-07T00:00:00Z")
+        self.is_sound(vault.file)
 
 
 class Page(OfTheYear):

@@ -2,8 +2,9 @@
 
 The families are the files of `examples/damages`. In one of them `* NAME` begins a row. It is of the vault that the
 program makes by `vault.jsonl`; where `@ BEGINNING` says so, it is of the one that it goes on to make by `moved.jsonl`
-(`moved`), of a `new` vault, of `schema1` or `schema2` in `examples/earlier`, or of no file at all (`none`). Each row
-has a copy of its own, named `vault`. `% SQL` are statements that Python's sqlite3 carries out in it, without a look at
+(`moved`), of a `new` vault, of `schema1` or `schema2` in `examples/earlier`, or of no file at all (`none`); or of a vault
+that keeps contents outside, a new one (`new-external`), or the one that both `vault.jsonl` and `external.jsonl` make
+(`external`). Each row has a copy of its own, named `vault`. `% SQL` are statements that Python's sqlite3 carries out in it, without a look at
 foreign keys. After them come runs of the program as in a transcript: `$ WORDS`, `< ` a line of standard input, `> ` one
 of standard output, `! ` one of standard error, and `= ` the status, which else is 0. Lines that begin with `#` say
 something.
@@ -20,7 +21,12 @@ from trials.parts.program import EXAMPLES, Case, Ran, a_test_each, carry_out, ch
 
 DAMAGES = EXAMPLES / "damages"
 EARLIER = ("schema1", "schema2")
-SCRIPTS = {"new": (), "vault": ("vault.jsonl",), "moved": ("vault.jsonl", "moved.jsonl")}
+SCRIPTS = {
+    "new": (), "vault": ("vault.jsonl",), "moved": ("vault.jsonl", "moved.jsonl"),
+    "new-external": (), "external": ("vault.jsonl", "external.jsonl"),
+}  # fmt: skip
+# Those that keep contents outside.
+EXTERNAL = ("new-external", "external")
 BEGINNINGS = (*SCRIPTS, *EARLIER, "none")
 VERIFY = ["verify", "vault"]
 # A log of fewer bytes has no page in it.
@@ -73,7 +79,8 @@ def beginnings():
     folder.mkdir()
     for name, scripts in SCRIPTS.items():
         script = "".join((DAMAGES / it).read_text() for it in scripts)
-        made, played = ran("init", name, cwd=folder), ran("replay", name, given=script, cwd=folder)
+        made = ran("init", name, *(["--external"] if name in EXTERNAL else []), cwd=folder)
+        played = ran("replay", name, given=script, cwd=folder)
         replies = played.out.splitlines()
         are_answered = (made.status, played.status, len(replies)) == (0, 0, script.count("\n"))
         check(are_answered, f"{name} can't be made: {made}, {played}")

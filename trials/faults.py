@@ -215,7 +215,7 @@ class WithoutVault(Meeting):
         for word in ("--version", "-V"):
             ran = self.ran(word)
             self.assertEqual((ran.status, ran.err), (0, ""), word)
-            self.assertRegex(ran.out, rf"\Avaultctl {version} \(schema 3\)(, commit [0-9a-f]{{40}})?\n\Z")
+            self.assertRegex(ran.out, rf"\Avaultctl {version} \(schemas 3 and 4\)(, commit [0-9a-f]{{40}})?\n\Z")
             with open("/dev/full", "w") as full:
                 self.fails(self.ran(word, stdout=full), "version: Write\n")
 

@@ -2,9 +2,10 @@
 
 A forgery is drawn from KINDS, which are those of the rows of `examples/forgeries`: where it may be, which statements
 make it, and, where it may pass, the words by which a page says that nothing in the file shows it. Its place and its
-values are drawn too; `mend.sql` follows. `verify` and `audit` have to answer alike, and of a sound file the program and
-`vault-recheck` the same to `lawful`, with the name of the rule. What neither `lawful` nor `coherent` finds has to be of
-a kind that may pass. For each kind a line says how many were damaged, unlawful, incoherent, and passed.
+values are drawn too; `mend.sql` follows. Every other vault keeps contents outside. `verify` and `audit` have to answer
+alike, and of a sound file the program and `vault-recheck` the same to `lawful`, with the name of the rule. What neither
+`lawful` nor `coherent` finds has to be of a kind that may pass. For each kind a line says how many were damaged,
+unlawful, incoherent, and passed.
 
 There are 1,000 vaults with a forgery each. TRIALS_VAULTS is another number, and TRIALS_SEED, which is 1 if nothing is
 said, has other ones made.
@@ -22,8 +23,8 @@ from concurrent.futures import ProcessPoolExecutor
 from multiprocessing import get_context
 from typing import Any, NamedTuple
 
-from trials.parts.program import TOP, Case, check, printed
-from trials.recheck import DAY, FORGERIES, SEED, Office, answers_alike, grow, judged_alike, recheck
+from trials.parts.program import TOP, Case, check
+from trials.recheck import DAY, SEED, Office, answers_alike, grow, init, judged_alike, mend, recheck
 
 TAKES_LONG = True
 VAULTS = int(os.environ.get("TRIALS_VAULTS", 1_000))
@@ -53,6 +54,7 @@ LINES = (AUDITOR, "a line of an intake")
 MOVES = (AUDITOR, "the number of moves of buckets, raised by one")
 AT_ANY_TIME = (AUDITOR, "a caller, a department or a bucket more; a caller who is closed; a bucket's default and rules")
 RAISED = (AUDITOR, "the last moment, raised")
+TAKEN_OUT = (AUDITOR, "a content is taken out of the tables, as if it were kept outside")
 
 # `settings` with the last number, the first moment and the last one of each version.
 LAST = "SELECT id, max(n) AS n, max(moment) AS moment FROM settings GROUP BY id"
@@ -128,6 +130,8 @@ KINDS = [
     Kind("another content, with its digest", "SELECT id FROM entries WHERE removed IS NULL AND NOT marker",
          "UPDATE contents SET bytes = :bytes WHERE id = :id;"
          "UPDATE entries SET size = length(:bytes), digest = :digest WHERE id = :id", *ANOTHER),
+    Kind("a content is taken out", "SELECT c.id FROM contents AS c JOIN sqlite_schema AS s ON s.name = 'external'",
+         "INSERT INTO external VALUES (:id); DELETE FROM contents WHERE id = :id", *TAKEN_OUT),
     Kind("another key", "SELECT id FROM entries", "UPDATE entries SET key = 'z' WHERE id = :id", *ANOTHER),
     Kind("another bucket", "SELECT e.id, b.name FROM entries AS e JOIN buckets AS b ON b.name <> e.bucket",
          "UPDATE entries SET bucket = :name WHERE id = :id", *INVENTED),
@@ -197,7 +201,7 @@ def forge(chance: random.Random, file: pathlib.Path) -> tuple[Kind, str]:
         values = drawn(chance, base, chance.choice(rows))
         for it in kind.statements.rstrip(";").split(";"):
             base.execute(it, values)
-        base.executescript((FORGERIES / "mend.sql").read_text())
+        mend(base)
         base.execute("PRAGMA wal_checkpoint(TRUNCATE)")
     return kind, f"{kind.name}, {values}"
 
@@ -207,8 +211,8 @@ def outcome(number: int) -> tuple[str, str]:
     chance, name = random.Random(f"forged {SEED} {number}"), f"vault {number} of seed {SEED}"
     with tempfile.TemporaryDirectory(prefix="forged-") as folder:
         file = pathlib.Path(folder) / "vault"
-        printed("init", file)
-        grow(Office(file, chance), chance.choice([10, 60, 60]))
+        init(file, number % 2 == 1)
+        grow(Office(file, chance, number % 2 == 1), chance.choice([10, 60, 60]))
         kind, words = forge(chance, file)
         if answers_alike(file, f"{name}: {words}") != "sound":
             return kind.name, "damaged"

@@ -1,19 +1,21 @@
 """Recheck: `contrib/vault-recheck` beside the program, on vaults that are sound, damaged and forged.
 
 Forgeries: in the files of `examples/forgeries`, `* NAME` begins a row. `% SQL` are statements that Python's sqlite3
-carries out in a copy of the vault that the program makes by `vault.jsonl`; `mend.sql` follows, which puts right what
-`verify` looks at. `> COMMAND: ANSWER` says what is answered then: `verify` of the program and `audit`, which are
-`sound` where nothing is said; `lawful`; `coherent`, the beginning of each line, and `coherent` where nothing is said;
-`seal`, the days of the seals of the honest vault that differ, or `as sealed`; and `compare` of the honest vault with
-the forged one, the beginning of each line, or `unaltered`. `refused` says that a command gives no answer.
+carries out in a copy of the vault that the program makes by `vault.jsonl`; after `@ external` it is a vault that keeps
+outside what has more than four bytes. `mend.sql` follows, which puts right what `verify` looks at. `> COMMAND: ANSWER`
+says what is answered then: `verify` of the program and `audit`, which are `sound` where nothing is said; `lawful`;
+`coherent`, the beginning of each line, and `coherent` where nothing is said; `seal`, the days of the seals of the
+honest vault that differ, or `as sealed`; and `compare` of the honest vault with the forged one, the beginning of each
+line, or `unaltered`. `refused` says that a command gives no answer.
 
 Damages: on each file of `examples/damages`, `verify` and `audit` answer alike. Words: what is answered to words that
-aren't understood, how seals and events fit together, what a terminal shows, and what is read of a log. Examples: each
-vault that the scripts of `examples` and `contrib` leave is sound, lawful and coherent. Generated: a random script makes
-a vault in two halves, mostly of lines that are done; it is lawful and coherent, its first half is found unaltered in
-it, and the seal of that half comes out of it. Then a row is changed at random, again and again, half of the time with
-`mend.sql`: `verify` and `audit` answer alike, and where they say `sound`, a change of what never changes is seen by
-`compare`.
+aren't understood, how seals and events fit together, what a terminal shows, and what is read of a log. Bodies: what is
+said of a folder in which contents that are kept outside are missing, differ or can't be read. Examples: each vault that
+the scripts of `examples` and `contrib` leave is sound, lawful and coherent. Generated: a random script makes a vault in
+two halves, mostly of lines that are done; every other vault keeps contents outside. It is lawful and coherent, its
+first half is found unaltered in it, and the seal of that half comes out of it. Then a row is changed at random, again
+and again, half of the time with `mend.sql`: `verify` and `audit` answer alike, and where they say `sound`, a change of
+what never changes is seen by `compare`.
 
 On each sound vault `contrib/queries/events-text.sql` has the text of `events`, of all and before the moment of one.
 The program's answers to `lawful`, `events` and `seal` are compared wherever these are asked. There are 12 generated
@@ -21,6 +23,7 @@ vaults and a part of the examples, or, where a run may be long, 300 and all; TRI
 and TRIALS_SEED, which is 1 if nothing is said, has other ones made.
 """
 
+import collections
 import contextlib
 import functools
 import hashlib
@@ -36,8 +39,9 @@ import subprocess
 from typing import Any, NamedTuple, Optional
 
 from trials import damages
+from trials.parts.outside import registered, script_outside
 from trials.parts.program import (
-    CONTRIB, EXAMPLES, IS_LONG, LIMIT, PROGRAM, Case, Ran, a_test_each, carry_out, check, printed, ran, ran_words,
+    CONTRIB, EXAMPLES, IS_LONG, LIMIT, NOBODY, PROGRAM, Case, Ran, a_test_each, carry_out, check, printed, ran, ran_words,
     shared_folder,
 )
 from vault_recheck import vault, words
@@ -45,6 +49,8 @@ from vault_recheck import vault, words
 FORGERIES = EXAMPLES / "forgeries"
 EVENTS = CONTRIB / "queries" / "events-text.sql"
 SEALED = ("2024-02-15T00:00:00Z", "2024-03-20T09:00:00Z")
+# The bytes of a content that stays inside in a vault of forgeries which keeps contents outside.
+MOST_INSIDE = 4
 FORGERIES_OF_EACH = 8
 DAY = 86_400
 VAULTS = int(os.environ.get("TRIALS_VAULTS", 300 if IS_LONG else 12))
@@ -57,6 +63,7 @@ class Row(NamedTuple):
     place: str
     changes: list[str]
     answers: dict[str, list[str]]
+    is_external: bool = False
 
 
 def recheck(*given: object) -> Ran:
@@ -70,9 +77,13 @@ def recheck(*given: object) -> Ran:
     return Ran(status, out.getvalue(), err.getvalue())
 
 
-def make(file: pathlib.Path, script: str) -> list[str]:
+def init(file: pathlib.Path, is_external: bool) -> None:
+    printed("init", file, *(["--external"] if is_external else []))
+
+
+def make(file: pathlib.Path, script: str, is_external: bool = False) -> list[str]:
     """The replies to a script over a new vault, whose log is part of the file then."""
-    printed("init", file)
+    init(file, is_external)
     played = printed("replay", file, given=script)
     carry_out(file, [])
     return played.splitlines()
@@ -147,6 +158,9 @@ def forgeries() -> dict[str, Row]:
                 name = f"{path.stem}: {text}"
                 check(name not in found, f"two rows have the name {name}")
                 found[name] = Row(f"{path.name}:{number}", [], {})
+            elif mark == "@":
+                check(text == "external", f"{path.name}:{number}: there is no vault {text}")
+                found[name] = found[name]._replace(is_external=True)
             elif mark == "%":
                 found[name].changes.append(text)
             elif mark == ">":
@@ -156,17 +170,21 @@ def forgeries() -> dict[str, Row]:
 
 
 @functools.cache
-def honest() -> pathlib.Path:
+def honest_of(is_external: bool) -> pathlib.Path:
     """The vault of which forgeries are copies; its seals are in the file `seals` beside it."""
-    folder = shared_folder() / "honest"
+    folder, script = shared_folder() / f"honest-{is_external}", (FORGERIES / "vault.jsonl").read_text()
     folder.mkdir()
-    replies = make(folder / "vault", (FORGERIES / "vault.jsonl").read_text())
+    replies = make(folder / "vault", script_outside(script, MOST_INSIDE) if is_external else script, is_external)
     refused = [it for it in replies if not it.startswith('{"ok":')]
     check(not refused, f"lines of examples/forgeries/vault.jsonl are refused: {refused}")
     sealed = recheck("seal", folder / "vault", "--before", SEALED[0], "--before", SEALED[1])
     check(sealed.status == 0, f"no seals: {sealed}")
     (folder / "seals").write_text(sealed.out)
     return folder / "vault"
+
+
+def honest() -> pathlib.Path:
+    return honest_of(False)
 
 
 def answer_of(ran: Ran) -> str:
@@ -194,15 +212,16 @@ ROWS = forgeries()
 class Forgeries(Case):
     def look_at(self, name: str) -> None:
         row, file = ROWS[name], self.folder / "vault"
-        shutil.copyfile(honest(), file)
+        before = honest_of(row.is_external)
+        shutil.copyfile(before, file)
         carry_out(file, [*row.changes, (FORGERIES / "mend.sql").read_text()])
         found = {
             "verify": [ran("verify", file).out.strip()],
             "audit": [recheck("audit", file).out.strip()],
             "lawful": [answer_of(recheck("lawful", file))],
             "coherent": answer_of(recheck("coherent", file)).splitlines(),
-            "seal": [seal_answer(file, honest().with_name("seals"))],
-            "compare": answer_of(recheck("compare", honest(), file)).splitlines(),
+            "seal": [seal_answer(file, before.with_name("seals"))],
+            "compare": answer_of(recheck("compare", before, file)).splitlines(),
         }
         if found["verify"] == ["sound"]:
             compare_with_program(file, row.place)
@@ -306,6 +325,144 @@ class Words(Case):
         check(both.out.startswith("setting 1 of version 2 was") and both.status == 1, f"with the log: {both}")
 
 
+# ---- what is kept outside
+
+# The bytes of the held versions of damages.EXTERNAL that are kept outside.
+OUTSIDE = {8: bytes(1_048_577), 9: b"hello", 11: b""}
+# The same bytes are twice in the vault, as version 11 gets those of 9.
+ONE_BODY = "UPDATE entries SET (size, digest) = (SELECT size, digest FROM entries WHERE id = 9) WHERE id = 11"
+# More bytes than the memory that a look at them may take.
+MANY, MOST_KIB = 300_000_000, 250_000
+
+
+def place_of(content: bytes) -> str:
+    name = hashlib.sha256(content).hexdigest()
+    return f"{name[:2]}/{name[2:4]}/{name}"
+
+
+class Bodies(Case):
+    def setUp(self) -> None:
+        super().setUp()
+        self.vault, self.bodies = self.folder / "vault", self.folder / "bodies"
+        self.vault.write_bytes(damages.beginnings()["external"] or b"")
+        for it in OUTSIDE.values():
+            self.place(it).parent.mkdir(parents=True)
+            self.place(it).write_bytes(it)
+
+    def place(self, content: bytes) -> pathlib.Path:
+        return self.bodies / place_of(content)
+
+    def changed(self, *statements: str) -> None:
+        carry_out(self.vault, [*statements, (FORGERIES / "mend.sql").read_text()])
+        check(recheck("audit", self.vault).out == "sound\n", "the vault isn't sound")
+
+    def says(self, missing: list[str], differs: list[str]) -> None:
+        """Fails unless a look finds just these."""
+        lines = sorted([f"missing version {it}" for it in missing] + [f"differs version {it}" for it in differs])
+        last = f"looked at 3: missing {len(missing)}, differs {len(differs)}, unread 0"
+        said = recheck("bodies", self.vault, self.bodies)
+        self.assertEqual((sorted(said.out.splitlines()[:-1]), said.out.splitlines()[-1]), (lines, last))
+        self.assertEqual((said.status, said.err), (1 if lines else 0, ""))
+
+    def test_there(self) -> None:
+        """All are there, with files that no version has, and nothing is changed."""
+        (self.bodies / "more").write_text("more")
+        before = self.vault.read_bytes()
+        self.says([], [])
+        self.assertEqual(self.vault.read_bytes(), before)
+
+    def test_none(self) -> None:
+        """A removed version's bytes aren't looked for, and in an empty folder all others are missing."""
+        shutil.rmtree(self.bodies)
+        self.bodies.mkdir()
+        self.says([f"{id}: there is no {place_of(it)}" for id, it in OUTSIDE.items()], [])
+        (self.bodies / place_of(b"hello")[:2]).write_text("a file in the place of a folder")
+        self.says([f"{id}: there is no {place_of(it)}" for id, it in OUTSIDE.items()], [])
+
+    def test_other_bytes(self) -> None:
+        """One bit in the last byte, a byte less, and a byte more."""
+        large, other, place = OUTSIDE[8], OUTSIDE[8][:-1] + b"\1", place_of(OUTSIDE[8])
+        digest = hashlib.sha256(other).hexdigest()
+        for written, why in (
+            (other, f"has the digest {digest}"),
+            (large[:-1], "has 1048576 bytes, and the version has 1048577"),
+            (large + b"x", "has 1048578 bytes, and the version has 1048577"),
+        ):  # fmt: skip
+            self.place(large).write_bytes(written)
+            self.says([], [f"8: {place} {why}"])
+        self.place(large).write_bytes(large)
+        self.place(b"").write_bytes(b"x")
+        self.says([], [f"11: {place_of(b'')} has 1 bytes, and the version has 0"])
+
+    def test_no_file(self) -> None:
+        """A link to the right bytes, a pipe, for which nobody waits, and a folder are no files."""
+        place = self.place(b"hello")
+        (self.folder / "elsewhere").write_bytes(b"hello")
+        for make_other in (lambda: place.symlink_to(self.folder / "elsewhere"), lambda: os.mkfifo(place), place.mkdir):
+            place.unlink()
+            make_other()
+            said = ran_words(CONTRIB / "vault-recheck", "bodies", self.vault, self.bodies, timeout=30)
+            self.assertEqual((said.status, said.out.splitlines()[0]), (1, f"differs version 9: {place_of(b'hello')} is no file"))
+
+    def test_one_body(self) -> None:
+        """What is wrong with a body is said of each version that has it."""
+        self.changed(ONE_BODY)
+        self.says([], [])
+        self.place(b"hello").write_bytes(b"hallo")
+        why = f"{place_of(b'hello')} has the digest {hashlib.sha256(b'hallo').hexdigest()}"
+        self.says([], [f"9: {why}", f"11: {why}"])
+        # of two versions that register one digest and two sizes, one at least is wrong
+        self.place(b"hello").write_bytes(b"hello")
+        self.changed("UPDATE entries SET size = 6 WHERE id = 11")
+        self.says([], [f"11: {place_of(b'hello')} has 5 bytes, and the version has 6"])
+
+    def test_unread(self) -> None:
+        """What can't be read is neither missing nor other bytes; root may read everything, so nobody asks."""
+        self.folder.chmod(0o755)
+        self.place(b"hello").chmod(0)
+        how: dict[str, Any] = {"user": NOBODY, "group": NOBODY, "extra_groups": []} if os.geteuid() == 0 else {}
+        said = ran_words(CONTRIB / "vault-recheck", "bodies", self.vault, self.bodies, "--immutable", **how)
+        line = f"unread version 9: {place_of(b'hello')}: Permission denied\n"
+        self.assertEqual(said, Ran(1, f"{line}looked at 3: missing 0, differs 0, unread 1\n", ""))
+
+    def test_memory(self) -> None:
+        """The bytes are never in memory as a whole."""
+        digest = hashlib.sha256()
+        for _ in range(MANY // 1_000_000):
+            digest.update(bytes(1_000_000))
+        self.changed(f"UPDATE entries SET size = {MANY}, digest = x'{digest.hexdigest()}' WHERE id = 8")
+        place = self.bodies / digest.hexdigest()[:2] / digest.hexdigest()[2:4] / digest.hexdigest()
+        place.parent.mkdir(parents=True)
+        place.touch()
+        os.truncate(place, MANY)
+        limited = ("sh", "-c", f'ulimit -v {MOST_KIB} && exec "$@"', "sh")
+        said = ran_words(*limited, CONTRIB / "vault-recheck", "bodies", self.vault, self.bodies)
+        self.assertEqual(said, Ran(0, "looked at 3: missing 0, differs 0, unread 0\n", ""))
+
+    def test_refused(self) -> None:
+        """A folder that isn't there, a vault that keeps all contents inside, and a damaged one."""
+        none, damaged = self.folder / "none", self.folder / "damaged"
+        shutil.copyfile(self.vault, damaged)
+        carry_out(damaged, ["DELETE FROM external WHERE id = 9"])
+        for given, why in (
+            ((self.vault, none), f"{none}: there is no such folder"),
+            ((self.vault, self.vault), f"{self.vault}: there is no such folder"),
+            ((honest(), self.bodies), f"{honest()}: a vault of schema 3 has all contents in its tables"),
+            ((damaged, self.bodies), f"{damaged}: damaged contents: "),
+        ):
+            said = recheck("bodies", *given)
+            self.assertEqual((said.status, said.out), (1, ""), given)
+            self.assertTrue(said.err.startswith(f"vault-recheck: {why}"), said.err)
+
+    def test_copied(self) -> None:
+        """A copy that may keep contents outside has all that the vault has, and none of it outside."""
+        copy = self.folder / "copy"
+        self.printed("migrate", honest(), copy, "--external")
+        self.assertEqual(recheck("compare", honest(), copy), Ran(0, "unaltered\n", ""))
+        self.assertEqual(recheck("bodies", copy, self.bodies).out, "looked at 0: missing 0, differs 0, unread 0\n")
+        looks_lawful(copy, "a copy that may keep contents outside")
+
+
 # ---- the vaults of the examples
 
 
@@ -338,8 +495,8 @@ class Office:
     RIGHTS = ["config", "put", "retain", "hold", "get", "list", "delete", "delete-version", "run", "report", "bypass"]
     DEPTS = ["records", "court", "archive"]
 
-    def __init__(self, file: pathlib.Path, chance: random.Random) -> None:
-        self.file, self.chance = file, chance
+    def __init__(self, file: pathlib.Path, chance: random.Random, is_external: bool) -> None:
+        self.file, self.chance, self.is_external = file, chance, is_external
         self.now, self.done, self.given = 1_600_000_000, 0, 0
         self.buckets = {"docs": "records", "drafts": "records", "rolls": "court"}
         self.callers: dict[str, str] = {}
@@ -400,9 +557,14 @@ class Office:
             found["hold"] = chance.choice(["ON", "OFF"])
         return found
 
+    def content(self) -> dict[str, object]:
+        text = "x" * self.chance.randrange(40)
+        is_outside = self.is_external and self.chance.random() < 0.6
+        return registered(text.encode()) if is_outside else {"text": text}
+
     def puts(self, bucket: str) -> None:
         key = self.chance.choice(["a", "b", "a/1", "tmp/x", "ü, \"y\"", f"k{self.chance.randrange(6)}"])
-        more: dict[str, object] = {"bucket": bucket, "key": key, "text": "x" * self.chance.randrange(40), **self.lock()}
+        more: dict[str, object] = {"bucket": bucket, "key": key, **self.content(), **self.lock()}
         do = "put"
         if self.chance.random() < 0.25:
             self.lines += 1
@@ -477,19 +639,13 @@ def grow(office: Office, lines: int) -> None:
     office.closes()
 
 
-COLUMNS = {
-    "meta": "one schema last next moves",
-    "departments": "name admitted held removed weighted closed received handed",
-    "callers": "name dept rights closed",
-    "buckets": "name dept mode days years",
-    "rules": "bucket n id prefix enabled days lone nc_days nc_keep larger smaller",
-    "entries": "id bucket key marker size digest admitted by_rule admitted_by removed cause cause_by",
-    "contents": "id bytes",
-    "settings": "id n moment caller mode until hold bypass",
-    "intake": "bucket batch line key size digest mode until hold id",
-    "heads": "bucket key newest count",
-    "tenures": "id n dept moment",
-}
+def columns_of(base: sqlite3.Connection) -> dict[str, list[str]]:
+    """The columns of each table of a vault."""
+    query = "SELECT t.name, c.name FROM sqlite_schema AS t JOIN pragma_table_info(t.name) AS c WHERE t.type = 'table'"
+    found = collections.defaultdict[str, list[str]](list)
+    for table, column in base.execute(f"{query} ORDER BY t.rowid, c.cid"):
+        found[table].append(column)
+    return found
 
 
 class Change(NamedTuple):
@@ -510,13 +666,27 @@ def other_value(chance: random.Random, base: sqlite3.Connection, table: str, col
     return chance.choice(["", "eve", "A b", "records", "docs", "k1", "é", "\n", None, 7, another])
 
 
+def take_out(chance: random.Random, base: sqlite3.Connection) -> Optional[Change]:
+    """Takes a content out of the tables, as if it were kept outside."""
+    ids = [id for id, in base.execute("SELECT id FROM contents ORDER BY id")]
+    if not ids:
+        return None
+    id = chance.choice(ids)
+    base.execute("INSERT INTO external VALUES (?)", (id,))
+    base.execute("DELETE FROM contents WHERE id = ?", (id,))
+    return Change(f"content {id} is taken out", True)
+
+
 def change_row(chance: random.Random, base: sqlite3.Connection) -> Optional[Change]:
     """Changes a row at random; nothing where the file refuses it or has no row of that table."""
-    table = chance.choice([*COLUMNS, "entries", "entries", "settings", "settings", "tenures"])
+    tables = columns_of(base)
+    if "external" in tables and chance.random() < 0.1:
+        return take_out(chance, base)
+    table = chance.choice([*tables, "entries", "entries", "settings", "settings", "tenures"])
     rows = base.execute(f"SELECT rowid, * FROM {table} ORDER BY rowid").fetchall()
     if not rows:
         return None
-    (rowid, *row), columns = chance.choice(rows), COLUMNS[table].split()
+    (rowid, *row), columns = chance.choice(rows), tables[table]
     if chance.random() < 0.1:
         base.execute(f"DELETE FROM {table} WHERE rowid = ?", (rowid,))
         return Change(f"DELETE FROM {table}: {row}", table in ("entries", "settings", "tenures", "callers", "intake"))
@@ -538,13 +708,21 @@ def is_of_past(table: str, column: str, old: Any, new: Any) -> bool:
     return table in ("settings", "tenures", "intake")
 
 
+def mend(base: sqlite3.Connection) -> None:
+    """Puts right what `verify` looks at."""
+    base.executescript((FORGERIES / "mend.sql").read_text())
+    if "external" in columns_of(base):
+        held = "SELECT id FROM entries WHERE removed IS NULL AND NOT marker"
+        base.execute(f"DELETE FROM external WHERE id NOT IN ({held})")
+
+
 def forge(chance: random.Random, file: pathlib.Path) -> Optional[Change]:
     """Changes a row of a file at random, and half of the time mends what `verify` looks at."""
     with contextlib.closing(sqlite3.connect(file, isolation_level=None)) as base:
         try:
             change = change_row(chance, base)
             if change and chance.random() < 0.5:
-                base.executescript((FORGERIES / "mend.sql").read_text())
+                mend(base)
                 change = change._replace(text=f"{change.text}, mended")
         except (sqlite3.Error, OverflowError):
             return None
@@ -558,8 +736,9 @@ class Generated(Case):
         """A vault that random lines make, and forgeries of it."""
         chance, name = random.Random(f"{SEED} {number}"), f"generated vault {number} of seed {SEED}"
         file, half, seals = (self.folder / it for it in ("vault", "half", "seals"))
-        self.printed("init", file)
-        office = Office(file, chance)
+        is_external = int(number) % 2 == 1
+        init(file, is_external)
+        office = Office(file, chance, is_external)
         grow(office, 30)
         shutil.copyfile(file, half)
         seals.write_text(recheck("seal", half).out)

@@ -7,7 +7,7 @@ from typing import Callable, Iterator, NamedTuple, Optional
 
 from vault_recheck import forms, limits
 from vault_recheck.limits import Faults
-from vault_recheck.vault import Damaged, Meta, Row, moment_text
+from vault_recheck.vault import Damaged, Meta, Row, meta_of, moment_text
 
 DAY = 86_400
 QUOTA = 1_000_000_000_000
@@ -18,12 +18,16 @@ ROW_FAULTS: dict[str, Callable[[Row], Faults]] = {
     "callers": limits.caller_faults,
     "buckets": limits.bucket_faults,
     "rules": limits.rule_faults,
-    "entries": limits.entry_faults,
     "contents": limits.content_faults,
     "settings": limits.setting_faults,
-    "intake": limits.intake_faults,
     "heads": limits.head_faults,
     "tenures": limits.tenure_faults,
+    "external": limits.external_faults,
+}
+# The rows with a size, whose limit follows from the schema.
+SIZED_FAULTS: dict[str, Callable[[Row, int], Faults]] = {
+    "entries": limits.entry_faults,
+    "intake": limits.intake_faults,
 }
 
 
@@ -45,8 +49,13 @@ def look_at_file(base: sqlite3.Connection) -> Faults:
 # ---- each table by itself
 
 
-def look_at_meta(base: sqlite3.Connection) -> Faults:
-    rows = base.execute("SELECT one, schema, last, next, moves FROM meta").fetchall()
+def rows_of(base: sqlite3.Connection, table: forms.Table) -> sqlite3.Cursor:
+    columns = ", ".join(it.name for it in table.columns)
+    return base.execute(f"SELECT {columns} FROM {table.name}")
+
+
+def look_at_meta(base: sqlite3.Connection, table: forms.Table) -> Faults:
+    rows = rows_of(base, table).fetchall()
     if len(rows) != 1:
         yield f"it has {len(rows)} rows in the place of one"
     for row in rows:
@@ -60,13 +69,13 @@ def times_faults(id: object, admitted: int, removed: Optional[int], last: int) -
         yield f"entry {id} was removed at {moment_text(removed)}, before its admission or after the last moment"
 
 
-def look_at_rows(base: sqlite3.Connection, table: forms.Table, last: int) -> Faults:
+def look_at_rows(base: sqlite3.Connection, table: forms.Table, meta: Meta) -> Faults:
     """Each row of a table by itself; one of entries also beside the last moment."""
-    columns = ", ".join(it.name for it in table.columns)
-    for row in base.execute(f"SELECT {columns} FROM {table.name}"):
-        yield from ROW_FAULTS[table.name](row)
+    for row in rows_of(base, table):
+        sized = SIZED_FAULTS.get(table.name)
+        yield from sized(row, meta.schema) if sized else ROW_FAULTS[table.name](row)
         if table.name == "entries":
-            yield from times_faults(row[0], row[6], row[9], last)
+            yield from times_faults(row[0], row[6], row[9], meta.last)
 
 
 # ---- the tables beside the others
@@ -179,10 +188,9 @@ def look_at_entries(base: sqlite3.Connection, meta: Meta) -> Faults:
 
 def look_at_contents(base: sqlite3.Connection, meta: Meta) -> Faults:
     for (id,) in base.execute(
-        "SELECT e.id FROM entries AS e LEFT JOIN contents AS c ON c.id = e.id"
-        " WHERE (NOT e.marker AND e.removed IS NULL) <> (c.id IS NOT NULL)"
+        "SELECT e.id FROM contents JOIN entries AS e USING (id) WHERE e.marker OR e.removed IS NOT NULL"
     ):
-        yield f"version {id} is held and has no content, or has one and isn't a held version"
+        yield f"entry {id} has a content, and isn't a held version"
     for id, content, size, digest in base.execute(
         "SELECT c.id, c.bytes, e.size, e.digest FROM contents AS c JOIN entries AS e ON e.id = c.id"
     ):
@@ -190,6 +198,26 @@ def look_at_contents(base: sqlite3.Connection, meta: Meta) -> Faults:
             yield f"version {id} has {len(content)} bytes, and its size is {size}"
         elif hashlib.sha256(content).digest() != digest:
             yield f"version {id} has bytes of another digest than its own"
+
+
+def look_at_external(base: sqlite3.Connection, meta: Meta) -> Faults:
+    """The size and the digest of a content that is kept outside are those of its entry: there is nothing to compare."""
+    if not meta.is_external:
+        return
+    for id, is_inside in base.execute(
+        "SELECT e.id, c.id IS NOT NULL FROM external JOIN entries AS e USING (id) LEFT JOIN contents AS c USING (id)"
+        " WHERE c.id IS NOT NULL OR e.marker OR e.removed IS NOT NULL"
+    ):
+        yield f"version {id} is kept outside and inside" if is_inside else f"entry {id} isn't a held version"
+
+
+def look_at_held(base: sqlite3.Connection, meta: Meta) -> Faults:
+    outside = " UNION SELECT id FROM external" if meta.is_external else ""
+    for (id,) in base.execute(
+        "SELECT id FROM entries WHERE NOT marker AND removed IS NULL"
+        f" AND id NOT IN (SELECT id FROM contents{outside})"
+    ):
+        yield f"version {id} is held and has no content"
 
 
 def look_at_settings(base: sqlite3.Connection, meta: Meta) -> Faults:
@@ -279,6 +307,8 @@ BESIDE: tuple[tuple[str, Callable[[sqlite3.Connection, Meta], Faults]], ...] = (
     ("rules", look_at_rules),
     ("entries", look_at_entries),
     ("contents", look_at_contents),
+    ("external", look_at_external),
+    ("contents", look_at_held),
     ("settings", look_at_settings),
     ("intake", look_at_intake),
     ("heads", look_at_heads),
@@ -295,17 +325,18 @@ def refuse_first(table: str, faults: Faults) -> None:
 
 
 def audit_tables(base: sqlite3.Connection) -> None:
-    different = forms.first_difference(base)
+    schema = forms.schema_of(base)
+    different = forms.first_difference(base, schema)
     refuse_first("meta", look_at_file(base))
     meta: Optional[Meta] = None
-    for table in forms.TABLES:
+    for table in forms.TABLES[schema]:
         if different is not None and different.table == table.name:
             raise Damaged(*different)
         if table.name == "meta":
-            refuse_first("meta", look_at_meta(base))
-            meta = Meta(*base.execute("SELECT last, next, moves FROM meta").fetchone())
+            refuse_first("meta", look_at_meta(base, table))
+            meta = meta_of(base)
         elif meta is not None:
-            refuse_first(table.name, look_at_rows(base, table, meta.last))
+            refuse_first(table.name, look_at_rows(base, table, meta))
     if meta is None:
         raise Damaged("meta", "there is no such table")
     for name, look in BESIDE:

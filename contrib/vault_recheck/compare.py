@@ -2,7 +2,8 @@
 
 Both are tables that fit together. What may differ is what commands change: an entry of the earlier copy may have been
 removed since, have settings and tenures more, a caller may have been closed, a bucket moved and its default and rules
-set anew. All that is in the later copy alone has to be of the earlier one's last moment, or after it.
+set anew. A content stays inside or outside. All that is in the later copy alone has to be of the earlier one's last
+moment, or after it.
 """
 
 import sqlite3
@@ -121,6 +122,23 @@ def all_history_differences(old: sqlite3.Connection, new: sqlite3.Connection, me
         yield from new_history_differences(after, meta)
 
 
+# ---- what is kept outside
+
+
+def in_and_out(inside: sqlite3.Connection, outside: sqlite3.Connection) -> Iterator[int]:
+    """The versions whose content the one copy has, and of which the other says that it is kept outside."""
+    if meta_of(outside).is_external:
+        for (id,) in outside.execute("SELECT id FROM external ORDER BY id"):
+            if inside.execute("SELECT id FROM contents WHERE id = ?", (id,)).fetchone():
+                yield id
+
+
+def place_differences(old: sqlite3.Connection, new: sqlite3.Connection) -> Differences:
+    """No command takes a content out of the tables, or into them."""
+    yield from (f"version {it} had its content inside, and has it kept outside" for it in in_and_out(old, new))
+    yield from (f"version {it} had its content kept outside, and has it inside" for it in in_and_out(new, old))
+
+
 # ---- lines of intakes
 
 
@@ -211,4 +229,5 @@ def differences(old: sqlite3.Connection, new: sqlite3.Connection) -> Differences
     yield from name_differences(old, new)
     yield from caller_differences(old, new)
     yield from all_history_differences(old, new, meta)
+    yield from place_differences(old, new)
     yield from line_differences(old, new, meta)

@@ -1,8 +1,11 @@
-"""Which tables a vault's file has, in which order, and how each is made; and at which of them a file differs."""
+"""Which tables a vault's file of a schema has, in which order, and how each is made; and at which of them a file
+differs."""
 
 import re
 import sqlite3
 from typing import Iterator, NamedTuple, Optional
+
+from vault_recheck.vault import INSIDE, OUTSIDE
 
 
 class Column(NamedTuple):
@@ -32,7 +35,7 @@ def table_of(name: str, key: str, columns: str, unique: str = "") -> Table:
     return Table(name, tuple(column_of(it) for it in columns.split(",")), tuple(key.split()), tuple(unique.split()))
 
 
-TABLES = (
+INSIDE_TABLES = (
     table_of("meta", "one", "one INTEGER ?, schema INTEGER, last INTEGER, next INTEGER, moves INTEGER"),
     table_of(
         "departments",
@@ -74,7 +77,18 @@ TABLES = (
     table_of("tenures", "id n", "id INTEGER entries.id, n INTEGER, dept TEXT departments.name, moment INTEGER"),
 )  # fmt: skip
 
-# The one index that isn't made by a key or a constraint: the entries by bucket, key and removal, the latest first.
+# What a vault that registers contents kept outside has besides: two columns at the end of `meta`, and a table.
+LATER_COLUMNS = (column_of("place INTEGER"), column_of("done INTEGER"))
+EXTERNAL = table_of("external", "id", "id INTEGER ? entries.id")
+TABLES = {
+    INSIDE: INSIDE_TABLES,
+    OUTSIDE: (
+        INSIDE_TABLES[0]._replace(columns=INSIDE_TABLES[0].columns + LATER_COLUMNS), *INSIDE_TABLES[1:], EXTERNAL
+    ),
+}  # fmt: skip
+
+# The one index that isn't made by a key or a constraint: the entries by bucket, key and removal, the latest first. All
+# tables are made before it but `external`.
 HELD_INDEX = ("entries_held", "entries", (("bucket", False), ("key", False), ("removed", True)))
 
 # Words in the statement that made a table, of which the tables of a vault have none.
@@ -97,6 +111,14 @@ class Difference(NamedTuple):
     why: str
 
 
+def schema_of(base: sqlite3.Connection) -> int:
+    """The schema whose tables the file has to have, by the number in `meta`; the earlier one where it has none."""
+    try:
+        return OUTSIDE if base.execute("SELECT schema FROM meta").fetchall() == [(OUTSIDE,)] else INSIDE
+    except sqlite3.Error:
+        return INSIDE
+
+
 def things_in(base: sqlite3.Connection) -> list[Thing]:
     rows = base.execute("SELECT type, name, tbl_name, sql FROM sqlite_schema ORDER BY rowid")
     return [Thing(kind, name, table, sql or "") for kind, name, table, sql in rows]
@@ -107,10 +129,11 @@ def automatic_indexes(table: Table) -> list[tuple[str, ...]]:
     return [it for it in (() if table.is_by_number() else table.key, table.unique) if it]
 
 
-def wanted_places() -> dict[str, int]:
+def wanted_places(schema: int) -> dict[str, int]:
     """How many tables and indexes stand before each table, by its name."""
     places, place = {}, 0
-    for table in TABLES:
+    for table in TABLES[schema]:
+        place += table == EXTERNAL
         places[table.name] = place
         place += 1 + len(automatic_indexes(table))
     return places
@@ -159,14 +182,14 @@ def automatic_index_faults(base: sqlite3.Connection, table: Table) -> Iterator[s
         yield "its key or its constraint has other columns"
 
 
-def table_faults(base: sqlite3.Connection, table: Table, things: list[Thing]) -> Iterator[str]:
-    """How a table of the file differs from a vault's."""
+def table_faults(base: sqlite3.Connection, table: Table, wanted: int, things: list[Thing]) -> Iterator[str]:
+    """How a table of the file differs from a vault's, which has that many tables and indexes before it."""
     sized = [it for it in things if it.kind in ("table", "index")]
     place = next((at for at, it in enumerate(sized) if it.kind == "table" and it.name == table.name), None)
     if place is None:
         yield "there is no such table"
         return
-    if place != wanted_places()[table.name]:
+    if place != wanted:
         yield "it stands in another place among the tables and indexes"
     strict = base.execute("SELECT strict, wr FROM pragma_table_list WHERE schema = 'main' AND name = ?", (table.name,))
     if strict.fetchone() != (1, 0):
@@ -181,7 +204,7 @@ def table_faults(base: sqlite3.Connection, table: Table, things: list[Thing]) ->
 
 def wanted_indexes() -> list[tuple[str, str]]:
     """The indexes in their order, each with its table; one of a key or a constraint has no name here."""
-    made = [("", table.name) for table in TABLES for _ in automatic_indexes(table)]
+    made = [("", table.name) for table in INSIDE_TABLES for _ in automatic_indexes(table)]
     return made + [HELD_INDEX[:2]]
 
 
@@ -193,7 +216,7 @@ def is_held_index(base: sqlite3.Connection, thing: Thing) -> bool:
     return (thing.name, thing.table) == (name, table) and plain and columns_of_index(base, name) == wanted
 
 
-def index_difference(base: sqlite3.Connection, things: list[Thing]) -> Optional[Difference]:
+def index_difference(base: sqlite3.Connection, names: set[str], things: list[Thing]) -> Optional[Difference]:
     found, wanted = [it for it in things if it.kind == "index"], wanted_indexes()
     for at, (name, table) in enumerate(wanted):
         thing = found[at] if at < len(found) else None
@@ -202,21 +225,22 @@ def index_difference(base: sqlite3.Connection, things: list[Thing]) -> Optional[
         if not name and (thing.sql or thing.table != table):
             return Difference(table, f"the index {thing.name} stands in the place of that of its key")
     for thing in found[len(wanted):]:
-        owner = thing.table if thing.table in {it.name for it in TABLES} else "meta"
+        owner = thing.table if thing.table in names else "meta"
         return Difference(owner, f"there is an index {thing.name}, which no vault has")
     return None
 
 
-def first_difference(base: sqlite3.Connection) -> Optional[Difference]:
-    """The first table at which the file differs from a vault's; `meta` where something foreign stands beside them."""
-    things = things_in(base)
-    for table in TABLES:
-        for why in table_faults(base, table, things):
+def first_difference(base: sqlite3.Connection, schema: int) -> Optional[Difference]:
+    """The first table at which the file differs from a vault's of that schema; `meta` where something foreign stands
+    beside them."""
+    things, places = things_in(base), wanted_places(schema)
+    for table in TABLES[schema]:
+        for why in table_faults(base, table, places[table.name], things):
             return Difference(table.name, why)
-    foreign = [it for it in things if it.kind == "table" and it.name not in {table.name for table in TABLES}]
+    foreign = [it for it in things if it.kind == "table" and it.name not in places]
     if foreign:
-        return Difference("meta", f"there is a table {foreign[0].name}, which no vault has")
-    different = index_difference(base, things)
+        return Difference("meta", f"there is a table {foreign[0].name}, which no vault of schema {schema} has")
+    different = index_difference(base, set(places), things)
     if different is not None:
         return different
     for it in things:

@@ -5,13 +5,14 @@ Each table has a function that yields what is wrong with one of its rows, in wor
 
 from typing import Callable, Iterator
 
-from vault_recheck.vault import COMPLIANCE, GOVERNANCE, LAST_MOMENT, Row, Value
+from vault_recheck.vault import COMPLIANCE, GOVERNANCE, INSIDE, LAST_MOMENT, OUTSIDE, Row, Value
 
-SCHEMA = 3
 MOST_IDS = 1_000_000_000
 MOST_SETTINGS = 1_000_000_000
 MOST_MOVES = 1_000_000_000
 MOST_CONTENT = 1_048_576
+# What a version may have at most, by the schema: where its bytes are gone, they may have been kept outside.
+MOST_SIZES = {INSIDE: MOST_CONTENT, OUTSIDE: 5_368_709_120}
 MOST_LINE = 4_294_967_295
 MOST_RULES = 1_000
 MOST_DAY_COUNT = 2_147_483_647
@@ -108,12 +109,12 @@ def default_faults(mode: Value, days: Value, years: Value) -> Faults:
         yield f"no period of a default retention: {days!r} days, {years!r} years"
 
 
-def extent_faults(marker: Value, size: Value, digest: Value) -> Faults:
+def extent_faults(marker: Value, size: Value, digest: Value, most: int) -> Faults:
     if not is_flag(marker):
         yield f"neither a marker nor a version: {marker!r}"
     elif marker and (size != 0 or digest is not None):
         yield "a delete marker with a size or a digest"
-    elif not marker and not is_number(size, 0, MOST_CONTENT):
+    elif not marker and not is_number(size, 0, most):
         yield f"no size: {size!r}"
     elif not marker and not is_digest(digest):
         yield "a version without a digest of 32 bytes"
@@ -157,11 +158,14 @@ def bound_faults(larger: Value, smaller: Value) -> Faults:
 
 
 def meta_faults(row: Row) -> Faults:
-    one, schema, last, following, moves = row
+    one, schema, last, following, moves, *later = row
     if one != 1:
         yield f"the row has the key {one!r} in the place of 1"
-    if schema != SCHEMA:
-        yield f"the schema is {schema!r}, and {SCHEMA} is known here"
+    wanted = OUTSIDE if later else INSIDE
+    if schema != wanted:
+        yield f"the schema is {schema!r}, and the tables are those of {wanted}"
+    if later not in ([], [0, 1]):
+        yield f"place is {later[0]!r} and done {later[1]!r}, and they are 0 and 1 in each vault"
     if not is_moment(last):
         yield f"no last moment: {last!r}"
     if not is_number(following):
@@ -219,7 +223,7 @@ def rule_faults(row: Row) -> Faults:
     yield from (where + it for it in bound_faults(larger, smaller))
 
 
-def entry_faults(row: Row) -> Faults:
+def entry_faults(row: Row, schema: int) -> Faults:
     id, bucket, key, marker, size, digest, admitted, by_rule, by, removed, cause, cause_by = row
     if not is_id(id):
         yield f"no version id: {id!r}"
@@ -229,7 +233,7 @@ def entry_faults(row: Row) -> Faults:
         yield f"entry {id!r} has no key: {key!r}"
     if not is_moment(admitted):
         yield f"entry {id!r} has no moment of admission: {admitted!r}"
-    yield from (f"entry {id!r}: {it}" for it in extent_faults(marker, size, digest))
+    yield from (f"entry {id!r}: {it}" for it in extent_faults(marker, size, digest, MOST_SIZES[schema]))
     yield from (f"entry {id!r}: {it}" for it in author_faults(by_rule, by))
     yield from (f"entry {id!r}: {it}" for it in removal_faults(removed, cause, cause_by))
 
@@ -258,7 +262,7 @@ def setting_faults(row: Row) -> Faults:
     yield from (where + it for it in retention_faults(mode, until))
 
 
-def intake_faults(row: Row) -> Faults:
+def intake_faults(row: Row, schema: int) -> Faults:
     bucket, batch, line, key, size, digest, mode, until, hold, id = row
     where = f"line {line!r} of batch {batch!r} into {bucket!r}: "
     if not is_bucket_name(bucket):
@@ -269,7 +273,7 @@ def intake_faults(row: Row) -> Faults:
         yield f"no number of a line: {line!r}"
     if not is_key(key):
         yield f"{where}no key: {key!r}"
-    if not is_number(size, 0, MOST_CONTENT):
+    if not is_number(size, 0, MOST_SIZES[schema]):
         yield f"{where}no size: {size!r}"
     if not is_digest(digest):
         yield f"{where}no digest of 32 bytes"
@@ -302,3 +306,9 @@ def tenure_faults(row: Row) -> Faults:
         yield f"version {id!r} has a tenure of no department: {dept!r}"
     if not is_moment(since):
         yield f"version {id!r} has a tenure since no moment: {since!r}"
+
+
+def external_faults(row: Row) -> Faults:
+    (id,) = row
+    if not is_id(id):
+        yield f"no version id: {id!r}"

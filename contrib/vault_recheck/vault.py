@@ -12,6 +12,8 @@ from typing import Iterator, NamedTuple, Optional, Union
 Value = Union[None, int, float, str, bytes]
 Row = tuple[Value, ...]
 
+# The number in `meta` of a vault whose contents are all in its tables, and of one that registers contents kept outside.
+INSIDE, OUTSIDE = 3, 4
 LAST_MOMENT = 253_402_300_799
 EPOCH = datetime.datetime(1970, 1, 1)
 MODES = ("", "GOVERNANCE", "COMPLIANCE")
@@ -36,6 +38,12 @@ class Meta(NamedTuple):
     last: int
     next: int
     moves: int
+    schema: int = INSIDE
+
+    @property
+    def is_external(self) -> bool:
+        """Whether the vault registers contents that are kept outside."""
+        return self.schema == OUTSIDE
 
 
 class Caller(NamedTuple):
@@ -102,6 +110,14 @@ class History(NamedTuple):
     entry: Entry
     settings: list[Setting]
     tenures: list[Tenure]
+
+
+class Body(NamedTuple):
+    """What is registered of the content of a held version that is kept outside."""
+
+    id: int
+    size: int
+    digest: bytes
 
 
 # ---- moments
@@ -174,7 +190,7 @@ def opened(name: str, immutable: bool = False) -> Iterator[sqlite3.Connection]:
 
 
 def meta_of(base: sqlite3.Connection) -> Meta:
-    return Meta(*base.execute("SELECT last, next, moves FROM meta").fetchone())
+    return Meta(*base.execute("SELECT last, next, moves, schema FROM meta").fetchone())
 
 
 def callers_of(base: sqlite3.Connection) -> dict[str, Caller]:
@@ -222,3 +238,9 @@ def histories_of(base: sqlite3.Connection) -> Iterator[History]:
                 history.tenures.append(tenure)
             tenure = next(tenures, None)
         yield history
+
+
+def bodies_of(base: sqlite3.Connection) -> Iterator[Body]:
+    """What is kept outside, by the digest: so all versions of the same bytes come one after another."""
+    for row in base.execute("SELECT e.id, e.size, e.digest FROM external JOIN entries AS e USING (id) ORDER BY 3, 1"):
+        yield Body(*row)

@@ -1,13 +1,16 @@
 """The command line: what is asked of which file, and what is printed."""
 
 import argparse
+import collections
 import contextlib
 import io
 import os
+import pathlib
 import sqlite3
 import sys
 from typing import Callable, Iterator, Optional, Sequence
 
+from vault_recheck import bodies
 from vault_recheck.audit import audit
 from vault_recheck.coherent import contradictions
 from vault_recheck.compare import differences
@@ -136,6 +139,24 @@ def do_compare(words: argparse.Namespace) -> int:
         return say_differences(differences(old, new), "unaltered")
 
 
+def do_bodies(words: argparse.Namespace) -> int:
+    folder = pathlib.Path(words.folder)
+    if not folder.is_dir():
+        raise Refused(f"{folder}: there is no such folder")
+    counts = collections.Counter[str]()
+    with audited(words.file, words.immutable) as base:
+        meta = meta_of(base)
+        if not meta.is_external:
+            raise Refused(f"{words.file}: a vault of schema {meta.schema} has all contents in its tables")
+        for it in bodies.look(base, folder):
+            counts[it.state] += 1
+            if it.state != "there":
+                print(it.text(), flush=True)
+    summary = ", ".join(f"{it} {counts[it]}" for it in ("missing", "differs", "unread"))
+    print(f"looked at {counts.total()}: {summary}")
+    return 0 if counts.total() == counts["there"] else 1
+
+
 TEXTS = {
     "audit": "prints `sound`, or `damaged TABLE` with the first table that isn't a vault's",
     "lawful": "prints `lawful`, or `unlawful ID RULE` with the first rule that an entry's history breaks",
@@ -143,6 +164,8 @@ TEXTS = {
     "events": "prints all that ever happened to each entry, as CSV",
     "seal": "prints the seal of the events before a moment; left out, it is the vault's last one",
     "check-seals": "prints `as sealed`, or a line for each seal that doesn't come out of the file",
+    "bodies": "prints a line for each held version that is kept outside and whose bytes aren't in FOLDER as registered,"
+    " and how many were looked at",
     "compare": "prints `unaltered` where all of OLD stands in NEW, else a line for each difference",
 }
 
@@ -175,6 +198,7 @@ def parser() -> argparse.ArgumentParser:
     seal.add_argument("--before", type=moment, action="append", metavar="MOMENT", help=more)
     add_command(commands, "check-seals", do_check_seals, "file", "seals")
     add_command(commands, "compare", do_compare, "old", "new")
+    add_command(commands, "bodies", do_bodies, "file", "folder")
     return whole
 
 

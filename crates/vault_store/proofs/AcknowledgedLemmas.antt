@@ -20,11 +20,11 @@ use Rattle.vault_store.specs.VaultOf.{vault_of}
 use Rattle.vault_store.proofs.KeptLemmas.{kept_leaves_alone}
 
 module _ (opened : State) (is_open : IsTrue opened.is_open) (live : IsLive opened) (settled : opened.now ≡ opened.committed) where
-  -- trees list one schema, so that of the opening is the one of every vault
+  -- trees list one schema, so that of the opening is the one of the vault's file
   read_again : (v : Vault) → IsFoundIn v opened.committed.trees → AreSound opened.now v
   read_again v found =
       let db = opened.committed in
-      let same = lists_once (db.trees catalog_tree) db.schema vault_schema (live is_open).1.lists found.listed.lists in
+      let same = lists_once (db.trees catalog_tree) db.schema (vault_schema v.external) (live is_open).1.lists found.listed.lists in
       subst (λ (d : Database). AreSound d v) (sym settled) (subst (λ s. AreSound (record { schema = s; trees = db.trees }) v) (sym same) found.spelled)
 
   read_all : (v : Vault) (refused : List (ℕ × Change)) → IsOneFoundIn v refused opened.committed.trees → AreSoundFor opened.now v refused

@@ -18,6 +18,7 @@ use Rattle.vault_audit_model.specs.Spells.{AreSound}
 use Rattle.vault_audit_model.specs.Tables.{vault_schema}
 use Rattle.vault_store_apply.specs.Left.{LeavesAlone}
 use Rattle.vault_store_model.specs.Keeping.{AreTreesOf, Keeps}
+use Rattle.vault_store_model.proofs.KeptLemmas.{external_changed}
 use Rattle.vault_store_reads.specs.Quiet.{OnlyReads}
 use Rattle.vault_store.specs.Blame.{fault_of}
 use Rattle.vault_store.specs.Kept.{after}
@@ -70,10 +71,10 @@ pub no_failure : {S : Type 0} (g : Ghosts S) (old : Held S) (v : Vault) (refused
 no_failure g old v refused e f kept clean memory is =
     ∥∥₁_elim kept (Coded-set coded_bool _ _) (λ kept. ap is_device_fault (is ∙ ap fault_of (memory v (kept clean).keeps)))
 
--- whatever is found in these trees, they list the schema of every vault, and no other
-listed_in : (v : Vault) (refused : List (ℕ × Change)) (trees : Trees) → IsOneFoundIn v refused trees → IsDatabase (record { schema = vault_schema; trees = trees })
+-- whatever is found in these trees, they list the schema of the vault's file, and no other
+listed_in : (v : Vault) (refused : List (ℕ × Change)) (trees : Trees) → IsOneFoundIn v refused trees → IsDatabase (record { schema = vault_schema v.external; trees = trees })
 listed_in v [] trees found = found.listed
-listed_in v (c ∷ cs) trees (inl it) = it.found.listed
+listed_in v (c ∷ cs) trees (inl it) = subst (λ external. IsDatabase (record { schema = vault_schema external; trees = trees })) (external_changed v c.0 c.1) it.found.listed
 listed_in v (c ∷ cs) trees (inr more) = listed_in v cs trees more
 
 -- while the connection is open, a crash leaves the vault that is kept and nothing else: what was refused isn't there

@@ -1,5 +1,6 @@
 pub mod KeptLemmas
 mod KnownLemmas
+pub mod EditionLemmas
 mod ReadLemmas
 mod AcknowledgedLemmas
 mod RollbackLemmas

@@ -1,5 +1,5 @@
 -- What the text means by which a connection is asked whether it is open.
-use Rattle.std.proofs.Common.{◌≡◌, ℕ, List, [], codes, false, refl, arith}
+use Rattle.std.proofs.Common.{◌≡◌, ℕ, Bool, List, [], codes, true, false, refl, arith}
 use Rattle.sqlite_tied.specs.Compute.{everything}
 use Rattle.sqlite.specs.Given.{IsPlain}
 use Rattle.sqlite.specs.Listing.{understood, reads_listing}
@@ -9,14 +9,17 @@ use Rattle.vault_store_reads.specs.Wants.{IsAskedWith}
 abbrev pub shut_text : List ℕ
 shut_text = codes "SELECT last FROM meta"
 
-pub shut_plain : IsPlain (understood vault_schema shut_text)
+pub shut_plain : (external : Bool) → IsPlain (understood (vault_schema external) shut_text)
 unfolding understood everything
-shut_plain = (refl, refl)
+shut_plain false = (refl, refl)
+shut_plain true = (refl, refl)
 
-pub shut_unlisted : reads_listing vault_schema shut_text ≡ false
+pub shut_unlisted : (external : Bool) → reads_listing (vault_schema external) shut_text ≡ false
 unfolding understood everything
-shut_unlisted = refl
+shut_unlisted false = refl
+shut_unlisted true = refl
 
 pub shut_asked : IsAskedWith shut_text []
 unfolding understood everything
-shut_asked = (omega (arith), refl, (refl, refl, refl, refl))
+shut_asked false = (omega (arith), refl, (refl, refl, refl, refl))
+shut_asked true = (omega (arith), refl, (refl, refl, refl, refl))

@@ -1,3 +1,4 @@
+pub mod Editions
 pub mod Kept
 pub mod Knows
 pub mod Left

@@ -14,6 +14,7 @@ ghost use Rattle.vault_store.specs.Knows.{StaysKnown};
 
 use sqlite::{Alter, Connection, Error, ErrorCode};
 use vault_audit_model::rows::MetaRow;
+use vault_audit_model::schema::SchemaVersion;
 use vault_base::name::{BucketName, DeptName};
 use vault_core_model::records::BucketConfig;
 use vault_store_model::known::Known;
@@ -56,6 +57,22 @@ pub(crate) fn find_meta<S: Alter>(
         Some(meta) => Ok(meta),
         None => ask_meta(conn, known),
     }
+}
+
+/// Whether the vault registers contents that are kept outside: the schema version in `meta` says so.
+pub(crate) fn find_external<S: Alter>(
+    conn: &mut Connection<S>,
+    known: &mut Known,
+) -> Result<bool, Error>
+    requires { IsOpen S.Store conn.old }
+    ensures value { HasCleanDisk (state S.Store conn.new) → IfOk result (λ external. (v : Vault) → Keeps (state S.Store conn.old) v → AreKnown known.old v → external ≡ v.external) }
+    ensures known { StaysKnown S.Store conn.old conn.new known.old known.new }
+    ensures read { OnlyReads S.Store conn.old conn.new }
+    ensures open { IsOpenIfOk S.Store conn.new result }
+    ensures memory { WantsMemoryIfErr S.Store conn.old conn.new result }
+{
+    let meta = find_meta(conn, known)?;
+    Ok(meta.schema == SchemaVersion::Fourth.number())
 }
 
 /// How often a bucket was moved.

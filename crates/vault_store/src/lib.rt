@@ -3,6 +3,7 @@
 #![tactic(auto)]
 
 mod blame;
+pub mod edition;
 mod find;
 pub mod in_tables;
 mod laws;

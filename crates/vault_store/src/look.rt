@@ -10,11 +10,12 @@ ghost use Rattle.vault_audit.specs.Health.{IsHealthy};
 ghost use Rattle.vault_store_apply.specs.Left.{LeavesAlone};
 ghost use Rattle.vault_store.specs.Tables.{IsAtRest, HasTablesOf};
 
+use crate::edition::is_external;
 use crate::laws::connection_is_at_rest;
 use sqlite::{Alter, Connection};
 use std::alloc::Global;
 use vault_audit::audit;
-use vault_audit_model::schema::{NEWEST, SchemaVersion};
+use vault_audit_model::schema::SchemaVersion;
 use vault_base::refusal::Refusal;
 
 /// Ends the transaction that is open, if there is one.
@@ -67,7 +68,7 @@ pub(crate) fn look_as<S: Alter>(
     Ok(())
 }
 
-/// The same of the newest schema version.
+/// The same of the schema version that such a vault's file has, which its columns say.
 ///
 /// The errors are those of `audit`.
 pub(crate) fn look<S: Alter>(alloc: Global, conn: &mut Connection<S>) -> Result<(), Refusal>
@@ -83,5 +84,6 @@ pub(crate) fn look<S: Alter>(alloc: Global, conn: &mut Connection<S>) -> Result<
     ensures tables { OnErr result (HasCleanDisk (state S.Store conn.new) → HasTablesOf (state S.Store conn.old) (state S.Store conn.new)) }
     ensures crash { Survives (state S.Store conn.old) (state S.Store conn.new) (λ _. ⊥) }
 {
-    look_as(alloc, conn, NEWEST)
+    let external = is_external(conn.schema());
+    look_as(alloc, conn, SchemaVersion::of(external))
 }

@@ -8,12 +8,14 @@ ghost use Rattle.vault_core_model.specs.Vault.{Vault};
 ghost use Rattle.vault_audit.specs.Health.{IsHealthy};
 ghost use Rattle.vault_audit.specs.Whole.{IsReported};
 ghost use Rattle.vault_audit_model.specs.Faults.{refusal_of};
+ghost use Rattle.vault_audit_model.specs.SchemaVersions.{edition_of, is_external};
 ghost use Rattle.vault_audit_model.specs.Spells.{AreSound, AreSoundAs};
 ghost use Rattle.vault_audit_model.specs.Tables.{no_schema};
 ghost use Rattle.vault_store_apply.specs.Left.{LeavesAlone};
 ghost use Rattle.vault_store_create.specs.Create.{IsFault};
 ghost use Rattle.vault_store.specs.Kept.{IsSettled};
 ghost use Rattle.vault_store.specs.Migrated.{IsMigrated, RefusesItsRow};
+ghost use Rattle.vault_store_create.specs.Copied.{registering};
 ghost use Rattle.vault_store.specs.Tables.{HasTablesOf, IsAtRest, IsUndone};
 ghost use Rattle.vault_store.specs.VaultOf.{vault_of};
 
@@ -25,7 +27,7 @@ use std::alloc::Global;
 use vault_audit::audit;
 use vault_audit_laws::connection::tables_obey_their_schema;
 use vault_audit_model::faults::refusal_of;
-use vault_audit_model::schema::{NEWEST, SchemaVersion};
+use vault_audit_model::schema::SchemaVersion;
 use vault_base::refusal::Refusal;
 use vault_store_create::copy::begin::begin_copy;
 
@@ -49,19 +51,21 @@ fn take_copy<O: Alter, S: Alter>(
     old: &mut Connection<O>,
     schema_version: SchemaVersion,
     new: &mut Connection<S>,
+    external: bool,
 ) -> Result<(), Refusal>
+    requires version { is_external schema_version ≡ false }
     requires old_outside { old.old.in_transaction ≡ false }
     requires outside { new.old.in_transaction ≡ false }
     ensures spelled { HasCleanDisk (state O.Store old.new) → OnOk result ((v : Vault) × AreSoundAs schema_version (state O.Store old.old).now v) }
     ensures copied { HasCleanDisk (state O.Store old.new) → HasCleanDisk (state S.Store new.new)
-        → OnOk result ((v : Vault) → AreSoundAs schema_version (state O.Store old.old).now v → AreSound (state S.Store new.new).now v × IsDatabase (state S.Store new.new).now) }
+        → OnOk result ((v : Vault) → AreSoundAs schema_version (state O.Store old.old).now v → AreSound (state S.Store new.new).now (registering external v) × IsDatabase (state S.Store new.new).now) }
     ensures reported { IfErr result (λ r. r ≢ Refusal.NameTaken → IsReported r) }
     ensures damaged { IfErr result (λ r. HasCleanDisk (state O.Store old.new) → (t : Table) → r ≡ Refusal.Damaged t → (v : Vault) → ¬ AreSoundAs schema_version (state O.Store old.old).now v) }
     ensures free { OnOk result ((state S.Store new.old).now.schema ≡ no_schema) }
     ensures taken { IfErr result (λ r. r ≡ Refusal.NameTaken → (state S.Store new.old).now.schema ≢ no_schema) }
     ensures named { (state S.Store new.old).now.schema ≢ no_schema → IfErr result (λ r. IsHealthy (state O.Store old.new) → r ≢ Refusal.Device) }
     ensures unsound { ((v : Vault) → ¬ AreSoundAs schema_version (state O.Store old.old).now v) → IfErr result (λ r. IsHealthy (state O.Store old.new) → r ≢ Refusal.Device) }
-    ensures refused { IfErr result (λ r. IsHealthy (state O.Store old.new) → IsHealthy (state S.Store new.new) → r ≡ Refusal.Device → RefusesItsRow schema_version (state O.Store old.old).now) }
+    ensures refused { IfErr result (λ r. IsHealthy (state O.Store old.new) → IsHealthy (state S.Store new.new) → r ≡ Refusal.Device → RefusesItsRow schema_version external (state O.Store old.old).now) }
     ensures inside { HasCleanDisk (state O.Store old.new) → HasCleanDisk (state S.Store new.new) → OnOk result (IsTrue new.new.in_transaction) }
     ensures outside { OnErr result (HasCleanDisk (state S.Store new.new) → new.new.in_transaction ≡ false) }
     ensures crash { Survives (state S.Store new.old) (state S.Store new.new) (λ _. ⊥) }
@@ -73,7 +77,7 @@ fn take_copy<O: Alter, S: Alter>(
         Ok(()) => {}
         Err(refusal) => return Err(refusal),
     }
-    match begin_copy(alloc, old, new, schema_version) {
+    match begin_copy(alloc, old, new, schema_version, external) {
         Ok(()) => Ok(()),
         Err(refusal) => {
             // No clause of the copying says that it leaves none.
@@ -95,19 +99,23 @@ fn fault_of_copy(refusal: Refusal) -> Refusal
     }
 }
 
-/// Looks at the tables of a connection inside a transaction, which is ended where they aren't sound.
+/// Looks at the tables of a copy inside a transaction, which is ended where they aren't sound.
 ///
 /// `Memory` where the store wanted memory. `Device` where it refused for another cause, and where the tables
 /// aren't sound.
-fn look_at_copy<S: Alter>(alloc: Global, new: &mut Connection<S>) -> Result<(), Refusal>
+fn look_at_copy<S: Alter>(
+    alloc: Global,
+    new: &mut Connection<S>,
+    external: bool,
+) -> Result<(), Refusal>
     ensures sound { HasCleanDisk (state S.Store new.new) → OnOk result ((v : Vault) × AreSound (state S.Store new.new).now v) }
     ensures same { HasCleanDisk (state S.Store new.new) → OnOk result (IsUnchanged (state S.Store new.old) (state S.Store new.new)) }
     ensures faults { IfErr result IsFault }
-    ensures healthy { (v : Vault) → AreSound (state S.Store new.old).now v → IfErr result (λ r. IsHealthy (state S.Store new.new) → r ≢ Refusal.Device) }
+    ensures healthy { (v : Vault) → AreSoundAs (edition_of external) (state S.Store new.old).now v → IfErr result (λ r. IsHealthy (state S.Store new.new) → r ≢ Refusal.Device) }
     ensures outside { OnErr result (HasCleanDisk (state S.Store new.new) → new.new.in_transaction ≡ false) }
     ensures crash { Survives (state S.Store new.old) (state S.Store new.new) (λ _. ⊥) }
 {
-    match audit(alloc, new, NEWEST) {
+    match audit(alloc, new, SchemaVersion::of(external)) {
         Ok(()) => Ok(()),
         Err(refusal) => {
             end_transaction(new);
@@ -162,12 +170,14 @@ fn copy_vault<O: Alter, S: Alter>(
     old: &mut Connection<O>,
     schema_version: SchemaVersion,
     new: &mut Connection<S>,
+    external: bool,
 ) -> Result<(), Refusal>
+    requires version { is_external schema_version ≡ false }
     requires old_outside { old.old.in_transaction ≡ false }
     requires outside { new.old.in_transaction ≡ false }
     ensures spelled { HasCleanDisk (state O.Store old.new) → OnOk result ((v : Vault) × AreSoundAs schema_version (state O.Store old.old).now v) }
     ensures copied { HasCleanDisk (state O.Store old.new) → HasCleanDisk (state S.Store new.new)
-        → OnOk result ((v : Vault) → AreSoundAs schema_version (state O.Store old.old).now v → AreSound (state S.Store new.new).now v) }
+        → OnOk result ((v : Vault) → AreSoundAs schema_version (state O.Store old.old).now v → AreSound (state S.Store new.new).now (registering external v)) }
     ensures sound { HasCleanDisk (state S.Store new.new) → OnOk result (IsSettled (state S.Store new.new)) }
     ensures settled { OnOk result (new.new.in_transaction ≡ false) }
     ensures alone { HasCleanDisk (state S.Store new.new) → OnOk result ((v : Vault) → AreSound (state S.Store new.new).now v → LeavesAlone (state S.Store new.new) v) }
@@ -177,23 +187,23 @@ fn copy_vault<O: Alter, S: Alter>(
     ensures taken { IfErr result (λ r. r ≡ Refusal.NameTaken → (state S.Store new.old).now.schema ≢ no_schema) }
     ensures named { (state S.Store new.old).now.schema ≢ no_schema → IfErr result (λ r. IsHealthy (state O.Store old.new) → r ≢ Refusal.Device) }
     ensures unsound { ((v : Vault) → ¬ AreSoundAs schema_version (state O.Store old.old).now v) → IfErr result (λ r. IsHealthy (state O.Store old.new) → r ≢ Refusal.Device) }
-    ensures refused { IfErr result (λ r. IsHealthy (state O.Store old.new) → IsHealthy (state S.Store new.new) → r ≡ Refusal.Device → RefusesItsRow schema_version (state O.Store old.old).now) }
+    ensures refused { IfErr result (λ r. IsHealthy (state O.Store old.new) → IsHealthy (state S.Store new.new) → r ≡ Refusal.Device → RefusesItsRow schema_version external (state O.Store old.old).now) }
     ensures outside { OnErr result (HasCleanDisk (state S.Store new.new) → new.new.in_transaction ≡ false) }
     ensures tables { OnErr result (HasCleanDisk (state S.Store new.new) → HasTablesOf (state S.Store new.old) (state S.Store new.new)) }
-    ensures crash { Survives (state S.Store new.old) (state S.Store new.new) (λ trees. HasCleanDisk (state O.Store old.new) → IsMigrated schema_version (state O.Store old.old).now trees) }
+    ensures crash { Survives (state S.Store new.old) (state S.Store new.new) (λ trees. HasCleanDisk (state O.Store old.new) → IsMigrated schema_version external (state O.Store old.old).now trees) }
     ensures old_outside { HasCleanDisk (state O.Store old.new) → old.new.in_transaction ≡ false }
     ensures old_tables { HasCleanDisk (state O.Store old.new) → HasTablesOf (state O.Store old.old) (state O.Store old.new) }
     ensures old_crash { Survives (state O.Store old.old) (state O.Store old.new) (λ _. ⊥) }
 {
     connection_is_at_rest(new);
-    match take_copy(alloc, old, schema_version, new) {
+    match take_copy(alloc, old, schema_version, new, external) {
         Ok(()) => {}
         Err(refusal) => {
             connection_is_at_rest(new);
             return Err(refusal);
         }
     }
-    match look_at_copy(alloc, new) {
+    match look_at_copy(alloc, new, external) {
         Ok(()) => {}
         Err(refusal) => {
             connection_is_at_rest(new);
@@ -211,7 +221,8 @@ fn copy_vault<O: Alter, S: Alter>(
 
 impl<S: Alter> SqlKeeper<S> {
     /// Copies the vault of a file of that schema version into an empty store, by one transaction, and looks at
-    /// the copy before it is committed. No table of the file is changed.
+    /// the copy before it is committed. The copy registers contents that are kept outside, or doesn't. No table of the
+    /// file is changed.
     ///
     /// `Damaged` with the first table of the file that isn't sound. `NameTaken` where the empty store has a
     /// table, an index or a view. `Memory` where a store wanted memory. `Device` where one refused for
@@ -222,11 +233,13 @@ impl<S: Alter> SqlKeeper<S> {
         old: &mut Connection<O>,
         schema_version: SchemaVersion,
         mut new: Connection<S>,
+        external: bool,
     ) -> Result<SqlKeeper<S>, (Refusal, Connection<S>)>
-        // The old tables spell a vault, and it is the keeper's,
+        requires { is_external schema_version ≡ false }
+        // The old tables spell a vault, and it is the keeper's but for what it registers,
         ensures spelled { IfOk result (λ k. HasCleanDisk (state O.Store old.new) → (v : Vault) × AreSoundAs schema_version (state O.Store old.old).now v) }
         ensures vault { IfOk result (λ k. HasCleanDisk (state O.Store old.new) → HasCleanDisk (state S.Store k.conn)
-            → (v : Vault) → AreSoundAs schema_version (state O.Store old.old).now v → vault_of S.Store k ≡ v) }
+            → (v : Vault) → AreSoundAs schema_version (state O.Store old.old).now v → vault_of S.Store k ≡ registering external v) }
         // as do the new tables.
         ensures sound { IfOk result (λ k. HasCleanDisk (state S.Store k.conn) → AreSound (state S.Store k.conn).now (vault_of S.Store k)) }
         // A crash leaves that vault after that, and nothing else.
@@ -245,16 +258,16 @@ impl<S: Alter> SqlKeeper<S> {
             → IfErr result (λ e. IsHealthy (state O.Store old.new) → e.0 ≢ Refusal.Device) }
         // Nor are stores that work, unless the tables of the copy refuse a row of the old vault.
         ensures healthy { old.old.in_transaction ≡ false → new.in_transaction ≡ false
-            → IfErr result (λ e. IsHealthy (state O.Store old.new) → IsHealthy (state S.Store e.1) → e.0 ≡ Refusal.Device → RefusesItsRow schema_version (state O.Store old.old).now) }
+            → IfErr result (λ e. IsHealthy (state O.Store old.new) → IsHealthy (state S.Store e.1) → e.0 ≡ Refusal.Device → RefusesItsRow schema_version external (state O.Store old.old).now) }
         // Inside a transaction it is refused, and that is left as it was; else none is open after it, and no table was changed.
         ensures inside { IsTrue new.in_transaction → IsErrAnd result (λ e. (e.0 ≡ Refusal.Device) × (e.1 ≡ new)) }
         ensures outside { new.in_transaction ≡ false → IfErr result (λ e. HasCleanDisk (state S.Store e.1) → e.1.in_transaction ≡ false) }
         ensures tables { new.in_transaction ≡ false → IfErr result (λ e. HasCleanDisk (state S.Store e.1) → HasTablesOf (state S.Store new) (state S.Store e.1)) }
         // A crash leaves what it could leave before, or the vault of the old tables, if these were read as they stand.
         ensures crash { IfOk result (λ k. Survives (state S.Store new) (state S.Store k.conn)
-            (λ trees. HasCleanDisk (state O.Store old.new) → IsMigrated schema_version (state O.Store old.old).now trees)) }
+            (λ trees. HasCleanDisk (state O.Store old.new) → IsMigrated schema_version external (state O.Store old.old).now trees)) }
         ensures harmless { IfErr result (λ e. Survives (state S.Store new) (state S.Store e.1)
-            (λ trees. HasCleanDisk (state O.Store old.new) → IsMigrated schema_version (state O.Store old.old).now trees)) }
+            (λ trees. HasCleanDisk (state O.Store old.new) → IsMigrated schema_version external (state O.Store old.old).now trees)) }
         // The same of the old connection, of which a crash leaves what it could leave before, and no more.
         ensures old_inside { IsTrue old.old.in_transaction → IsErrAnd result (λ e. (e.0 ≡ Refusal.Device) × (old.new ≡ old.old)) }
         ensures old_outside { old.old.in_transaction ≡ false → HasCleanDisk (state O.Store old.new) → old.new.in_transaction ≡ false }
@@ -264,7 +277,7 @@ impl<S: Alter> SqlKeeper<S> {
         if !old.is_autocommit() || !new.is_autocommit() {
             return Err((Refusal::Device, new));
         }
-        match copy_vault(alloc, old, schema_version, &mut new) {
+        match copy_vault(alloc, old, schema_version, &mut new, external) {
             Ok(()) => Ok(SqlKeeper::over(alloc, new)),
             Err(refusal) => Err((refusal, new)),
         }

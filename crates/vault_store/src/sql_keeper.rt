@@ -7,7 +7,7 @@ ghost use Rattle.vault_audit_model.specs.Tables.{no_schema};
 ghost use Rattle.vault_audit.specs.Health.{IsHealthy};
 ghost use Rattle.vault_audit.specs.Whole.{IsReported};
 ghost use Rattle.vault_store_create.specs.Create.{IsFault};
-ghost use Rattle.vault_core_model.specs.Vault.{Vault, opening};
+ghost use Rattle.vault_core_model.specs.Vault.{Vault, opening_of};
 ghost use Rattle.vault_core_model.specs.Allowed.{Allows};
 ghost use Rattle.vault_core_model.specs.Change.{changed};
 ghost use Rattle.vault_core_model.specs.Halts.{is_device_given};
@@ -20,7 +20,7 @@ ghost use Rattle.vault_store.specs.Left.{IsKept, LeavesOneOf};
 ghost use Rattle.vault_store.specs.Tables.{HasTablesOf};
 
 use crate::blame::Blamed;
-use crate::find::{find_bucket, find_held, find_meta, find_moves, find_sums};
+use crate::find::{find_bucket, find_external, find_held, find_meta, find_moves, find_sums};
 use crate::look::look;
 use crate::opening::{Opening, remember};
 use crate::shut::refuse_shut;
@@ -168,7 +168,8 @@ impl<S: Alter> SqlKeeper<S> {
         Ok(SqlKeeper::over(alloc, conn))
     }
 
-    /// Makes a new vault in an empty store: its tables, and the one caller `registrar`.
+    /// Makes a new vault in an empty store, which registers contents that are kept outside, or doesn't: its tables, and
+    /// the one caller `registrar`.
     ///
     /// `NameTaken` where the store has a table, an index or a view. `Memory` where the store wanted memory.
     /// `Device` where it refused for another cause, and inside a transaction, which is left as it was. The
@@ -176,11 +177,12 @@ impl<S: Alter> SqlKeeper<S> {
     pub fn create(
         alloc: Global,
         mut conn: Connection<S>,
+        external: bool,
     ) -> Result<SqlKeeper<S>, (Refusal, Connection<S>)>
-        ensures opening { IfOk result (λ k. HasCleanDisk (state S.Store k.conn) → vault_of S.Store k ≡ opening) }
-        ensures sound { IfOk result (λ k. HasCleanDisk (state S.Store k.conn) → AreSound (state S.Store k.conn).now opening) }
+        ensures opening { IfOk result (λ k. HasCleanDisk (state S.Store k.conn) → vault_of S.Store k ≡ opening_of external) }
+        ensures sound { IfOk result (λ k. HasCleanDisk (state S.Store k.conn) → AreSound (state S.Store k.conn).now (opening_of external)) }
         // A crash leaves a new vault after that, and nothing else.
-        ensures alone { IfOk result (λ k. HasCleanDisk (state S.Store k.conn) → LeavesAlone (state S.Store k.conn) opening) }
+        ensures alone { IfOk result (λ k. HasCleanDisk (state S.Store k.conn) → LeavesAlone (state S.Store k.conn) (opening_of external)) }
         ensures counted { IfOk result (λ k. k.blamed.faults ≡ 0) }
         // No change was refused yet.
         ensures fresh { IfOk result (λ k. k.refused.items ≡ []) }
@@ -190,14 +192,14 @@ impl<S: Alter> SqlKeeper<S> {
         // A store that works, outside a transaction, is never reported as one that failed.
         ensures healthy { conn.in_transaction ≡ false → IfErr result (λ e. IsHealthy (state S.Store e.1) → e.0 ≢ Refusal.Device) }
         // A crash leaves what it could leave before, or a new vault.
-        ensures crash { IfOk result (λ k. Survives (state S.Store conn) (state S.Store k.conn) (IsFoundIn opening)) }
-        ensures harmless { IfErr result (λ e. Survives (state S.Store conn) (state S.Store e.1) (IsFoundIn opening)) }
+        ensures crash { IfOk result (λ k. Survives (state S.Store conn) (state S.Store k.conn) (IsFoundIn (opening_of external))) }
+        ensures harmless { IfErr result (λ e. Survives (state S.Store conn) (state S.Store e.1) (IsFoundIn (opening_of external))) }
         // Inside a transaction it is refused, and that is left as it was; else none is open after it, and no table was changed.
         ensures inside { IsTrue conn.in_transaction → IsErrAnd result (λ e. (e.0 ≢ Refusal.Memory) × (e.1 ≡ conn)) }
         ensures outside { conn.in_transaction ≡ false → IfErr result (λ e. e.1.in_transaction ≡ false) }
         ensures tables { conn.in_transaction ≡ false → IfErr result (λ e. HasCleanDisk (state S.Store e.1) → HasTablesOf (state S.Store conn) (state S.Store e.1)) }
     {
-        match fill(&mut conn) {
+        match fill(&mut conn, external) {
             Ok(()) => Ok(SqlKeeper::over(alloc, conn)),
             Err(refusal) => Err((refusal, conn)),
         }
@@ -378,8 +380,10 @@ impl<S: Alter> Keeper for SqlKeeper<S> {
         ensures read { ReadsAs S.Store self.old self.new result }
     {
         self.check_open()?;
-        // Tables keep every content themselves.
-        Ok(false)
+        match find_external(&mut self.conn, &mut self.known) {
+            Ok(found) => Ok(found),
+            Err(error) => Err(self.blamed.blame(error)),
+        }
     }
 
     fn content(&mut self, id: VersionId) -> Result<Option<Content>, Fault>

@@ -1,5 +1,5 @@
 -- A committed edit that is the edit of a change makes that change.
-use Rattle.std.proofs.Common.{◌≡◌, ℕ, IsTrue, IsPermutation, Result, Ok, Err, OnOk, sym, subst, refl}
+use Rattle.std.proofs.Common.{◌≡◌, ℕ, Bool, IsTrue, IsPermutation, Result, Ok, Err, OnOk, sym, subst, refl}
 use Rattle.sqlite_trees.specs.Tree.{Trees}
 use Rattle.sqlite.specs.Effect.{Database, IsDatabase}
 use Rattle.sqlite.specs.State.{State, Survives}
@@ -22,32 +22,32 @@ edited : (from : Rows) (to : Rows) (edit : Rows → Rows) (v : Vault) (t : ℕ) 
 edited from to edit v t c is rows u = subst (λ l. IsPermutation l (to u)) (is from u) (rows u)
 
 -- the vault of sound tables is found again in their trees
-pub found_again : (db : Database) (v : Vault) (trees : Trees) → db.schema ≡ vault_schema → AreSound db v → IsDatabase db → trees ≡ db.trees → IsFoundIn v trees
+pub found_again : (db : Database) (v : Vault) (trees : Trees) → db.schema ≡ vault_schema v.external → AreSound db v → IsDatabase db → trees ≡ db.trees → IsFoundIn v trees
 found_again db v trees schema sound listed same = subst (IsFoundIn v) (sym same) (record {
   spelled = subst (λ s. AreSound (record { schema = s; trees = db.trees }) v) schema sound;
   listed = subst (λ s. IsDatabase (record { schema = s; trees = db.trees })) schema listed;
 })
 
-pub commits_change : (old new : State) (t : ℕ) (edit : Rows → Rows) → IsTrue old.is_open → (old.now.schema ≡ vault_schema → Commits old new edit)
+pub commits_change : (old new : State) (t : ℕ) (edit : Rows → Rows) → IsTrue old.is_open → ((external : Bool) → old.now.schema ≡ vault_schema external → Commits external old new edit)
     → ((trees : Trees) → new.may_leave trees → trees ≡ new.now.trees) → ChangesBy old new t edit
 commits_change old new t edit was_open commits alone v c low given was later allowed is =
     let kept = was was_open in
     let schema = kept.0.spells.schema in
-    let did = commits schema in
+    let did = commits v.external schema in
     let has = (sound_is_rows old.now v).0 kept.0 in
-    let stated = rows_stated old.now new.now v t c has later low allowed given (did.schema schema) (edited (rows_in old.now) (rows_in new.now) edit v t c (is was_open) (did.rows schema)) in
+    let stated = rows_stated old.now new.now v t c has later low allowed given (did.schema schema) (edited (rows_in v.external old.now) (rows_in v.external new.now) edit v t c (is was_open) (did.rows schema)) in
     let sound = (sound_is_rows new.now (changed v t c)).1 stated in
-    (λ is_open. (sound, did.committed), λ trees may. found_again new.now (changed v t c) trees (did.schema schema) sound (did.listed schema) (alone trees may))
+    (λ is_open. (sound, did.committed), λ trees may. found_again new.now (changed v t c) trees stated.schema sound (did.listed schema) (alone trees may))
 
-pub may_commit_change : (old : State) (t : ℕ) (edit : Rows → Rows) (trees : Trees) → IsTrue old.is_open → (old.now.schema ≡ vault_schema → MayCommit old edit trees) → AreChangedBy old t edit trees
+pub may_commit_change : (old : State) (t : ℕ) (edit : Rows → Rows) (trees : Trees) → IsTrue old.is_open → ((external : Bool) → old.now.schema ≡ vault_schema external → MayCommit external old edit trees) → AreChangedBy old t edit trees
 may_commit_change old t edit trees was_open commits v c low given was later allowed is =
     let kept = was was_open in
     let schema = kept.0.spells.schema in
-    let did = commits schema in
+    let did = commits v.external schema in
     let has = (sound_is_rows old.now v).0 kept.0 in
-    let db : Database = record { schema = vault_schema; trees = trees } in
-    let stated = rows_stated old.now db v t c has later low allowed given refl (edited (rows_in old.now) (rows_in db) edit v t c (is was_open) (did.rows schema)) in
-    record { spelled = (sound_is_rows db (changed v t c)).1 stated; listed = did.listed schema }
+    let db : Database = record { schema = vault_schema v.external; trees = trees } in
+    let stated = rows_stated old.now db v t c has later low allowed given refl (edited (rows_in v.external old.now) (rows_in v.external db) edit v t c (is was_open) (did.rows schema)) in
+    found_again db (changed v t c) trees stated.schema ((sound_is_rows db (changed v t c)).1 stated) (did.listed schema) refl
 
 pub on_ok_all : {A E : Type 0} {P Q R T : Type 0} (U : Type 0) (r : Result A E) → OnOk r P → OnOk r Q → OnOk r R → OnOk r T → (P → Q → R → T → U) → OnOk r U
 on_ok_all U (Ok a) p q s t f = f p q s t

@@ -5,7 +5,6 @@ use Rattle.std.specs.List.{AllByRecursion}
 use Rattle.vault_base.specs.Days.{last_moment}
 use Rattle.vault_base.specs.declared.content.Content.{Content}
 use Rattle.vault_base.specs.declared.content.Content.TheVariants.{Inside, External}
-use Rattle.vault_base.specs.Limits.{most_content}
 use Rattle.vault_base.specs.Name.{is_version_id}
 use Rattle.vault_lock.specs.Retention.{is_period}
 use Rattle.vault_lock.specs.declared.retention.Default.{Default}
@@ -23,7 +22,7 @@ use Rattle.vault_core_model.specs.Allowed.{IsAdmission, IsFirstNote, IsNextSetti
 use Rattle.vault_core_model.specs.Allowed as allowed
 use Rattle.vault_core_model.specs.Checks.{has_period}
 use Rattle.vault_core_model.specs.IntakeOutcome.{is_line}
-use Rattle.vault_core_model.specs.Sound.{HasItsContent, HasRoom, IsWholeAs, IsNoted}
+use Rattle.vault_core_model.specs.Sound.{HasItsContent, HasRoom, IsWholeAs, IsNoted, most_bytes}
 use Rattle.vault_core_model.specs.Vault.{Vault}
 use Rattle.vault_audit_model.specs.Limits.{IsBucketName, IsObjectKey, IsRule, AreRules, IsCause, IsSizedAs, IsEntry, IsSetting, IsNote, IsRemoval}
 use Rattle.vault_store_model.specs.Limits.{IsChangeInLimits}
@@ -38,16 +37,18 @@ has_digest None (Some content) e h = subst (λ d. IsSome d) (sym h.1) refl
 has_digest (Some r) None e h = h
 has_digest (Some r) (Some content) e h = absurd h
 
--- a size in a vault that keeps every content itself
-inside_sized : (c : Option Content) (size : ℕ) → HasRoom false c size → size ≤ most_content
-inside_sized None size room = room.0
-inside_sized (Some (Inside bytes)) size room = room.0
-inside_sized (Some (External r)) size room = absurd (let no : false ≡ true = room.1 in cc)
+-- a size in its limit, with the content or without it
+size_in : (external : Bool) (c : Option Content) (size : ℕ) → HasRoom external c size → size ≤ most_bytes external None
+size_in external None size room = room.0
+size_in true (Some (Inside bytes)) size room = omega (arith, room.0)
+size_in true (Some (External r)) size room = room.0
+size_in false (Some (Inside bytes)) size room = room.0
+size_in false (Some (External r)) size room = absurd (cc room.1)
 
-sized : (m : Bool) (e : Entry) (d : Option (List ℕ)) → e.digest ≡ d → (c : Option Content) (ss : List Setting) → IsWholeAs m false e c ss → IfSome d (λ x. length x ≡ 32) → IsSizedAs m e.size d
-sized true e d same c ss whole long = (whole.0, sym same ∙ whole.1)
-sized false e None same c ss whole long = absurd (let some = subst (λ d. IsSome d) same (has_digest e.removal c e whole.1) in cc)
-sized false e (Some x) same c ss whole long = (inside_sized c e.size whole.0, long)
+sized : (m external : Bool) (e : Entry) (d : Option (List ℕ)) → e.digest ≡ d → (c : Option Content) (ss : List Setting) → IsWholeAs m external e c ss → IfSome d (λ x. length x ≡ 32) → IsSizedAs m external e.size d
+sized true external e d same c ss whole long = (whole.0, sym same ∙ whole.1)
+sized false external e None same c ss whole long = absurd (let some = subst (λ d. IsSome d) same (has_digest e.removal c e whole.1) in cc)
+sized false external e (Some x) same c ss whole long = (size_in external c e.size whole.0, long)
 
 removed : (r : Option Removal) → r ≡ None → IfSome r IsRemoval
 removed None e = tt
@@ -62,38 +63,38 @@ settings_in false t [] low first typed = absurd first
 settings_in false t (s ∷ []) low first typed = (setting_in t s low first.0 typed, tt)
 settings_in false t (s ∷ r ∷ rs) low first typed = absurd first
 
-note_sized : (m : Bool) (size : ℕ) (d : Option (List ℕ)) (digest : List ℕ) → IsSizedAs m size d → d ≡ Some digest → (size ≤ most_content) × (length digest ≡ 32)
-note_sized true size d digest is same = absurd (let none : None ≡ Some digest = sym is.1 ∙ same in cc)
-note_sized false size None digest is same = absurd is
-note_sized false size (Some d) digest is same = (is.0, (let one : d ≡ digest = cc in subst (λ (x : List ℕ). length x ≡ 32) one is.1))
+note_sized : (m external : Bool) (size : ℕ) (d : Option (List ℕ)) (digest : List ℕ) → IsSizedAs m external size d → d ≡ Some digest → (size ≤ most_bytes external None) × (length digest ≡ 32)
+note_sized true external size d digest is same = absurd (let none : None ≡ Some digest = sym is.1 ∙ same in cc)
+note_sized false external size None digest is same = absurd is
+note_sized false external size (Some d) digest is same = (is.0, (let one : d ≡ digest = cc in subst (λ (x : List ℕ). length x ≡ 32) one is.1))
 
 line_in : (n : ℕ) → IsTrue (is_line n) → (1 ≤ n) × (n ≤ 4294967295)
 line_in n is = (grind (arith, is), grind (arith, is))
 
-note_in : (v : Vault) (e : Entry) (note : Option Note) → IsEntry e → IsFirstNote v e note → IfSome note IsTypedNote → IfSome note IsNote
+note_in : (v : Vault) (e : Entry) (note : Option Note) → IsEntry v.external e → IsFirstNote v e note → IfSome note IsTypedNote → IfSome note (IsNote v.external)
 note_in v e None entry first typed = tt
 note_in v e (Some n) entry first typed =
     let noted : IsNoted n (Some e) = first.3 in
-    let of = note_sized e.marker e.size e.digest n.digest entry.sized noted.3 in
+    let of = note_sized e.marker v.external e.size e.digest n.digest entry.sized noted.3 in
     record {
       bucket = subst IsBucketName noted.0 entry.bucket;
       batch = typed.batch;
       line = line_in n.line first.1;
       key = subst IsObjectKey noted.1 entry.key;
-      size = subst (λ (size : ℕ). size ≤ most_content) noted.2 of.0;
+      size = subst (λ (size : ℕ). size ≤ most_bytes v.external None) noted.2 of.0;
       digest = of.1;
       retention = typed.retention;
       id = subst (λ (id : ℕ). IsTrue (is_version_id id)) (sym first.2) entry.id;
     }
 
-pub admission_in_limits : (v : Vault) (t : ℕ) (a : Admission) → v.external ≡ false → t ≤ last_moment → IsAdmission v t a → IsTypedAdmission a → IsChangeInLimits (change.Admit a)
-admission_in_limits v t a inside low may typed =
+pub admission_in_limits : (v : Vault) (t : ℕ) (a : Admission) → t ≤ last_moment → IsAdmission v t a → IsTypedAdmission a → IsChangeInLimits v.external (change.Admit a)
+admission_in_limits v t a low may typed =
     let e = a.history.entry in
-    let entry : IsEntry e = record {
+    let entry : IsEntry v.external e = record {
       id = typed.entry.id;
       bucket = typed.entry.bucket;
       key = typed.entry.key;
-      sized = sized e.marker e e.digest refl a.history.content a.history.settings (subst (λ external. IsWholeAs e.marker external e a.history.content a.history.settings) inside may.whole) typed.entry.digest;
+      sized = sized e.marker v.external e e.digest refl a.history.content a.history.settings may.whole typed.entry.digest;
       admitted = subst (λ n. n ≤ last_moment) (sym may.now) low;
       by = typed.entry.by;
       removal = removed e.removal may.held;
@@ -102,10 +103,10 @@ admission_in_limits v t a inside low may typed =
 
 -- ---- a setting, a removal, a default
 
-pub setting_in_limits : (v : Vault) (t id : ℕ) (s : Setting) → t ≤ last_moment → IsNextSetting v t id s → IsTypedSetting s → IsChangeInLimits (change.AddSetting id s)
+pub setting_in_limits : (v : Vault) (t id : ℕ) (s : Setting) → t ≤ last_moment → IsNextSetting v t id s → IsTypedSetting s → IsChangeInLimits v.external (change.AddSetting id s)
 setting_in_limits v t id s low may typed = setting_in t s low may.now typed
 
-pub removal_in_limits : (v : Vault) (t id : ℕ) (r : Removal) → t ≤ last_moment → allowed.IsRemoval v t id r → IsCause r.cause → IsChangeInLimits (change.Remove id r)
+pub removal_in_limits : (v : Vault) (t id : ℕ) (r : Removal) → t ≤ last_moment → allowed.IsRemoval v t id r → IsCause r.cause → IsChangeInLimits v.external (change.Remove id r)
 removal_in_limits v t id r low may cause = record { at = subst (λ n. n ≤ last_moment) (sym may.now) low; cause = cause }
 
 pub default_in_limits : (o : Option Default) → IsTrue (has_period o) → IfSome o (λ d. IsTrue (is_period d.period))

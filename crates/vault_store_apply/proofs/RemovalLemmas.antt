@@ -33,7 +33,7 @@ use Rattle.vault_store_model.proofs.SumLemmas.{sums_removed, entry_same}
 use Rattle.vault_store_model.proofs.ChangeLemmas.{is_held_there}
 use Rattle.vault_store_model.proofs.HeadAfterRemovalLemmas.{count_removed}
 use Rattle.vault_store_reads.specs.Shown.{newest_but}
-use Rattle.vault_store_apply.specs.EntryParts.{entry_removed, left_rows}
+use Rattle.vault_store_apply.specs.EntryParts.{content_dropped, entry_removed, left_rows}
 use Rattle.vault_store_apply.specs.Applies.{IsEditOf}
 use Rattle.vault_store_apply.specs.Heads.{head_without, holds_no_other}
 use Rattle.vault_store_apply.proofs.AdmissionLemmas.{summed_same}
@@ -106,7 +106,7 @@ rows_left bucket key old (Some new) rows = refl
 module _ (v : Vault) (t id : ℕ) (r : Removal) (e : Entry) (config : BucketConfig) (row sums : Sums) (head left : Option Head) (newest : Option ℕ) (since : ℕ) (sound : Sound v) (later : v.last ≤ t) (low : t ≤ last_moment)
     (is : IsRemoval v t id r) (there : entry_of v id ≡ Some e) (placed : Some config ≡ config_of v e.bucket) (stated : IsRowOf row (items_of v config.dept))
     (since_is : since ≡ unwrap_or (option_map (λ (x : Tenure). x.from) (last_tenure_of v id)) e.admitted) (counted : CountsOut row e.size (day since) (day t) sums) (headed_is : head ≡ head_of v e.bucket e.key) (newest_is : newest ≡ newest_but v e.bucket e.key id)
-    (left_is : left ≡ head_without newest head) where
+    (left_is : left ≡ head_without newest head) (external : Bool) (external_is : external ≡ v.external) where
   abbrev after : Vault
   after = changed v t (change.Remove id r)
 
@@ -126,10 +126,11 @@ module _ (v : Vault) (t id : ℕ) (r : Removal) (e : Entry) (config : BucketConf
       ap (λ (o : Option Head). left_rows e.bucket e.key o rows) same ∙ rows_left e.bucket e.key old.0 others rows
       ∙ ap (λ (o : Option Head). headed e.bucket e.key o others rows) (sym old.1)
 
-  edits_of_entry : (xs : Rows) (u : Table) → entry_removed e id r left config.dept sums t xs u ≡ and_then (without_entry v after id r (Some e)) (at_moment t) xs u
+  edits_of_entry : (xs : Rows) (u : Table) → entry_removed v.external e id r left config.dept sums t xs u ≡ and_then (without_entry v after id r (Some e)) (at_moment t) xs u
   edits_of_entry xs table.Meta = refl
   edits_of_entry xs table.Departments =
-      summed_same after e.marker config sums removed_sums (xs table.Departments) ∙ ap (λ (o : Option BucketConfig). summed after e.marker o (xs table.Departments)) placed
+      let rows = content_dropped v.external id r xs table.Departments in
+      summed_same after e.marker config sums removed_sums rows ∙ ap (λ (o : Option BucketConfig). summed after e.marker o rows) placed
   edits_of_entry xs table.Callers = refl
   edits_of_entry xs table.Buckets = refl
   edits_of_entry xs table.Rules = refl
@@ -137,8 +138,11 @@ module _ (v : Vault) (t id : ℕ) (r : Removal) (e : Entry) (config : BucketConf
   edits_of_entry xs table.Contents = refl
   edits_of_entry xs table.Settings = refl
   edits_of_entry xs table.Intake = refl
-  edits_of_entry xs table.Heads = heads_left (xs table.Heads)
+  edits_of_entry xs table.Heads = heads_left (content_dropped v.external id r xs table.Heads)
   edits_of_entry xs table.Tenures = refl
+  edits_of_entry xs table.External = refl
 
-  pub edits_removal : IsEditOf (entry_removed e id r left config.dept sums t) v t (change.Remove id r)
-  edits_removal xs u = edits_of_entry xs u ∙ ap (λ (o : Option Entry). and_then (without_entry v after id r o) (at_moment t) xs u) (sym there)
+  pub edits_removal : IsEditOf (entry_removed external e id r left config.dept sums t) v t (change.Remove id r)
+  edits_removal xs u =
+      ap (λ b. entry_removed b e id r left config.dept sums t xs u) external_is
+      ∙ edits_of_entry xs u ∙ ap (λ (o : Option Entry). and_then (without_entry v after id r o) (at_moment t) xs u) (sym there)

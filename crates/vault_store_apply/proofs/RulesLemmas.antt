@@ -27,3 +27,4 @@ edits_rules v t name given rules same xs table.Settings = refl
 edits_rules v t name given rules same xs table.Intake = refl
 edits_rules v t name given rules same xs table.Heads = refl
 edits_rules v t name given rules same xs table.Tenures = refl
+edits_rules v t name given rules same xs table.External = refl

@@ -30,10 +30,10 @@ AreChanged old t c trees = (v : Vault) → Keeps old v → v.last ≤ t → Allo
 
 -- the same of every change that the edit is, where that and its moment are in their limits
 abbrev pub ChangesBy : State → State → ℕ → (Rows → Rows) → Type 0
-ChangesBy old new t edit = (v : Vault) (c : Change) → t ≤ last_moment → IsChangeInLimits c → Keeps old v → v.last ≤ t → Allows v t c → (IsTrue old.is_open → IsEditOf edit v t c) → Keeps new (changed v t c) × LeavesAlone new (changed v t c)
+ChangesBy old new t edit = (v : Vault) (c : Change) → t ≤ last_moment → IsChangeInLimits v.external c → Keeps old v → v.last ≤ t → Allows v t c → (IsTrue old.is_open → IsEditOf edit v t c) → Keeps new (changed v t c) × LeavesAlone new (changed v t c)
 
 abbrev pub AreChangedBy : State → ℕ → (Rows → Rows) → Trees → Type 0
-AreChangedBy old t edit trees = (v : Vault) (c : Change) → t ≤ last_moment → IsChangeInLimits c → Keeps old v → v.last ≤ t → Allows v t c → (IsTrue old.is_open → IsEditOf edit v t c) → IsFoundIn (changed v t c) trees
+AreChangedBy old t edit trees = (v : Vault) (c : Change) → t ≤ last_moment → IsChangeInLimits v.external c → Keeps old v → v.last ≤ t → Allows v t c → (IsTrue old.is_open → IsEditOf edit v t c) → IsFoundIn (changed v t c) trees
 
 -- where the connection was open, this vault is found in these trees, with the change
 abbrev pub IsChanged : State → Vault → ℕ → Change → Trees → Type 0

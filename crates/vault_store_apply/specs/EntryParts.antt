@@ -11,10 +11,10 @@ use Rattle.vault_core_model.specs.declared.records.Removal.{Removal}
 use Rattle.vault_core_model.specs.declared.records.Setting.{Setting}
 use Rattle.vault_core_model.specs.declared.records.Tenure.{Tenure}
 use Rattle.vault_core_model.specs.declared.change.Admission.{Admission}
-use Rattle.vault_audit_model.specs.Rows.{entry_row, content_row, setting_row, note_row, tenure_row}
-use Rattle.vault_audit_model.specs.Spells.{contents_in}
+use Rattle.vault_audit_model.specs.Rows.{entry_row, content_row, external_row, setting_row, note_row, tenure_row}
+use Rattle.vault_audit_model.specs.Spells.{contents_in, external_in}
 use Rattle.vault_store_model.specs.Rows.{Rows}
-use Rattle.vault_store_model.specs.Edits.{with_rows, with_row, changed_if, with_changed, without, and_then, with_each, at_moment}
+use Rattle.vault_store_model.specs.Edits.{with_rows, with_row, changed_if, with_changed, without, made_if, and_then, with_each, at_moment}
 use Rattle.vault_store_model.specs.Tests.{is_named, is_numbered, is_of_key, every, with_last_and_next, with_sums, removed_row, with_head_columns}
 use Rattle.vault_store_model.specs.Changes.{with_row_if_given, with_head}
 
@@ -53,13 +53,14 @@ summed_as false dept sums rows = map (changed_if (is_named dept) (with_sums sums
 abbrev pub with_sums_as : Bool → List ℕ → Sums → Rows → Rows
 with_sums_as marker dept sums = with_rows table.Departments (summed_as marker dept sums)
 
--- an entry with its bytes, its first setting and its first tenure
+-- an entry with its content, its first setting and its first tenure
 abbrev pub history_put : History → Rows → Rows
 history_put h =
     and_then (with_row table.Entries (entry_row h.entry))
     (and_then (with_each table.Contents (map content_row (contents_in h)))
+    (and_then (with_each table.External (map external_row (external_in h)))
     (and_then (with_first_setting h.entry.id h.settings)
-    (with_first_tenure h.entry.id h.tenures)))
+    (with_first_tenure h.entry.id h.tenures))))
 
 abbrev pub noted_and_summed : Option Note → Bool → List ℕ → Sums → Rows → Rows
 noted_and_summed note marker dept sums = and_then (with_row_if_given table.Intake note_row note) (with_sums_as marker dept sums)
@@ -71,12 +72,16 @@ entry_added a old newest dept sums t next =
     (and_then (noted_and_summed a.note a.history.entry.marker dept sums)
     (with_changed table.Meta every (with_last_and_next t next))))
 
-abbrev pub bytes_dropped : ℕ → Removal → Rows → Rows
-bytes_dropped id r = and_then (with_changed table.Entries (is_numbered id) (removed_row r)) (without table.Contents (is_numbered id))
+-- an entry removed with its content, from a vault that registers contents which are kept outside, or doesn't
+abbrev pub content_dropped : Bool → ℕ → Removal → Rows → Rows
+content_dropped external id r =
+    and_then (with_changed table.Entries (is_numbered id) (removed_row r))
+    (and_then (without table.Contents (is_numbered id))
+    (made_if external (without table.External (is_numbered id))))
 
-abbrev pub entry_removed : Entry → ℕ → Removal → Option Head → List ℕ → Sums → ℕ → Rows → Rows
-entry_removed e id r left dept sums t =
-    and_then (bytes_dropped id r)
+abbrev pub entry_removed : Bool → Entry → ℕ → Removal → Option Head → List ℕ → Sums → ℕ → Rows → Rows
+entry_removed external e id r left dept sums t =
+    and_then (content_dropped external id r)
     (and_then (with_sums_as e.marker dept sums)
     (and_then (with_left_head e.bucket e.key left)
     (at_moment t)))

@@ -8,10 +8,10 @@ use Rattle.vault_core_model.specs.Vault.{Vault}
 use Rattle.vault_audit_model.specs.Tables.{vault_schema}
 use Rattle.vault_store_model.specs.Keeping.{AreTreesOf}
 
--- The next opening finds this vault in these trees: they list the schema of every vault, and no other, and the tables spell it soundly.
+-- The next opening finds this vault in these trees: they list the schema of such a vault, and no other, and the tables spell it soundly.
 pub record IsFoundIn (v : Vault) (trees : Trees) : Type 0 where
   pub spelled : AreTreesOf v trees
-  pub listed : IsDatabase (record { schema = vault_schema; trees = trees })
+  pub listed : IsDatabase (record { schema = vault_schema v.external; trees = trees })
 
 -- a crash at this moment leaves this vault, and nothing else
 abbrev pub LeavesAlone : State → Vault → Type 0

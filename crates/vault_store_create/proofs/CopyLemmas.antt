@@ -1,5 +1,5 @@
 -- Rows that are put into a table one after another, and tables one after another.
-use Rattle.std.proofs.Common.{◌≡◌, ◌⊎◌, inl, inr, ◌==◌, ◌+◌, ◌<◌, ◌≤◌, ℕ, nat_lt, List, [], ◌∷◌, ◌++◌, length, map, true, false, cond, lit≤, append-nil, Result, OnOk, IfErr, IsTrue, refl, sym, subst, ◌∙◌, arith}
+use Rattle.std.proofs.Common.{◌≡◌, ◌⊎◌, inl, inr, ◌==◌, ◌+◌, ◌<◌, ◌≤◌, ℕ, nat_lt, Bool, List, [], ◌∷◌, ◌++◌, length, map, true, false, cond, lit≤, append-nil, Result, OnOk, IfErr, IsTrue, refl, sym, subst, ◌∙◌, arith}
 use Rattle.std.specs.Prelude.{IsPermutation}
 use Rattle.std.specs.List.{AllByRecursion}
 use Rattle.std.proofs.lemmas.Bool.{cases_Bool}
@@ -12,11 +12,13 @@ use Rattle.sqlite.specs.declared.error.Error.{Error}
 use Rattle.sqlite.specs.State.{State, HasCleanDisk, IsUnchanged, Survives}
 use Rattle.vault_base.specs.declared.refusal.Table.{Table}
 use Rattle.vault_base.specs.declared.refusal.Table.TheVariants as table
+use Rattle.vault_core_model.specs.declared.records.History.{History}
 use Rattle.vault_core_model.specs.Vault.{Vault}
 use Rattle.vault_audit_model.specs.declared.schema.SchemaVersion.{SchemaVersion}
+use Rattle.vault_audit_model.specs.SchemaVersions.{edition_of}
 use Rattle.vault_audit_model.specs.Order.{place_of}
-use Rattle.vault_audit_model.specs.Rows.{department_row, caller_row, bucket_row, rule_row, entry_row, content_row, setting_row, note_row, head_row, tenure_row}
-use Rattle.vault_audit_model.specs.Spells.{AreSoundAs, meta_of, department_in, bucket_of, heads_in}
+use Rattle.vault_audit_model.specs.Rows.{department_row, caller_row, bucket_row, rule_row, entry_row, content_row, setting_row, note_row, head_row, tenure_row, external_row}
+use Rattle.vault_audit_model.specs.Spells.{AreSoundAs, meta_of, department_in, bucket_of, heads_in, external_rows_of}
 use Rattle.vault_audit_model.specs.Tables.{vault_schema}
 use Rattle.vault_audit_model.proofs.OutcomeLemmas.{on_ok_then}
 use Rattle.vault_audit_model.proofs.PlaceLemmas.{one_table}
@@ -24,7 +26,7 @@ use Rattle.vault_audit_rows.specs.Walk.{Goes}
 use Rattle.vault_store_create.specs.Create.{Moves}
 use Rattle.vault_store_model.specs.Edits.{with_row}
 use Rattle.vault_store_model.specs.Rows.{Rows, AreSameRows, rows_in, rows_of}
-use Rattle.vault_store_create.specs.Copied.{PutsRow, HasFirstRows, HasCopied, FailsForARow, IsRefusedFor, first_rows}
+use Rattle.vault_store_create.specs.Copied.{PutsRow, HasFirstRows, HasCopied, FailsForARow, IsRefusedFor, first_rows, registering}
 use Rattle.vault_store_create.specs.RowsOf.{IsOf, IsRowOf}
 
 -- ---- the rows of a vault state records
@@ -32,6 +34,10 @@ use Rattle.vault_store_create.specs.RowsOf.{IsOf, IsRowOf}
 all_of : {A X : Type 0} (row_of : X → Row) (f : A → X) (xs : List A) → AllByRecursion (IsOf row_of) (map (λ a. row_of (f a)) xs)
 all_of row_of f [] = tt
 all_of row_of f (x ∷ xs) = ((f x, refl), all_of row_of f xs)
+
+external_stated : (external : Bool) (hs : List History) → AllByRecursion (IsOf external_row) (external_rows_of (edition_of external) hs)
+external_stated false hs = tt
+external_stated true hs = all_of external_row (λ id. id) _
 
 all_stated : (v : Vault) (t : Table) → AllByRecursion (IsRowOf t) (rows_of v t)
 all_stated v table.Meta = ((meta_of v, refl), tt)
@@ -45,6 +51,7 @@ all_stated v table.Settings = all_of setting_row (λ s. s) _
 all_stated v table.Intake = all_of note_row (λ n. n) v.notes
 all_stated v table.Heads = all_of head_row (λ h. h) (heads_in v)
 all_stated v table.Tenures = all_of tenure_row (λ t. t) _
+all_stated v table.External = external_stated v.external v.histories
 
 -- in any order
 pub rows_stated : (v : Vault) (t : Table) (rows : List Row) → IsPermutation (rows_of v t) rows → AllByRecursion (IsRowOf t) rows
@@ -53,12 +60,12 @@ rows_stated v t rows same =
 
 -- ---- one row after the other
 
-module _ (t : Table) where
+module _ (external : Bool) (t : Table) where
   -- the rows are added to those of this table, and the others have theirs
   pub record Adds (rows : List Row) (x y : Database) : Type 0 where
-    pub schema : y.schema ≡ vault_schema
-    pub here : IsPermutation (rows ++ rows_in x t) (rows_in y t)
-    pub beside : (s : Table) → (place_of t == place_of s) ≡ false → IsPermutation (rows_in x s) (rows_in y s)
+    pub schema : y.schema ≡ vault_schema external
+    pub here : IsPermutation (rows ++ rows_in external x t) (rows_in external y t)
+    pub beside : (s : Table) → (place_of t == place_of s) ≡ false → IsPermutation (rows_in external x s) (rows_in external y s)
     pub listed : (IsDatabase x ⊎ (1 ≤ length rows)) → IsDatabase y
 
   own_number : (place_of t == place_of t) ≡ true
@@ -70,12 +77,12 @@ module _ (t : Table) where
   row_beside : (r : Row) (xs ys : Rows) (s : Table) → (place_of t == place_of s) ≡ false → AreSameRows (with_row t r xs) ys → IsPermutation (xs s) (ys s)
   row_beside r xs ys s other same = subst (λ b. IsPermutation (cond b (r ∷ xs s) (xs s)) (ys s)) other (same s)
 
-  pub adds : (rows : List Row) (x y : Database) → AllByRecursion (IsRowOf t) rows → Goes (λ a row b. PutsRow t row a b) x rows y → x.schema ≡ vault_schema → Adds rows x y
+  pub adds : (rows : List Row) (x y : Database) → AllByRecursion (IsRowOf t) rows → Goes (λ a row b. PutsRow external t row a b) x rows y → x.schema ≡ vault_schema external → Adds rows x y
   adds [] x y all same has =
       subst (Adds [] x) same (record {
         schema = has;
-        here = IsPermutation-refl (rows_in x t);
-        beside = λ s other. IsPermutation-refl (rows_in x s);
+        here = IsPermutation-refl (rows_in external x t);
+        beside = λ s other. IsPermutation-refl (rows_in external x s);
         listed = λ h. elim h [ inl is ↦ is | inr some ↦ absurd (omega (arith, some)) ];
       })
   adds (r ∷ rows) x y all gone has =
@@ -83,9 +90,9 @@ module _ (t : Table) where
       let more = adds rows gone.0 y all.1 gone.2 put.schema in
       record {
         schema = more.schema;
-        here = IsPermutation-trans _ _ _ (IsPermutation-sym _ _ (IsPermutation-middle rows r (rows_in x t)))
-            (IsPermutation-trans _ _ _ (IsPermutation-append_right rows _ _ (row_here r (rows_in x) (rows_in gone.0) put.rows)) more.here);
-        beside = λ s other. IsPermutation-trans _ _ _ (row_beside r (rows_in x) (rows_in gone.0) s other put.rows) (more.beside s other);
+        here = IsPermutation-trans _ _ _ (IsPermutation-sym _ _ (IsPermutation-middle rows r (rows_in external x t)))
+            (IsPermutation-trans _ _ _ (IsPermutation-append_right rows _ _ (row_here r (rows_in external x) (rows_in external gone.0) put.rows)) more.here);
+        beside = λ s other. IsPermutation-trans _ _ _ (row_beside r (rows_in external x) (rows_in external gone.0) s other put.rows) (more.beside s other);
         listed = λ h. more.listed (inl put.listed);
       }
 
@@ -131,21 +138,22 @@ not_alone v table.Settings = inl (lit≤ tt)
 not_alone v table.Intake = inl (lit≤ tt)
 not_alone v table.Heads = inl (lit≤ tt)
 not_alone v table.Tenures = inl (lit≤ tt)
+not_alone v table.External = inl (lit≤ tt)
 
-module _ (v : Vault) (t : Table) (rows : List Row) (x y : Database) (was : HasFirstRows v (place_of t) x) (shown : IsPermutation (rows_of v t) rows) (added : Adds t rows x y) where
-  here_more : IsPermutation (first_rows v (place_of t + 1) t) (rows_in y t)
+module _ (v : Vault) (t : Table) (rows : List Row) (x y : Database) (was : HasFirstRows v (place_of t) x) (shown : IsPermutation (rows_of v t) rows) (added : Adds v.external t rows x y) where
+  here_more : IsPermutation (first_rows v (place_of t + 1) t) (rows_in v.external y t)
   here_more =
-      let none : IsPermutation [] (rows_in x t) = subst (λ b. IsPermutation (cond b (rows_of v t) []) (rows_in x t)) (not_below (place_of t)) (was.rows t) in
-      let put : IsPermutation rows (rows_in y t) = subst (λ rs. IsPermutation rs (rows_in y t)) (append-nil rows) (IsPermutation-trans _ _ _ (IsPermutation-append_right rows _ _ none) added.here) in
-      subst (λ b. IsPermutation (cond b (rows_of v t) []) (rows_in y t)) (sym (below_more (place_of t))) (IsPermutation-trans _ _ _ shown put)
+      let none : IsPermutation [] (rows_in v.external x t) = subst (λ b. IsPermutation (cond b (rows_of v t) []) (rows_in v.external x t)) (not_below (place_of t)) (was.rows t) in
+      let put : IsPermutation rows (rows_in v.external y t) = subst (λ rs. IsPermutation rs (rows_in v.external y t)) (append-nil rows) (IsPermutation-trans _ _ _ (IsPermutation-append_right rows _ _ none) added.here) in
+      subst (λ b. IsPermutation (cond b (rows_of v t) []) (rows_in v.external y t)) (sym (below_more (place_of t))) (IsPermutation-trans _ _ _ shown put)
 
-  rows_more : AreSameRows (first_rows v (place_of t + 1)) (rows_in y)
+  rows_more : AreSameRows (first_rows v (place_of t + 1)) (rows_in v.external y)
   rows_more s = elim (cases_Bool (place_of t == place_of s)) [
     | inl same ↦
         let is : t ≡ s = one_table t s (grind (arith, nat_tests, same)) in
-        subst (λ u. IsPermutation (first_rows v (place_of t + 1) u) (rows_in y u)) is here_more
+        subst (λ u. IsPermutation (first_rows v (place_of t + 1) u) (rows_in v.external y u)) is here_more
     | inr other ↦
-        subst (λ b. IsPermutation (cond b (rows_of v s) []) (rows_in y s)) (sym (below_as_before (place_of s) (place_of t) other))
+        subst (λ b. IsPermutation (cond b (rows_of v s) []) (rows_in v.external y s)) (sym (below_as_before (place_of s) (place_of t) other))
         (IsPermutation-trans _ _ _ (was.rows s) (added.beside s other))
   ]
 
@@ -158,33 +166,34 @@ module _ (v : Vault) (t : Table) (rows : List Row) (x y : Database) (was : HasFi
   table_more : HasFirstRows v (place_of t + 1) y
   table_more = record { schema = added.schema; rows = rows_more; listed = λ h. listed_more }
 
-pub copies_table : (n : SchemaVersion) (from x y : Database) (t : Table) (rows : List Row) → ((v : Vault) → AreSoundAs n from v → IsPermutation (rows_of v t) rows)
-    → Goes (λ a row b. PutsRow t row a b) x rows y → HasCopied n from (place_of t) x → HasCopied n from (place_of t + 1) y
-copies_table n from x y t rows shown gone was v is =
+pub copies_table : (n : SchemaVersion) (external : Bool) (from x y : Database) (t : Table) (rows : List Row) → ((v : Vault) → AreSoundAs n from v → IsPermutation (rows_of (registering external v) t) rows)
+    → Goes (λ a row b. PutsRow external t row a b) x rows y → HasCopied n external from (place_of t) x → HasCopied n external from (place_of t + 1) y
+copies_table n external from x y t rows shown gone was v is =
     let before = was v is in
     let stated = shown v is in
-    table_more v t rows x y before stated (adds t rows x y (rows_stated v t rows stated) gone before.schema)
+    let new = registering external v in
+    table_more new t rows x y before stated (adds external t rows x y (rows_stated new t rows stated) gone before.schema)
 
 -- one part of the copy after the other
-pub copies_on : (n : SchemaVersion) (from later : Database) (old mid new : State) (From : Database → Type 0) (b c : ℕ) → later ≡ from → Moves old mid From (HasCopied n from b) → Moves mid new (HasCopied n later b) (HasCopied n later c)
-    → Moves old new From (HasCopied n from c)
-copies_on n from later old mid new From b c same one two = record {
+pub copies_on : (n : SchemaVersion) (external : Bool) (from later : Database) (old mid new : State) (From : Database → Type 0) (b c : ℕ) → later ≡ from → Moves old mid From (HasCopied n external from b) → Moves mid new (HasCopied n external later b) (HasCopied n external later c)
+    → Moves old new From (HasCopied n external from c)
+copies_on n external from later old mid new From b c same one two = record {
   was_open = one.was_open;
   is_open = two.is_open;
   inside = two.inside;
   committed = two.committed ∙ one.committed;
-  goes = λ was. subst (λ d. HasCopied n d c new.now) same (two.goes (subst (λ d. HasCopied n d b mid.now) (sym same) (one.goes was)));
+  goes = λ was. subst (λ d. HasCopied n external d c new.now) same (two.goes (subst (λ d. HasCopied n external d b mid.now) (sym same) (one.goes was)));
 }
 
 -- a part of the copy that was made: the old tables are as they were, and more of the new ones have their rows
-pub record Made (n : SchemaVersion) (first old start new : State) (b c : ℕ) : Type 0 where
+pub record Made (n : SchemaVersion) (external : Bool) (first old start new : State) (b c : ℕ) : Type 0 where
   pub read : HasCleanDisk old → HasCleanDisk first × (old.now ≡ first.now)
   pub written : HasCleanDisk new → HasCleanDisk start
-  pub copied : HasCleanDisk old → HasCleanDisk new → IsTrue start.in_transaction → IsTrue start.is_open → Moves start new (HasCopied n first.now b) (HasCopied n first.now c)
+  pub copied : HasCleanDisk old → HasCleanDisk new → IsTrue start.in_transaction → IsTrue start.is_open → Moves start new (HasCopied n external first.now b) (HasCopied n external first.now c)
 
 -- one after the other
-pub made_then : {n : SchemaVersion} {b c d : ℕ} {o0 o1 o2 t0 t1 t2 : State} → Made n o0 o1 t0 t1 b c → Made n o1 o2 t1 t2 c d → Made n o0 o2 t0 t2 b d
-made_then {n} {b} {c} {d} {o0} {o1} {o2} {t0} {t1} {t2} one two = record {
+pub made_then : {n : SchemaVersion} {external : Bool} {b c d : ℕ} {o0 o1 o2 t0 t1 t2 : State} → Made n external o0 o1 t0 t1 b c → Made n external o1 o2 t1 t2 c d → Made n external o0 o2 t0 t2 b d
+made_then {n} {external} {b} {c} {d} {o0} {o1} {o2} {t0} {t1} {t2} one two = record {
   read = λ clean.
       let it = two.read clean in
       let was = one.read it.0 in (was.0, it.1 ∙ was.1);
@@ -192,20 +201,20 @@ made_then {n} {b} {c} {d} {o0} {o1} {o2} {t0} {t1} {t2} one two = record {
   copied = λ clean after inside is_open.
       let it = two.read clean in
       let part = one.copied it.0 (two.written after) inside is_open in
-      copies_on n o0.now o1.now t0 t1 t2 (HasCopied n o0.now b) c d (one.read it.0).1 part (two.copied clean after part.inside part.is_open);
+      copies_on n external o0.now o1.now t0 t1 t2 (HasCopied n external o0.now b) c d (one.read it.0).1 part (two.copied clean after part.inside part.is_open);
 }
 
-module _ (n : SchemaVersion) (b c : ℕ) {first old start new : State} where
+module _ (n : SchemaVersion) (external : Bool) (b c : ℕ) {first old start new : State} where
   pub made : (HasCleanDisk old → IsUnchanged first old) → Survives first old (λ _. ⊥) → Survives start new (λ _. ⊥)
-      → (HasCleanDisk old → HasCleanDisk new → IsTrue start.in_transaction → IsTrue start.is_open → Moves start new (HasCopied n first.now b) (HasCopied n first.now c)) → Made n first old start new b c
+      → (HasCleanDisk old → HasCleanDisk new → IsTrue start.in_transaction → IsTrue start.is_open → Moves start new (HasCopied n external first.now b) (HasCopied n external first.now c)) → Made n external first old start new b c
   made same read written copied = record {
     read = λ clean. (omega (arith, clean, read.clean), (same clean).0.now_is);
     written = λ clean. omega (arith, clean, written.clean);
     copied = copied;
   }
 
-  module _ {later next : State} (done : Made n first old start new b c) (read : Survives old later (λ _. ⊥)) (written : Survives new next (λ _. ⊥)) where
-    up_to : HasCleanDisk later → HasCleanDisk next → IsTrue start.in_transaction → IsTrue start.is_open → Moves start new (HasCopied n first.now b) (HasCopied n first.now c)
+  module _ {later next : State} (done : Made n external first old start new b c) (read : Survives old later (λ _. ⊥)) (written : Survives new next (λ _. ⊥)) where
+    up_to : HasCleanDisk later → HasCleanDisk next → IsTrue start.in_transaction → IsTrue start.is_open → Moves start new (HasCopied n external first.now b) (HasCopied n external first.now c)
     up_to clean after = done.copied (omega (arith, clean, read.clean)) (omega (arith, after, written.clean))
 
     is_same : HasCleanDisk later → old.now ≡ first.now
@@ -213,15 +222,15 @@ module _ (n : SchemaVersion) (b c : ℕ) {first old start new : State} where
 
     -- what is copied after it
     pub copied_after : (d : ℕ) {A E : Type 0} (r : Result A E)
-        → (HasCleanDisk later → HasCleanDisk next → IsTrue new.in_transaction → IsTrue new.is_open → OnOk r (Moves new next (HasCopied n old.now c) (HasCopied n old.now d)))
-        → HasCleanDisk later → HasCleanDisk next → IsTrue start.in_transaction → IsTrue start.is_open → OnOk r (Moves start next (HasCopied n first.now b) (HasCopied n first.now d))
+        → (HasCleanDisk later → HasCleanDisk next → IsTrue new.in_transaction → IsTrue new.is_open → OnOk r (Moves new next (HasCopied n external old.now c) (HasCopied n external old.now d)))
+        → HasCleanDisk later → HasCleanDisk next → IsTrue start.in_transaction → IsTrue start.is_open → OnOk r (Moves start next (HasCopied n external first.now b) (HasCopied n external first.now d))
     copied_after d r more clean after inside is_open =
         let it = up_to clean after inside is_open in
-        on_ok_then r (more clean after it.inside it.is_open) (λ part. copies_on n first.now old.now start new next (HasCopied n first.now b) c d (is_same clean) it part)
+        on_ok_then r (more clean after it.inside it.is_open) (λ part. copies_on n external first.now old.now start new next (HasCopied n external first.now b) c d (is_same clean) it part)
 
     -- what is refused after it
-    pub fails_after : {A : Type 0} (r q : Result A Error) → q ≡ r → FailsForARow n c old later new next r → FailsForARow n b first later start next q
+    pub fails_after : {A : Type 0} (r q : Result A Error) → q ≡ r → FailsForARow n external c old later new next r → FailsForARow n external b first later start next q
     fails_after r q stated fails v is was well_old well inside is_open =
         let it = up_to well_old.clean well.clean inside is_open in
         let same = sym (is_same well_old.clean) in
-        subst (λ x. IfErr x (IsRefusedFor v)) (sym stated) (fails v (subst (λ db. AreSoundAs n db v) same is) (subst (λ db. HasCopied n db c new.now) same (it.goes was)) well_old well it.inside it.is_open)
+        subst (λ x. IfErr x (IsRefusedFor (registering external v))) (sym stated) (fails v (subst (λ db. AreSoundAs n db v) same is) (subst (λ db. HasCopied n external db c new.now) same (it.goes was)) well_old well it.inside it.is_open)

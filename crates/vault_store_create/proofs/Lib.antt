@@ -7,6 +7,7 @@ mod RowLemmas
 mod TenureLemmas
 mod ShownLemmas
 mod CopyLemmas
+pub mod RegisteringLemmas
 mod FillLemmas
 mod PartLemmas
 pub mod RefusedLemmas

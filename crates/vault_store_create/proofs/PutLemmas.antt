@@ -42,14 +42,16 @@ use Rattle.sqlite.specs.State.{State, ExecutesInside, mode_of}
 use Rattle.sqlite.proofs.Callers.{statement_of, one_step}
 use Rattle.vault_base.specs.declared.refusal.Table.TheVariants as table
 use Rattle.vault_audit_model.specs.Order.{place_of}
-use Rattle.vault_audit_model.specs.Tables.{vault_schema, meta, departments, callers, meta_tree, callers_tree}
+use Rattle.vault_audit_model.specs.SchemaVersions.{edition_of}
+use Rattle.vault_audit_model.specs.Tables.{vault_schema, meta_as, departments, callers, meta_tree, callers_tree}
 use Rattle.vault_audit_model.proofs.OutcomeLemmas.{same_value}
 use Rattle.vault_audit_model.proofs.ValueLemmas.{cast_null, cast_int}
 use Rattle.vault_audit_rows.specs.Health.{IsHealthy, IsMemory}
 use Rattle.vault_store_create.specs.Create.{HasAll, HasMetaRow}
-use Rattle.vault_store_create.proofs.InsertLemmas.{task_on, others_empty}
+use Rattle.vault_store_create.specs.Listings.{first_meta}
+use Rattle.vault_store_create.proofs.InsertLemmas.{task_on, others_empty, apart_from_meta, apart_from_callers, meta_stored, meta_news, meta_news_are, meta_given}
 use Rattle.vault_store_create.proofs.RefusedLemmas.{SaysWith, refused}
-use Rattle.vault_store_create.proofs.TextLemmas.{meta_row_text, meta_row_terms, meta_row_is, meta_row_plain, registrar_text, registrar_terms, registrar_is, registrar_plain}
+use Rattle.vault_store_create.proofs.TextLemmas.{meta_row_terms, meta_row_width, meta_row_is, meta_row_plain, registrar_text, registrar_terms, registrar_is, registrar_plain}
 
 -- ---- one row that breaks no rule
 
@@ -162,9 +164,10 @@ module _ (schema : Schema) (db : Trees) (at : ℕ) (rows : List Row) where
       (subst (AllByRecursion (λ row. passes Unique schema (with_tree db at rows) t row ≡ true)) none tt, none_breaks ts both.1 empty.1)
 
 -- a table without an index of its own has no key that rows share
-all_pass : (trees : Trees) (rows : List Row) → AllByRecursion (λ row. passes Unique vault_schema trees meta row ≡ true) rows
-all_pass trees [] = tt
-all_pass trees (r ∷ rs) = (refl, all_pass trees rs)
+all_pass : (external : Bool) (trees : Trees) (rows : List Row) → AllByRecursion (λ row. passes Unique (vault_schema external) trees (meta_as (edition_of external)) row ≡ true) rows
+all_pass external trees [] = tt
+all_pass false trees (r ∷ rs) = (refl, all_pass false trees rs)
+all_pass true trees (r ∷ rs) = (refl, all_pass true trees rs)
 
 none_refer : (tables all : List Table) (trees : Trees) → AllByRecursion (λ (t : Table). trees t.tree ≡ []) tables
     → AllByRecursion (λ (t : Table). AllByRecursion (λ row. list_all (λ ref. not (is_among AllKeys ref) || has_parent all trees row ref) t.references ≡ true) (trees t.tree)) tables
@@ -172,9 +175,10 @@ none_refer [] all trees empty = tt
 none_refer (t ∷ ts) all trees empty = (subst (AllByRecursion (λ row. list_all (λ ref. not (is_among AllKeys ref) || has_parent all trees row ref) t.references ≡ true)) (sym empty.0) tt, none_refer ts all trees empty.1)
 
 -- meta has no reference
-meta_refers : (trees : Trees) (rows : List Row) → AllByRecursion (λ row. list_all (λ ref. not (is_among AllKeys ref) || has_parent vault_schema.tables trees row ref) meta.references ≡ true) rows
-meta_refers trees [] = tt
-meta_refers trees (r ∷ rs) = (refl, meta_refers trees rs)
+meta_refers : (external : Bool) (trees : Trees) (rows : List Row)
+    → AllByRecursion (λ row. list_all (λ ref. not (is_among AllKeys ref) || has_parent (vault_schema external).tables trees row ref) (meta_as (edition_of external)).references ≡ true) rows
+meta_refers external trees [] = tt
+meta_refers external trees (r ∷ rs) = (refl, meta_refers external trees rs)
 
 -- ---- the row of meta
 
@@ -190,40 +194,58 @@ not_its (i ∷ is) tree x apart (inr later) its = not_its is tree x (not_and (i.
 no_real : (c : ℕ) → ¬ (bit_at 0 c ≡ 1)
 no_real c is = absurd (omega (arith, is, bit_at-zero c))
 
-abbrev meta_stored : Row
-meta_stored = Int (pos 1) ∷ Null ∷ Int (pos 3) ∷ Int (pos 0) ∷ Int (pos 1) ∷ Int (pos 0) ∷ []
-
-meta_fit : (db : Trees) → AllByRecursion (λ (t : Table). db t.tree ≡ []) (drop 1 vault_schema.tables) → IsFit vault_schema meta db meta_stored
+meta_fit : (external : Bool) (db : Trees) → AllByRecursion (λ (t : Table). db t.tree ≡ []) (drop 1 (vault_schema external).tables) → IsFit (vault_schema external) (meta_as (edition_of external)) db (meta_stored external)
 unfolding everything lib.Ieee.is_nan
-meta_fit db empty = record {
+meta_fit false db empty = record {
   typed = refl;
   present = refl;
   checked = refl;
   keyed = refl;
   low = refl;
   referred = refl;
-  unique = ((refl, tt), none_breaks vault_schema db meta_tree (meta_stored ∷ []) (drop 1 vault_schema.tables) refl empty);
-  storable = (record { typed = λ c is. absurd (no_real c is); columns = (omega arith, omega arith); numbers = All-from_recursion (λ v. NotNan (number v)) meta_stored (tt, (tt, (tt, (tt, (tt, (tt, tt)))))); short = lit≤ tt }, omega arith);
-  indexed = λ i listed its. absurd (not_its vault_schema.indexes 0 i refl listed its);
+  unique = ((refl, tt), none_breaks (vault_schema false) db meta_tree (meta_stored false ∷ []) (drop 1 (vault_schema false).tables) refl empty);
+  storable = (record { typed = λ c is. absurd (no_real c is); columns = (omega arith, omega arith); numbers = All-from_recursion (λ v. NotNan (number v)) (meta_stored false) (tt, (tt, (tt, (tt, (tt, (tt, tt)))))); short = lit≤ tt }, omega arith);
+  indexed = λ i listed its. absurd (not_its (vault_schema false).indexes 0 i refl listed its);
+}
+meta_fit true db empty = record {
+  typed = refl;
+  present = refl;
+  checked = refl;
+  keyed = refl;
+  low = refl;
+  referred = refl;
+  unique = ((refl, tt), none_breaks (vault_schema true) db meta_tree (meta_stored true ∷ []) (drop 1 (vault_schema true).tables) refl empty);
+  storable = (record { typed = λ c is. absurd (no_real c is); columns = (omega arith, omega arith); numbers = All-from_recursion (λ v. NotNan (number v)) (meta_stored true) (tt, (tt, (tt, (tt, (tt, (tt, (tt, (tt, tt)))))))); short = lit≤ tt }, omega arith);
+  indexed = λ i listed its. absurd (not_its (vault_schema true).indexes 0 i refl listed its);
 }
 
-meta_says : SaysWith vault_schema meta_row_text [] (Insert (place_of table.Meta) (Values meta_row_terms 6))
+meta_says : (external : Bool) → SaysWith (vault_schema external) (first_meta external) [] (Insert (place_of table.Meta) (Values (meta_row_terms external) (meta_row_width external)))
 unfolding understood everything
-meta_says = record { meaning = meta_row_is; plain = meta_row_plain; alone = (omega (arith), refl); unmarked = refl; silent = λ c is none. rw (is, none) refl }
+meta_says false = record { meaning = meta_row_is false; plain = meta_row_plain false; alone = (omega (arith), refl); unmarked = refl; silent = λ c is none. rw (is, none) refl }
+meta_says true = record { meaning = meta_row_is true; plain = meta_row_plain true; alone = (omega (arith), refl); unmarked = refl; silent = λ c is none. rw (is, none) refl }
 
-pub meta_refused : (old new : State) → IsHealthy new → new.step_limit ≡ old.step_limit → HasAll old.now → (r : Result ℕ Error) → ExecutesInside 0 meta_row_text [] old new r → IfErr r IsMemory
-meta_refused old new well limit was r h =
+meta_accepted : (external : Bool) → accepts_terms (meta_row_terms external) (stamped (meta_as (edition_of external)) []) ≡ true
+meta_accepted false = refl
+meta_accepted true = refl
+
+pub meta_refused : (external : Bool) (old new : State) → IsHealthy new → new.step_limit ≡ old.step_limit → HasAll external old.now → (r : Result ℕ Error) → ExecutesInside 0 (first_meta external) [] old new r → IfErr r IsMemory
+meta_refused external old new well limit was r h =
     let db = old.now.trees in
-    let command = Insert (place_of table.Meta) (Values meta_row_terms 6) in
-    let text = statement_of meta_row_text (understood vault_schema meta_row_text) in
-    refused meta_row_text old new well vault_schema was.schema command meta_says
+    let schema = vault_schema external in
+    let base = meta_as (edition_of external) in
+    let terms = meta_row_terms external in
+    let width = meta_row_width external in
+    let command = Insert (place_of table.Meta) (Values terms width) in
+    let sql = first_meta external in
+    let text = statement_of sql (understood schema sql) in
+    refused sql old new well schema was.schema command (meta_says external)
     (λ stop does.
     let did = subst (λ s. Does old.step_limit (mode_of old) [] (record old.now { schema = s }) text None command (Err stop)) was.schema does in
-    never_added old vault_schema meta (place_of table.Meta) 6 meta_row_terms db meta_stored (sym limit ∙ well.unlimited) was.rows.0 refl (meta_fit db was.rows.1)
-    (λ rows sourced. ap (λ all. (edit_of db meta [] Chosen 0 all).news) sourced.1
-    ∙ subst (λ there. numbered Chosen there (map (λ s. cast_row meta (drop 0 s)) (value_rows [] 6 1 meta_row_terms)) ≡ meta_stored ∷ []) (sym was.rows.0) (rw (cast_int (pos 1), cast_int (pos 3), cast_int (pos 0), cast_null) refl))
+    never_added old schema base (place_of table.Meta) width terms db (meta_stored external) (sym limit ∙ well.unlimited) was.rows.0 (meta_accepted external) (meta_fit external db was.rows.1)
+    (λ rows sourced. ap (λ all. (edit_of db base [] Chosen 0 all).news) (meta_given external old.step_limit (record { schema = schema; trees = db }) rows sourced)
+    ∙ subst (λ there. meta_news external there ≡ meta_stored external ∷ []) (sym was.rows.0) (meta_news_are external))
     (λ rows next applied news.
-    (meta_refers next (next meta_tree), none_refer (drop 1 vault_schema.tables) vault_schema.tables next (others_empty meta_tree (drop 1 vault_schema.tables) refl db next applied.tables.1 was.rows.1)))
+    (meta_refers external next (next meta_tree), none_refer (drop 1 schema.tables) schema.tables next (others_empty meta_tree (drop 1 schema.tables) (apart_from_meta external) db next applied.tables.1 was.rows.1)))
     stop did) r h
 
 -- ---- the row of the registrar
@@ -244,58 +266,78 @@ never_clashes =
     let same = agree plain (1 ∷ []) registrar_stored (1 ∷ []) registrar_stored in
     ap (λ b. (same && b) || false) never_apart ∙ and_none same
 
-its_key : (i : Index) → Has vault_schema.indexes i → i.table ≡ 3 → IsStorable (index_reals (table_reals callers) i.columns) (entry_of i.columns registrar_stored)
+-- the index of callers is the second
+apart_from_second : (external : Bool) → list_all (λ (i : Index). not (i.table == callers_tree)) (drop 2 (vault_schema external).indexes) ≡ true
+apart_from_second false = refl
+apart_from_second true = refl
+
+its_key : (external : Bool) (i : Index) → Has (vault_schema external).indexes i → i.table ≡ 3 → IsStorable (index_reals (table_reals callers) i.columns) (entry_of i.columns registrar_stored)
 unfolding lib.Ieee.is_nan
-its_key i (inl first) its = absurd (let other : i.table ≡ 1 = ap (λ (x : Index). x.table) first in omega (arith, other, its))
-its_key i (inr (inl second)) its =
+its_key external i (inl first) its = absurd (let other : i.table ≡ 1 = ap (λ (x : Index). x.table) first in omega (arith, other, its))
+its_key external i (inr (inl second)) its =
     subst (λ (x : Index). IsStorable (index_reals (table_reals callers) x.columns) (entry_of x.columns registrar_stored)) (sym second) (record {
       typed = λ c is. absurd (no_real c is);
       columns = (omega arith, omega arith);
       numbers = All-from_recursion (λ v. NotNan (number v)) (Text (codes "registrar") ∷ Int (pos 1) ∷ []) (tt, (tt, tt));
       short = lit≤ tt;
     })
-its_key i (inr (inr later)) its = absurd (not_its (drop 2 vault_schema.indexes) 3 i refl later its)
+its_key external i (inr (inr later)) its = absurd (not_its (drop 2 (vault_schema external).indexes) 3 i (apart_from_second external) later its)
 
-registrar_fit : (db : Trees) → AllByRecursion (λ (t : Table). db t.tree ≡ []) (drop 1 vault_schema.tables) → IsFit vault_schema callers db registrar_stored
+-- callers refers to departments
+callers_fit : (external : Bool) → references_fit (vault_schema external) callers true false ≡ true
+unfolding everything
+callers_fit false = refl
+callers_fit true = refl
+
+-- the row alone has no key that another row has
+callers_pass : (external : Bool) (db : Trees) → passes Unique (vault_schema external) (with_tree db callers_tree (registrar_stored ∷ [])) callers registrar_stored ≡ true
+callers_pass false db = ap (λ b. not b && true) never_clashes
+callers_pass true db = ap (λ b. not b && true) never_clashes
+
+registrar_fit : (external : Bool) (db : Trees) → AllByRecursion (λ (t : Table). db t.tree ≡ []) (drop 1 (vault_schema external).tables) → IsFit (vault_schema external) callers db registrar_stored
 unfolding everything lib.Ieee.is_nan
-registrar_fit db empty = record {
+registrar_fit external db empty = record {
   typed = refl;
   present = refl;
   checked = refl;
   keyed = refl;
   low = refl;
-  referred = refl;
+  referred = callers_fit external;
   unique =
+      let schema = vault_schema external in
       let there = with_tree db callers_tree (registrar_stored ∷ []) in
-      let none = subst (AllByRecursion (λ row. passes Unique vault_schema there departments row ≡ true)) (sym empty.0) tt in
-      let rest = none_breaks vault_schema db callers_tree (registrar_stored ∷ []) (drop 3 vault_schema.tables) refl empty.1.1 in
-      (all_pass there (db meta_tree), (none, ((ap (λ b. not b && true) never_clashes, tt), rest)));
+      let none = subst (AllByRecursion (λ row. passes Unique schema there departments row ≡ true)) (sym empty.0) tt in
+      let rest = none_breaks schema db callers_tree (registrar_stored ∷ []) (drop 3 schema.tables) (apart_from_callers external) empty.1.1 in
+      (all_pass external there (db meta_tree), (none, ((callers_pass external db, tt), rest)));
   storable = (record { typed = λ c is. absurd (no_real c is); columns = (omega arith, omega arith); numbers = All-from_recursion (λ v. NotNan (number v)) registrar_stored (tt, (tt, (tt, (tt, (tt, tt))))); short = lit≤ tt }, omega arith);
-  indexed = its_key;
+  indexed = its_key external;
 }
 
-registrar_says : SaysWith vault_schema registrar_text [] (Insert (place_of table.Callers) (Values registrar_terms 5))
+registrar_says : (external : Bool) → SaysWith (vault_schema external) registrar_text [] (Insert (place_of table.Callers) (Values registrar_terms 5))
 unfolding understood everything
-registrar_says = record { meaning = registrar_is; plain = registrar_plain; alone = (omega (arith), refl); unmarked = refl; silent = λ c is none. rw (is, none) refl }
+registrar_says false = record { meaning = registrar_is false; plain = registrar_plain false; alone = (omega (arith), refl); unmarked = refl; silent = λ c is none. rw (is, none) refl }
+registrar_says true = record { meaning = registrar_is true; plain = registrar_plain true; alone = (omega (arith), refl); unmarked = refl; silent = λ c is none. rw (is, none) refl }
 
-pub registrar_refused : (old new : State) → IsHealthy new → new.step_limit ≡ old.step_limit → HasMetaRow old.now → (r : Result ℕ Error) → ExecutesInside 0 registrar_text [] old new r → IfErr r IsMemory
-registrar_refused old new well limit was r h =
+pub registrar_refused : (external : Bool) (old new : State) → IsHealthy new → new.step_limit ≡ old.step_limit → HasMetaRow external old.now → (r : Result ℕ Error) → ExecutesInside 0 registrar_text [] old new r → IfErr r IsMemory
+registrar_refused external old new well limit was r h =
     let db = old.now.trees in
+    let schema = vault_schema external in
+    let tables = schema.tables in
     let command = Insert (place_of table.Callers) (Values registrar_terms 5) in
-    let text = statement_of registrar_text (understood vault_schema registrar_text) in
-    let fit = registrar_fit db was.rows in
-    refused registrar_text old new well vault_schema was.schema command registrar_says
+    let text = statement_of registrar_text (understood schema registrar_text) in
+    let fit = registrar_fit external db was.rows in
+    refused registrar_text old new well schema was.schema command (registrar_says external)
     (λ stop does.
     let did = subst (λ s. Does old.step_limit (mode_of old) [] (record old.now { schema = s }) text None command (Err stop)) was.schema does in
-    never_added old vault_schema callers (place_of table.Callers) 5 registrar_terms db registrar_stored (sym limit ∙ well.unlimited) was.rows.1.0 refl fit
+    never_added old schema callers (place_of table.Callers) 5 registrar_terms db registrar_stored (sym limit ∙ well.unlimited) was.rows.1.0 refl fit
     (λ rows sourced. ap (λ all. (edit_of db callers [] Chosen 0 all).news) sourced.1
     ∙ subst (λ there. numbered Chosen there (map (λ s. cast_row callers (drop 0 s)) (value_rows [] 5 1 registrar_terms)) ≡ registrar_stored ∷ []) (sym was.rows.1.0) (rw (cast_null, cast_int (pos 1), cast_int (pos 0)) refl))
     (λ rows next applied news.
     let kept = applied.tables.1 in
-    let rest = others_empty callers_tree (drop 3 vault_schema.tables) refl db next kept.1.1 was.rows.1.1 in
+    let rest = others_empty callers_tree (drop 3 tables) (apart_from_callers external) db next kept.1.1 was.rows.1.1 in
     let departments_none : next 1 ≡ [] = kept.0 (omega arith) ∙ was.rows.0 in
-    let callers_one : next callers_tree ≡ registrar_stored ∷ [] = applied.rows ∙ put vault_schema callers db registrar_stored fit rows news was.rows.1.0 in
-    let second = subst (AllByRecursion (λ row. list_all (λ ref. not (is_among AllKeys ref) || has_parent vault_schema.tables next row ref) departments.references ≡ true)) (sym departments_none) tt in
-    let third = subst (AllByRecursion (λ row. list_all (λ ref. not (is_among AllKeys ref) || has_parent vault_schema.tables next row ref) callers.references ≡ true)) (sym callers_one) (refl, tt) in
-    (meta_refers next (next meta_tree), (second, (third, none_refer (drop 3 vault_schema.tables) vault_schema.tables next rest))))
+    let callers_one : next callers_tree ≡ registrar_stored ∷ [] = applied.rows ∙ put schema callers db registrar_stored fit rows news was.rows.1.0 in
+    let second = subst (AllByRecursion (λ row. list_all (λ ref. not (is_among AllKeys ref) || has_parent tables next row ref) departments.references ≡ true)) (sym departments_none) tt in
+    let third = subst (AllByRecursion (λ row. list_all (λ ref. not (is_among AllKeys ref) || has_parent tables next row ref) callers.references ≡ true)) (sym callers_one) (refl, tt) in
+    (meta_refers external next (next meta_tree), (second, (third, none_refer (drop 3 tables) tables next rest))))
     stop did) r h

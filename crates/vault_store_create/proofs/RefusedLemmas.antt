@@ -1,5 +1,5 @@
 -- A store that works refuses a statement of a making only where memory runs out.
-use Rattle.std.proofs.Common.{◌≡◌, ◌≢◌, ◌⊎◌, ◌≤◌, append-nil, inl, inr, ℕ, ◌+◌, List, [], length, Bool, true, false, None, Some, Option, Ok, Err, Result, IfErr, refl, sym, ap, subst, ◌∙◌}
+use Rattle.std.proofs.Common.{◌≡◌, ◌≢◌, ◌⊎◌, ◌≤◌, append-nil, inl, inr, ℕ, List, [], length, Bool, true, false, None, Some, Option, Ok, Err, Result, IfErr, refl, sym, ap, subst, ◌∙◌}
 use Rattle.std.specs.List.{AllByRecursion}
 use Rattle.sqlite_trees.specs.Tree.{Trees}
 use Rattle.sqlite_schema.specs.declared.command.Command.{Command}
@@ -20,10 +20,10 @@ use Rattle.vault_audit_model.specs.Faults.{refusal_of}
 use Rattle.vault_audit_model.specs.Order.{place_of}
 use Rattle.vault_audit_model.specs.Tables.{entries}
 use Rattle.vault_audit_model.proofs.CommandLemmas.{commanded_is, statement_is}
-use Rattle.vault_audit_schema.specs.Statements.{IsAlone, IsCreationOf, IsIndexCreation, schema_of_first}
+use Rattle.vault_audit_schema.specs.Statements.{IsAlone, IsCreationOf, IsIndexCreation, schema_before, schema_before_index, schema_once}
 use Rattle.vault_audit_schema.proofs.TakenLemmas.{table_taken, table_short, index_taken, index_short}
 use Rattle.vault_audit_rows.specs.Health.{IsHealthy, IsMemory}
-use Rattle.vault_store_create.specs.Create.{HasFirst}
+use Rattle.vault_store_create.specs.Create.{HasFirst, HasBefore}
 use Rattle.vault_store_create.proofs.TextLemmas.{uncounted}
 use Rattle.sqlite_value.specs.Order.{Row}
 use Rattle.sqlite_resolve.specs.declared.error.CompileError.{CompileError}
@@ -143,23 +143,23 @@ alone_with text (Err e) alone = alone
 
 -- ---- of tables and the index
 
-table_never : (t : Table) (text : List ℕ) → IsCreationOf t text → (old : State) → old.now.schema ≡ schema_of_first (place_of t) → (stop : Option Error)
+table_never : (external : Bool) (t : Table) (text : List ℕ) → IsCreationOf external t text → (old : State) → old.now.schema ≡ schema_before external t → (stop : Option Error)
     → ¬ Does old.step_limit (mode_of old) [] old.now text None CreateTable (Err stop)
-table_never t text it old has stop (inr (after, made, given)) = absurd (cc given)
-table_never t text it old has stop (inl (s, inl (None, long, same), is)) = table_short (schema_of_first (place_of t)) text it.made it.defined it.taken long
-table_never t text it old has stop (inl (s, inl (Some e, inl odd, same), is)) = odd.0 it.taken.utf8
-table_never t text it old has stop (inl (s, inl (Some e, inr (why, refuses, stated), same), is)) = table_taken (schema_of_first (place_of t)) text it.made it.defined it.taken why (subst (λ x. RefusesTable x text why) has refuses)
-table_never t text it old has stop (inl (s, inr (after, made, counts), is)) =
+table_never external t text it old has stop (inr (after, made, given)) = absurd (cc given)
+table_never external t text it old has stop (inl (s, inl (None, long, same), is)) = table_short (schema_before external t) text it.made it.defined it.taken long
+table_never external t text it old has stop (inl (s, inl (Some e, inl odd, same), is)) = odd.0 it.taken.utf8
+table_never external t text it old has stop (inl (s, inl (Some e, inr (why, refuses, stated), same), is)) = table_taken (schema_before external t) text it.made it.defined it.taken why (subst (λ x. RefusesTable x text why) has refuses)
+table_never external t text it old has stop (inl (s, inr (after, made, counts), is)) =
     let both : Ok made.table ≡ Ok it.made = sym made.defined ∙ it.defined in
     let same : made.table ≡ it.made = cc in
-    let schema = schema_of_first (place_of t) in
-    let next : after.schema ≡ schema_of_first (place_of t + 1) = made.is ∙ ap (λ s. created s made.table) has ∙ ap (created schema) same ∙ it.next in
-    let plain : lacks_sequence after.schema ≡ false = ap lacks_sequence next ∙ uncounted t in
+    let schema = schema_before external t in
+    let next : after.schema ≡ schema_once external t = made.is ∙ ap (λ s. created s made.table) has ∙ ap (created schema) same ∙ it.next in
+    let plain : lacks_sequence after.schema ≡ false = ap lacks_sequence next ∙ uncounted external t in
     absurd (let gives = rw plain at counts in cc gives)
 
-pub table_refused : (t : Table) (text : List ℕ) → IsCreationOf t text → (old new : State) → IsHealthy new → HasFirst (place_of t) old.now → (r : Result ℕ Error) → ExecutesInside 0 text [] old new r → IfErr r IsMemory
-table_refused t text it old new well was r h =
-    let schema = schema_of_first (place_of t) in
+pub table_refused : (external : Bool) (t : Table) (text : List ℕ) → IsCreationOf external t text → (old new : State) → IsHealthy new → HasBefore external t old.now → (r : Result ℕ Error) → ExecutesInside 0 text [] old new r → IfErr r IsMemory
+table_refused external t text it old new well was r h =
+    let schema = schema_before external t in
     let says : SaysWith schema text [] CreateTable = record {
       meaning = commanded_is (understood schema text) ∙ it.command;
       plain = it.plain;
@@ -169,18 +169,18 @@ table_refused t text it old new well was r h =
     } in
     let whole = statement_is text (understood schema text) ∙ it.whole in
     refused text old new well schema was.schema CreateTable says
-    (λ stop does. table_never t text it old was.schema stop (subst (λ s. Does old.step_limit (mode_of old) [] old.now s None CreateTable (Err stop)) whole does)) r h
+    (λ stop does. table_never external t text it old was.schema stop (subst (λ s. Does old.step_limit (mode_of old) [] old.now s None CreateTable (Err stop)) whole does)) r h
 
-index_never : (text : List ℕ) → IsIndexCreation text → (old : State) → (trees : Trees) → AllByRecursion (λ t. trees t.tree ≡ []) (schema_of_first 11).tables → (stop : Option Error)
-    → ¬ Does old.step_limit (mode_of old) [] (record { schema = schema_of_first 11; trees = trees }) text None (CreateIndex (place_of table.Entries)) (Err stop)
-index_never text it old trees empty stop (inr (after, made, given)) = absurd (cc given)
-index_never text it old trees empty stop (inl (None, long, same)) = index_short (schema_of_first 11) text entries it.made it.defined it.taken trees empty.1.1.1.1.1.0 long
-index_never text it old trees empty stop (inl (Some e, inl odd, same)) = odd.0 it.taken.utf8
-index_never text it old trees empty stop (inl (Some e, inr (why, refuses, stated), same)) = index_taken (schema_of_first 11) text entries it.made it.defined it.taken trees empty why refuses
+index_never : (external : Bool) (text : List ℕ) → IsIndexCreation external text → (old : State) → (trees : Trees) → AllByRecursion (λ t. trees t.tree ≡ []) (schema_before_index external).tables → (stop : Option Error)
+    → ¬ Does old.step_limit (mode_of old) [] (record { schema = schema_before_index external; trees = trees }) text None (CreateIndex (place_of table.Entries)) (Err stop)
+index_never external text it old trees empty stop (inr (after, made, given)) = absurd (cc given)
+index_never external text it old trees empty stop (inl (None, long, same)) = index_short (schema_before_index external) text entries it.made it.defined it.taken trees empty.1.1.1.1.1.0 long
+index_never external text it old trees empty stop (inl (Some e, inl odd, same)) = odd.0 it.taken.utf8
+index_never external text it old trees empty stop (inl (Some e, inr (why, refuses, stated), same)) = index_taken (schema_before_index external) text entries it.made it.defined it.taken trees empty why refuses
 
-pub index_refused : (text : List ℕ) → IsIndexCreation text → (old new : State) → IsHealthy new → HasFirst 11 old.now → (r : Result ℕ Error) → ExecutesInside 0 text [] old new r → IfErr r IsMemory
-index_refused text it old new well was r h =
-    let schema = schema_of_first 11 in
+pub index_refused : (external : Bool) (text : List ℕ) → IsIndexCreation external text → (old new : State) → IsHealthy new → HasFirst external 11 old.now → (r : Result ℕ Error) → ExecutesInside 0 text [] old new r → IfErr r IsMemory
+index_refused external text it old new well was r h =
+    let schema = schema_before_index external in
     let command = CreateIndex (place_of table.Entries) in
     let says : SaysWith schema text [] command = record {
       meaning = commanded_is (understood schema text) ∙ it.command;
@@ -194,4 +194,4 @@ index_refused text it old new well was r h =
     (λ stop does.
     let spoken = subst (λ s. Does old.step_limit (mode_of old) [] old.now s None command (Err stop)) whole does in
     let placed = subst (λ s. Does old.step_limit (mode_of old) [] (record old.now { schema = s }) text None command (Err stop)) was.schema spoken in
-    index_never text it old old.now.trees was.rows stop placed) r h
+    index_never external text it old old.now.trees was.rows stop placed) r h

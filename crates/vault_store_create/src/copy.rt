@@ -1,4 +1,4 @@
-//! The vault of a file of an earlier schema version, copied into the tables of the newest.
+//! The vault of a file of an earlier schema version, copied into the tables of a new one.
 
 pub mod begin;
 mod listing;

@@ -2,7 +2,7 @@
 ghost use Rattle.std.specs.Prelude.{◌≡◌, ◌≢◌, ◌↔◌, false, IsTrue, OnOk, OnErr, IfErr, IsErrAnd};
 ghost use Rattle.sqlite.specs.State.{HasCleanDisk, Survives};
 ghost use Rattle.sqlite.specs.Held.{state};
-ghost use Rattle.vault_core_model.specs.Vault.{opening};
+ghost use Rattle.vault_core_model.specs.Vault.{opening_of};
 ghost use Rattle.vault_audit_model.specs.Spells.{AreSound};
 ghost use Rattle.vault_audit_model.specs.Tables.{no_schema};
 ghost use Rattle.vault_store_create.specs.Create.{HasFirst, IsFilled, AreOpening, IsFault, without_tables, MovesInside, FailsForMemory};
@@ -31,30 +31,31 @@ pub fn without_tables() -> Refusal
 }
 
 /// Makes the tables and their first rows.
-fn put_opening<S: Alter>(tx: &mut Transaction<'_, S>) -> Result<(), Error>
+fn put_opening<S: Alter>(tx: &mut Transaction<'_, S>, external: bool) -> Result<(), Error>
     ensures same_reference { tx.new.conn.ghost_name ≡ tx.old.conn.ghost_name }
-    ensures made { MovesInside S.Store tx.old.conn.now tx.new.conn.now result (HasFirst 0) IsFilled }
-    ensures memory { FailsForMemory S.Store tx.old.conn.now tx.new.conn.now result (HasFirst 0) }
+    ensures made { MovesInside S.Store tx.old.conn.now tx.new.conn.now result (HasFirst external 0) (IsFilled external) }
+    ensures memory { FailsForMemory S.Store tx.old.conn.now tx.new.conn.now result (HasFirst external 0) }
     ensures kept { CommitsNothing S.Store tx.old.conn.now tx.new.conn.now result }
     ensures survives { Survives (state S.Store tx.old.conn.now) (state S.Store tx.new.conn.now) (λ _. ⊥) }
 {
-    make_tables(tx)?;
-    put_meta(tx)?;
-    put_registrar(tx)?;
+    make_tables(tx, external)?;
+    put_meta(tx, external)?;
+    put_registrar(tx, external)?;
     Ok(())
 }
 
-/// Makes a new vault in an empty store, by one transaction: its tables, and the one caller `registrar`.
+/// Makes a new vault, which registers contents that are kept outside or doesn't, in an empty store, by one transaction: its
+/// tables, and the one caller `registrar`.
 ///
 /// `NameTaken` where the store has a table, an index or a view. `Memory` where the store wanted memory.
 /// `Device` where it refused for another cause, as for a transaction that is already begun. Nothing is changed then.
-pub fn fill<S: Alter>(conn: &mut Connection<S>) -> Result<(), Refusal>
-    ensures opening { HasCleanDisk (state S.Store conn.new) → OnOk result (AreSound (state S.Store conn.new).now opening) }
+pub fn fill<S: Alter>(conn: &mut Connection<S>, external: bool) -> Result<(), Refusal>
+    ensures opening { HasCleanDisk (state S.Store conn.new) → OnOk result (AreSound (state S.Store conn.new).now (opening_of external)) }
     ensures committed { HasCleanDisk (state S.Store conn.new)
         → OnOk result (IsTrue (state S.Store conn.new).is_open × ((state S.Store conn.new).committed ≡ (state S.Store conn.new).now)) }
 
     // What a crash may leave after that is this vault alone.
-    ensures alone { HasCleanDisk (state S.Store conn.new) → OnOk result ((db : _) → (state S.Store conn.new).may_leave db → AreOpening db) }
+    ensures alone { HasCleanDisk (state S.Store conn.new) → OnOk result ((db : _) → (state S.Store conn.new).may_leave db → AreOpening external db) }
     ensures settled { OnOk result (conn.new.in_transaction ≡ false) }
     ensures taken { (result ≡ Err Refusal.NameTaken) ↔ ((state S.Store conn.old).now.schema ≢ no_schema) }
     ensures untouched { result ≡ Err Refusal.NameTaken → conn.new ≡ conn.old }
@@ -68,7 +69,7 @@ pub fn fill<S: Alter>(conn: &mut Connection<S>) -> Result<(), Refusal>
     ensures inside { IsTrue conn.old.in_transaction → IsErrAnd result (λ r. (r ≢ Refusal.Memory) × (conn.new ≡ conn.old)) }
 
     // What a crash may leave, at any moment of the call: what it could leave before, or this vault.
-    ensures crash { Survives (state S.Store conn.old) (state S.Store conn.new) AreOpening }
+    ensures crash { Survives (state S.Store conn.old) (state S.Store conn.new) (AreOpening external) }
 {
     if !is_blank(conn.schema()) {
         return Err(Refusal::NameTaken);
@@ -77,7 +78,7 @@ pub fn fill<S: Alter>(conn: &mut Connection<S>) -> Result<(), Refusal>
         return Err(Refusal::Device);
     }
     let mut tx = conn.transaction();
-    match put_opening(&mut tx) {
+    match put_opening(&mut tx, external) {
         Ok(()) => {}
         Err(error) => return Err(refusal_of(error)),
     }

@@ -1,5 +1,5 @@
--- What each statement on entries, contents, settings, tenures, intake and heads does.
-use Rattle.std.proofs.Common.{◌≡◌, ℕ, ℤ, List, [], ◌∷◌, drop, true, ◌&&◌, Some, Ok, refl, sym, ap₂, subst, ◌∙◌}
+-- What each statement on entries, contents, external, settings, tenures, intake and heads does.
+use Rattle.std.proofs.Common.{◌≡◌, ℕ, ℤ, Bool, true, false, List, [], ◌∷◌, drop, ◌&&◌, Some, Ok, refl, sym, ap₂, subst, ◌∙◌}
 use Rattle.sqlite_value.specs.declared.value.Value.{Value}
 use Rattle.sqlite_value.specs.declared.value.Value.TheVariants.{Null, Int, Text}
 use Rattle.sqlite_value.specs.Order.{Row, column}
@@ -14,7 +14,7 @@ use Rattle.vault_base.specs.declared.refusal.Table.TheVariants as table
 use Rattle.vault_core_model.specs.declared.records.Removal.{Removal}
 use Rattle.vault_audit_model.specs.declared.rows.HeadRow.{HeadRow}
 use Rattle.vault_audit_model.specs.Rows.{head_row, removal_at, removal_cause, removal_by}
-use Rattle.vault_audit_model.specs.Tables.{vault_schema, entries, contents, heads, tenures, entries_tree, contents_tree, heads_tree}
+use Rattle.vault_audit_model.specs.Tables.{vault_schema, entries, contents, heads, tenures, external as kept_outside, entries_tree, contents_tree, external_tree, heads_tree}
 use Rattle.vault_audit_model.specs.Values.{number}
 use Rattle.vault_store_model.specs.Copies.{with_tenures, is_held_version, moved_row}
 use Rattle.vault_store_model.specs.Edits.{with_changed, without}
@@ -28,8 +28,9 @@ use Rattle.vault_store_edits.proofs.CopyLemmas.{copies}
 use Rattle.vault_store_edits.proofs.StatementLemmas.{Leaves, updates, deletes}
 use Rattle.vault_store_edits.proofs.TestLemmas.{text_test, number_test}
 use Rattle.vault_store_edits.proofs.TypeLemmas.{column_taken}
+use Rattle.vault_store_edits.proofs.UnknownLemmas.{never_executed}
 use Rattle.sqlite_tied.proofs.RuleLemmas.{and_true}
-use Rattle.vault_store_edits.proofs.EntryTextLemmas.{by_id, removed_text, removed_project, removed_is, no_content_text, no_content_is, moved_text, moved_tests, moved_project, moved_collations, moved_is, by_key, newer_text, newer_project, newer_is, no_head_text, no_head_is}
+use Rattle.vault_store_edits.proofs.EntryTextLemmas.{by_id, removed_text, removed_project, removed_is, no_content_text, no_content_is, no_external_text, no_external_is, no_external_unknown, moved_text, moved_tests, moved_project, moved_collations, moved_is, by_key, newer_text, newer_project, newer_is, no_head_text, no_head_is}
 
 -- the id in the first column is the first parameter
 identified : (id : ℕ) (rest r : Row) → (passes by_id (number id ∷ rest) r ≡ true → (n : ℤ) × (rowid r ≡ Int n)) → passes by_id (number id ∷ rest) r ≡ is_number id (column r 0)
@@ -44,11 +45,11 @@ keyed bucket key rest r = ap₂ ◌&&◌ (text_test bucket (column r 1)) (and_tr
 abbrev pub removal_params : ℕ → Removal → Row
 removal_params id r = number id ∷ removal_at (Some r) ∷ removal_cause (Some r) ∷ removal_by (Some r) ∷ []
 
-pub removes_entry : (id : ℕ) (r : Removal) (old new : State) (count : ℕ) → HaveUniqueRowids (passes by_id (removal_params id r)) (old.now.trees entries_tree) → IsDatabase old.now → old.now.schema ≡ vault_schema
-    → Executes removed_text (removal_params id r) old new (Ok count) → Leaves old new (with_changed table.Entries (is_numbered id) (removed_row r))
-removes_entry id r =
-    updates table.Entries 5 entries removed_text (removal_params id r) by_id (is_numbered id) refl (λ row whole. identified id (removal_at (Some r) ∷ removal_cause (Some r) ∷ removal_by (Some r) ∷ []) row whole)
-    removed_project (removed_row r) removed_is (λ limit mode text db out h. h) (λ db k. k.1.1.1.1.1.0)
+pub removes_entry : (external : Bool) (id : ℕ) (r : Removal) (old new : State) (count : ℕ) → HaveUniqueRowids (passes by_id (removal_params id r)) (old.now.trees entries_tree) → IsDatabase old.now → old.now.schema ≡ vault_schema external
+    → Executes removed_text (removal_params id r) old new (Ok count) → Leaves external old new (with_changed table.Entries (is_numbered id) (removed_row r))
+removes_entry external id r =
+    updates external table.Entries refl 5 entries removed_text (removal_params id r) by_id (is_numbered id) refl (λ row whole. identified id (removal_at (Some r) ∷ removal_cause (Some r) ∷ removal_by (Some r) ∷ []) row whole)
+    removed_project (removed_row r) (removed_is external) (λ limit mode text db out h. h) (λ db k. k.1.1.1.1.1.0)
     (λ row typed n is.
     let own : cast kind.Integer (column row 0) ≡ column row 0 = subst (λ v. cast kind.Integer v ≡ v) (sym is) (cast_int n) in
     let bucket : cast kind.Text (column row 2) ≡ column row 2 = column_taken entries row refl typed 1 _ refl in
@@ -64,25 +65,37 @@ removes_entry id r =
 
 -- ---- contents
 
-pub drops_content : (id : ℕ) (old new : State) (count : ℕ) → HaveUniqueRowids (passes by_id (number id ∷ [])) (old.now.trees contents_tree) → old.now.schema ≡ vault_schema → Executes no_content_text (number id ∷ []) old new (Ok count)
-    → Leaves old new (without table.Contents (is_numbered id))
-drops_content id = deletes table.Contents 6 contents no_content_text (number id ∷ []) by_id (is_numbered id) refl (λ row whole. identified id [] row whole) no_content_is (λ limit mode text db out h. h)
+pub drops_content : (external : Bool) (id : ℕ) (old new : State) (count : ℕ) → HaveUniqueRowids (passes by_id (number id ∷ [])) (old.now.trees contents_tree) → old.now.schema ≡ vault_schema external → Executes no_content_text (number id ∷ []) old new (Ok count)
+    → Leaves external old new (without table.Contents (is_numbered id))
+drops_content external id = deletes external table.Contents refl 6 contents no_content_text (number id ∷ []) by_id (is_numbered id) refl (λ row whole. identified id [] row whole) (no_content_is external) (λ limit mode text db out h. h)
+
+-- ---- external
+
+pub drops_external : (external : Bool) (id : ℕ) (old new : State) (count : ℕ) → HaveUniqueRowids (passes by_id (number id ∷ [])) (old.now.trees external_tree) → old.now.schema ≡ vault_schema external → Executes no_external_text (number id ∷ []) old new (Ok count)
+    → Leaves external old new (without table.External (is_numbered id))
+drops_external false id = λ old new count unique has h. absurd (never_executed (vault_schema false) no_external_text no_external_unknown (number id ∷ []) old new has count h)
+drops_external true id =
+    deletes true table.External refl 11 kept_outside no_external_text (number id ∷ []) by_id (is_numbered id) refl (λ row whole. identified id [] row whole) no_external_is (λ limit mode text db out h. h)
 
 -- ---- settings, tenures and intake
 
 -- a rowid that is chosen stands in no column
-spared : (v : Value) (vs : Row) (rows : List Row) → columns_of table.Tenures (with_rowid Chosen rows (v ∷ vs)) ≡ columns_of table.Tenures (v ∷ vs)
-spared Null vs rows = refl
-spared v vs rows = refl
+spared : (external : Bool) (v : Value) (vs : Row) (rows : List Row) → columns_of external table.Tenures (with_rowid Chosen rows (v ∷ vs)) ≡ columns_of external table.Tenures (v ∷ vs)
+spared external Null vs rows = refl
+spared external v vs rows = refl
 
 abbrev pub moved_params : List ℕ → ℕ → List ℕ → ℕ → Row
 moved_params bucket n dept at = Text bucket ∷ number n ∷ Text dept ∷ number at ∷ []
 
-pub puts_tenures : (bucket : List ℕ) (n : ℕ) (dept : List ℕ) (moment : ℕ) (old new : State) (count : ℕ) → old.now.schema ≡ vault_schema → Executes moved_text (moved_params bucket n dept moment) old new (Ok count)
-    → Leaves old new (with_tenures bucket n dept moment)
-puts_tenures bucket n dept moment =
-    copies table.Tenures table.Entries 10 tenures moved_text (moved_params bucket n dept moment) moved_tests moved_project moved_collations (is_held_version bucket) (moved_row n dept moment) moved_is
-    (λ limit mode text db out h. h) refl refl (λ r. refl) (λ rows s. spared (cast kind.Integer (column s 0)) (cast_all tenures.columns (drop 1 s)) rows)
+pub puts_tenures : (external : Bool) (bucket : List ℕ) (n : ℕ) (dept : List ℕ) (moment : ℕ) (old new : State) (count : ℕ) → old.now.schema ≡ vault_schema external → Executes moved_text (moved_params bucket n dept moment) old new (Ok count)
+    → Leaves external old new (with_tenures bucket n dept moment)
+puts_tenures false bucket n dept moment =
+    copies false table.Tenures table.Entries refl refl 10 tenures moved_text (moved_params bucket n dept moment) moved_tests moved_project moved_collations (is_held_version bucket) (moved_row n dept moment) (moved_is false)
+    (λ limit mode text db out h. h) refl refl (λ r. refl) (λ rows s. spared false (cast kind.Integer (column s 0)) (cast_all tenures.columns (drop 1 s)) rows)
+    (λ r. rw (cast_number n, cast_number moment) refl)
+puts_tenures true bucket n dept moment =
+    copies true table.Tenures table.Entries refl refl 10 tenures moved_text (moved_params bucket n dept moment) moved_tests moved_project moved_collations (is_held_version bucket) (moved_row n dept moment) (moved_is true)
+    (λ limit mode text db out h. h) refl refl (λ r. refl) (λ rows s. spared true (cast kind.Integer (column s 0)) (cast_all tenures.columns (drop 1 s)) rows)
     (λ r. rw (cast_number n, cast_number moment) refl)
 
 -- ---- heads
@@ -90,17 +103,17 @@ puts_tenures bucket n dept moment =
 abbrev pub head_params : HeadRow → Row
 head_params h = head_row h
 
-pub sets_head : (h : HeadRow) (old new : State) (count : ℕ) → HaveUniqueRowids (passes by_key (head_params h)) (old.now.trees heads_tree) → IsDatabase old.now → old.now.schema ≡ vault_schema → Executes newer_text (head_params h) old new (Ok count)
-    → Leaves old new (with_changed table.Heads (is_of_key h.bucket h.key) (with_head_columns h.head))
-sets_head h =
-    updates table.Heads 9 heads newer_text (head_params h) by_key (is_of_key h.bucket h.key) refl (λ r whole. keyed h.bucket h.key (number h.head.newest ∷ number h.head.count ∷ []) r)
-    newer_project (with_head_columns h.head) newer_is (λ limit mode text db out h. h) (λ db k. k.1.1.1.1.1.1.1.1.1.0)
+pub sets_head : (external : Bool) (h : HeadRow) (old new : State) (count : ℕ) → HaveUniqueRowids (passes by_key (head_params h)) (old.now.trees heads_tree) → IsDatabase old.now → old.now.schema ≡ vault_schema external → Executes newer_text (head_params h) old new (Ok count)
+    → Leaves external old new (with_changed table.Heads (is_of_key h.bucket h.key) (with_head_columns h.head))
+sets_head external h =
+    updates external table.Heads refl 9 heads newer_text (head_params h) by_key (is_of_key h.bucket h.key) refl (λ r whole. keyed h.bucket h.key (number h.head.newest ∷ number h.head.count ∷ []) r)
+    newer_project (with_head_columns h.head) (newer_is external) (λ limit mode text db out h. h) (λ db k. k.1.1.1.1.1.1.1.1.1.0)
     (λ r typed n is.
     let bucket : cast kind.Text (column r 1) ≡ column r 1 = column_taken heads r refl typed 0 _ refl in
     let key : cast kind.Text (column r 2) ≡ column r 2 = column_taken heads r refl typed 1 _ refl in
     rw (bucket, key, cast_number h.head.newest, cast_number h.head.count) refl)
 
-pub drops_head : (bucket key : List ℕ) (old new : State) (count : ℕ) → HaveUniqueRowids (passes by_key (Text bucket ∷ Text key ∷ [])) (old.now.trees heads_tree) → old.now.schema ≡ vault_schema
-    → Executes no_head_text (Text bucket ∷ Text key ∷ []) old new (Ok count) → Leaves old new (without table.Heads (is_of_key bucket key))
-drops_head bucket key =
-    deletes table.Heads 9 heads no_head_text (Text bucket ∷ Text key ∷ []) by_key (is_of_key bucket key) refl (λ r whole. keyed bucket key [] r) no_head_is (λ limit mode text db out h. h)
+pub drops_head : (external : Bool) (bucket key : List ℕ) (old new : State) (count : ℕ) → HaveUniqueRowids (passes by_key (Text bucket ∷ Text key ∷ [])) (old.now.trees heads_tree) → old.now.schema ≡ vault_schema external
+    → Executes no_head_text (Text bucket ∷ Text key ∷ []) old new (Ok count) → Leaves external old new (without table.Heads (is_of_key bucket key))
+drops_head external bucket key =
+    deletes external table.Heads refl 9 heads no_head_text (Text bucket ∷ Text key ∷ []) by_key (is_of_key bucket key) refl (λ r whole. keyed bucket key [] r) (no_head_is external) (λ limit mode text db out h. h)

@@ -17,3 +17,4 @@ pub mod TableLemmas
 pub mod TestLemmas
 pub mod TransactionLemmas
 pub mod TypeLemmas
+pub mod UnknownLemmas

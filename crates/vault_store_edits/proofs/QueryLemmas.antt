@@ -1,20 +1,20 @@
 -- A query inside a transaction, and the texts of those for rowids.
-use Rattle.std.proofs.Common.{◌≡◌, ◌⊎◌, inl, inr, ℕ, List, [], ◌∷◌, codes, if◌then◌else◌, Option, Some, None, IsTrue, refl, ◌∙◌, arith}
+use Rattle.std.proofs.Common.{◌≡◌, ◌⊎◌, inl, inr, ℕ, List, [], ◌∷◌, codes, if◌then◌else◌, Option, Some, None, Bool, true, false, IsTrue, refl, ◌∙◌, arith}
 use Rattle.sqlite_value.specs.Order.{Row}
 use Rattle.sqlite_tied.specs.Compute.{everything}
 use Rattle.sqlite_schema.specs.declared.command.Returning.{Returning}
 use Rattle.sqlite_resolve.specs.declared.compiled.Compiled.{Compiled}
+use Rattle.sqlite_resolve.specs.declared.error.CompileError.TheVariants.{NoSuchTable}
 use Rattle.sqlite.specs.declared.error.Error.{Error}
-use Rattle.sqlite.specs.Listing.{understood}
+use Rattle.sqlite.specs.Listing.{listing_schema, understood}
 use Rattle.sqlite.specs.State.{State, IsUnchanged, IsNotRun, KeepsCommit, Shown, ShowsRows, FailsToShow, FailsToQuery, IsTooLate, Survives}
 use Rattle.sqlite.proofs.StateLemmas.{survives_then}
 use Rattle.vault_base.specs.declared.refusal.Table.{Table}
 use Rattle.vault_base.specs.declared.refusal.Table.TheVariants as table
 use Rattle.vault_audit_model.proofs.OutcomeLemmas.{kept_unchanged, kept_undone}
-use Rattle.vault_audit_model.specs.Queries.{Selects}
 use Rattle.vault_audit_model.specs.Tables.{vault_schema}
 use Rattle.vault_store_edits.specs.Trees.{tree_of}
-use Rattle.vault_store_edits.specs.Queries.{by_rowid, rowid_text, rowids_where}
+use Rattle.vault_store_edits.specs.Queries.{SelectsIfKnown, by_rowid, rowid_text, rowids_where}
 
 pub kept_itself : (s : State) → KeepsCommit s s
 kept_itself s = record { was_open = λ h. h; committed = λ _. refl }
@@ -48,20 +48,33 @@ failed_kept sql params old new e (inl (inl h)) = not_run_kept sql params old new
 failed_kept sql params old new e (inl (inr h)) = fails_kept old new sql h.0 _ e h.0.returning h.2
 failed_kept sql params old new e (inr h) = kept_unchanged old new h.5
 
--- the texts ask for the rowids of the rows with a rowid
-pub finds_by_rowid : (t : Table) → Selects vault_schema (rowid_text t) (rowids_where (tree_of t) by_rowid)
-unfolding understood everything
-finds_by_rowid table.Meta = record { names = codes "one" ∷ []; is = refl; plain = (refl, refl); unlisted = refl }
-finds_by_rowid table.Departments = record { names = codes "rowid" ∷ []; is = refl; plain = (refl, refl); unlisted = refl }
-finds_by_rowid table.Callers = record { names = codes "rowid" ∷ []; is = refl; plain = (refl, refl); unlisted = refl }
-finds_by_rowid table.Buckets = record { names = codes "rowid" ∷ []; is = refl; plain = (refl, refl); unlisted = refl }
-finds_by_rowid table.Rules = record { names = codes "rowid" ∷ []; is = refl; plain = (refl, refl); unlisted = refl }
-finds_by_rowid table.Entries = record { names = codes "id" ∷ []; is = refl; plain = (refl, refl); unlisted = refl }
-finds_by_rowid table.Contents = record { names = codes "id" ∷ []; is = refl; plain = (refl, refl); unlisted = refl }
-finds_by_rowid table.Settings = record { names = codes "rowid" ∷ []; is = refl; plain = (refl, refl); unlisted = refl }
-finds_by_rowid table.Intake = record { names = codes "rowid" ∷ []; is = refl; plain = (refl, refl); unlisted = refl }
-finds_by_rowid table.Heads = record { names = codes "rowid" ∷ []; is = refl; plain = (refl, refl); unlisted = refl }
-finds_by_rowid table.Tenures = record { names = codes "rowid" ∷ []; is = refl; plain = (refl, refl); unlisted = refl }
+-- the texts ask for the rowids of the rows with a rowid, where a vault has the table
+pub finds_by_rowid : (external : Bool) (t : Table) → SelectsIfKnown (vault_schema external) (rowid_text t) (rowids_where (tree_of t) by_rowid)
+unfolding understood listing_schema everything
+finds_by_rowid false table.Meta = inl (record { names = codes "one" ∷ []; is = refl; plain = (refl, refl); unlisted = refl })
+finds_by_rowid false table.Departments = inl (record { names = codes "rowid" ∷ []; is = refl; plain = (refl, refl); unlisted = refl })
+finds_by_rowid false table.Callers = inl (record { names = codes "rowid" ∷ []; is = refl; plain = (refl, refl); unlisted = refl })
+finds_by_rowid false table.Buckets = inl (record { names = codes "rowid" ∷ []; is = refl; plain = (refl, refl); unlisted = refl })
+finds_by_rowid false table.Rules = inl (record { names = codes "rowid" ∷ []; is = refl; plain = (refl, refl); unlisted = refl })
+finds_by_rowid false table.Entries = inl (record { names = codes "id" ∷ []; is = refl; plain = (refl, refl); unlisted = refl })
+finds_by_rowid false table.Contents = inl (record { names = codes "id" ∷ []; is = refl; plain = (refl, refl); unlisted = refl })
+finds_by_rowid false table.Settings = inl (record { names = codes "rowid" ∷ []; is = refl; plain = (refl, refl); unlisted = refl })
+finds_by_rowid false table.Intake = inl (record { names = codes "rowid" ∷ []; is = refl; plain = (refl, refl); unlisted = refl })
+finds_by_rowid false table.Heads = inl (record { names = codes "rowid" ∷ []; is = refl; plain = (refl, refl); unlisted = refl })
+finds_by_rowid false table.Tenures = inl (record { names = codes "rowid" ∷ []; is = refl; plain = (refl, refl); unlisted = refl })
+finds_by_rowid false table.External = inr (NoSuchTable, refl)
+finds_by_rowid true table.Meta = inl (record { names = codes "one" ∷ []; is = refl; plain = (refl, refl); unlisted = refl })
+finds_by_rowid true table.Departments = inl (record { names = codes "rowid" ∷ []; is = refl; plain = (refl, refl); unlisted = refl })
+finds_by_rowid true table.Callers = inl (record { names = codes "rowid" ∷ []; is = refl; plain = (refl, refl); unlisted = refl })
+finds_by_rowid true table.Buckets = inl (record { names = codes "rowid" ∷ []; is = refl; plain = (refl, refl); unlisted = refl })
+finds_by_rowid true table.Rules = inl (record { names = codes "rowid" ∷ []; is = refl; plain = (refl, refl); unlisted = refl })
+finds_by_rowid true table.Entries = inl (record { names = codes "id" ∷ []; is = refl; plain = (refl, refl); unlisted = refl })
+finds_by_rowid true table.Contents = inl (record { names = codes "id" ∷ []; is = refl; plain = (refl, refl); unlisted = refl })
+finds_by_rowid true table.Settings = inl (record { names = codes "rowid" ∷ []; is = refl; plain = (refl, refl); unlisted = refl })
+finds_by_rowid true table.Intake = inl (record { names = codes "rowid" ∷ []; is = refl; plain = (refl, refl); unlisted = refl })
+finds_by_rowid true table.Heads = inl (record { names = codes "rowid" ∷ []; is = refl; plain = (refl, refl); unlisted = refl })
+finds_by_rowid true table.Tenures = inl (record { names = codes "rowid" ∷ []; is = refl; plain = (refl, refl); unlisted = refl })
+finds_by_rowid true table.External = inl (record { names = codes "id" ∷ []; is = refl; plain = (refl, refl); unlisted = refl })
 
 pub unchanged_itself : (s : State) → IsTrue s.is_open → IsUnchanged s s
 unchanged_itself s is_open =

@@ -34,14 +34,14 @@ none_pushed true rows = refl
 none_pushed false rows = refl
 
 -- no row is no edit
-pub no_rows : (t : Table) (s : State) → IsTrue s.is_open → IsTrue s.in_transaction → Edits s s (with_each t [])
-no_rows t s is_open inside = record {
+pub no_rows : (t : Table) (s : State) → IsTrue s.is_open → IsTrue s.in_transaction → (external : Bool) → Edits external s s (with_each t [])
+no_rows t s is_open inside external = record {
   was_open = is_open;
   is_open = is_open;
   inside = inside;
   committed = refl;
   schema = λ has. has;
-  rows = λ has u. subst (λ l. IsPermutation l (rows_in s.now u)) (none_pushed (place_of t == place_of u) (rows_in s.now u)) (IsPermutation-refl (rows_in s.now u));
+  rows = λ has u. subst (λ l. IsPermutation l (rows_in external s.now u)) (none_pushed (place_of t == place_of u) (rows_in external s.now u)) (IsPermutation-refl (rows_in external s.now u));
   ignores = λ xs ys same u. subst₂ (λ (l m : List Row). IsPermutation l m) (none_pushed (place_of t == place_of u) (xs u)) (none_pushed (place_of t == place_of u) (ys u)) (same u);
 }
 
@@ -64,8 +64,8 @@ one_rule_more bucket rules n rule within is =
     ∙ ap (with_each table.Rules) (map-append rule_row (rules_from bucket 1 (take n rules)) (next ∷ []))
     ∙ one_row_more table.Rules (map rule_row (rules_from bucket 1 (take n rules))) (rule_row next)
 
-pub kept_edit : (old new : State) (edit : Rows → Rows) → Edits old new edit → KeepsCommit old new
-kept_edit old new edit e = record { was_open = λ _. e.was_open; committed = λ _. e.committed }
+pub kept_edit : (external : Bool) (old new : State) (edit : Rows → Rows) → Edits external old new edit → KeepsCommit old new
+kept_edit external old new edit e = record { was_open = λ _. e.was_open; committed = λ _. e.committed }
 
 all_and_one : (rules : List Rule) (rule : Rule) → AllByRecursion IsTypedRule rules → IsTypedRule rule → AllByRecursion IsTypedRule (rules ++ rule ∷ [])
 all_and_one [] rule all is = (is, tt)

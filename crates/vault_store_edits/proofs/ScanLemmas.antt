@@ -9,6 +9,7 @@ use Rattle.sqlite_value.specs.declared.value.Value.TheVariants.{Int}
 use Rattle.sqlite_value.specs.Order.{Row}
 use Rattle.sqlite_sql.specs.Term.{Term, col}
 use Rattle.sqlite_schema.specs.declared.command.Command.TheVariants.{Select}
+use Rattle.sqlite_schema.specs.declared.schema.Schema.{Schema}
 use Rattle.sqlite_rules.specs.Lists.{Has}
 use Rattle.sqlite_rules.proofs.ListLemmas.{all_has, has_kept}
 use Rattle.sqlite_rules.proofs.ProbeLemmas.{mapped_has}
@@ -16,7 +17,6 @@ use Rattle.sqlite.specs.Listing.{understood}
 use Rattle.sqlite.specs.State.{State, IsUnchanged, Shown, ShowsRows}
 use Rattle.sqlite.proofs.Callers.{IsPlain, reads_as}
 use Rattle.vault_audit_model.specs.Queries.{Selects}
-use Rattle.vault_audit_model.specs.Tables.{vault_schema}
 use Rattle.vault_audit_model.proofs.CommandLemmas.{meant}
 use Rattle.vault_store_edits.specs.UniqueRowids.{HaveUniqueRowids}
 use Rattle.vault_store_model.specs.Scans.{passes, shows}
@@ -35,20 +35,20 @@ shown_same sql params old new rows plain h =
     let it = subst (ShowsRows old new sql h.0 _ rows) bare.0 h.2 in
     it.3
 
-module _ (sql : List ℕ) (t : ℕ) (tests : List Term) (finds : Selects vault_schema sql (rowids_where t tests)) (params : Row) (old new : State) (has : old.now.schema ≡ vault_schema) where
+module _ (schema : Schema) (sql : List ℕ) (t : ℕ) (tests : List Term) (finds : Selects schema sql (rowids_where t tests)) (params : Row) (old new : State) (has : old.now.schema ≡ schema) where
   pub found : (rows : List Row) → Shown sql params old new rows → IsPermutation (map (shows (col 1 0 ∷ []) params) (filter (passes tests params) (old.now.trees t))) rows
   found rows h =
-      let read = reads_as sql params old new vault_schema has (Select (record { lets = []; body = rowids_where t tests }) finds.names) (meant vault_schema sql finds) finds.plain finds.unlisted rows h in
+      let read = reads_as sql params old new schema has (Select (record { lets = []; body = rowids_where t tests }) finds.names) (meant schema sql finds) finds.plain finds.unlisted rows h in
       scanned old.now t tests (col 1 0 ∷ []) params rows read
 
   pub unchanged : (rows : List Row) → Shown sql params old new rows → IsUnchanged old new
   unchanged rows h = shown_same sql params old new rows (subst (λ s. IsPlain (understood s sql)) (sym has) finds.plain) h
 
 -- as many rows are found as pass
-pub count_found : (sql : List ℕ) (t : ℕ) (tests : List Term) → Selects vault_schema sql (rowids_where t tests) → (params : Row) (old new : State) → old.now.schema ≡ vault_schema → (rows : List Row) → Shown sql params old new rows
+pub count_found : (schema : Schema) (sql : List ℕ) (t : ℕ) (tests : List Term) → Selects schema sql (rowids_where t tests) → (params : Row) (old new : State) → old.now.schema ≡ schema → (rows : List Row) → Shown sql params old new rows
     → length rows ≡ 1 → length (filter (passes tests params) (old.now.trees t)) ≡ 1
-count_found sql t tests finds params old new has rows h one =
-    let same = length_permutation _ rows (found sql t tests finds params old new has rows h) in
+count_found schema sql t tests finds params old new has rows h one =
+    let same = length_permutation _ rows (found schema sql t tests finds params old new has rows h) in
     sym (length-map _ _) ∙ sym same ∙ one
 
 -- ---- rows with a rowid of their own

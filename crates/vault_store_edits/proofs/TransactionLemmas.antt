@@ -1,5 +1,5 @@
 -- The ends of a transaction.
-use Rattle.std.proofs.Common.{◌≡◌, ℕ, List, inl, inr, true, false, Ok, Err, Result, IsTrue, OnOk, OnErr, IfErr, sym, ap, subst, ◌∙◌}
+use Rattle.std.proofs.Common.{◌≡◌, ℕ, Bool, List, inl, inr, true, false, Ok, Err, Result, IsTrue, OnOk, OnErr, IfErr, sym, ap, subst, ◌∙◌}
 use Rattle.sqlite_trees.specs.declared.store.Store.{Ghosts}
 use Rattle.sqlite_trees.specs.Tree.{Trees}
 use Rattle.sqlite.specs.declared.error.Error.{Error}
@@ -29,21 +29,21 @@ kept_refused old new sql params e (inl it) = kept_unchanged old new it.1
 kept_refused old new sql params e (inr it) = kept_undone old new it.3
 
 -- a part that is made where nothing had been changed
-pub ready_there : (old mid : State) → IsUnchanged old mid → IsLive old → old.now.schema ≡ vault_schema → IsReady mid
-ready_there old mid same live has = record {
+pub ready_there : (external : Bool) (old mid : State) → IsUnchanged old mid → IsLive old → old.now.schema ≡ vault_schema external → IsReady external mid
+ready_there external old mid same live has = record {
   is_open = same.0.is_open;
   schema = ap (λ (d : Database). d.schema) same.0.now_is ∙ has;
   sound = subst IsDatabase (sym same.0.now_is) (live same.0.was_open).0;
 }
 
-pub edits_there : (old mid new : State) (edit : Rows → Rows) → IsUnchanged old mid → Edits mid new edit → Edits old new edit
-edits_there old mid new edit same e = record {
+pub edits_there : (external : Bool) (old mid new : State) (edit : Rows → Rows) → IsUnchanged old mid → Edits external mid new edit → Edits external old new edit
+edits_there external old mid new edit same e = record {
   was_open = same.0.was_open;
   is_open = e.is_open;
   inside = e.inside;
   committed = e.committed ∙ same.0.committed_is;
   schema = λ has. e.schema (ap (λ (d : Database). d.schema) same.0.now_is ∙ has);
-  rows = λ has. subst (λ db. AreSameRows (edit (rows_in db)) (rows_in new.now)) same.0.now_is (e.rows (ap (λ (d : Database). d.schema) same.0.now_is ∙ has));
+  rows = λ has. subst (λ db. AreSameRows (edit (rows_in external db)) (rows_in external new.now)) same.0.now_is (e.rows (ap (λ (d : Database). d.schema) same.0.now_is ∙ has));
   ignores = e.ignores;
 }
 
@@ -64,23 +64,23 @@ module _ {S : Type 0} (g : Ghosts S) (old : Held S) where
       (subst (λ db. AreSound db v) (sym (now ∙ keeps.1)) keeps.0, committed)
 
   -- the parts, and then the commit
-  module _ (last : State) (edit : Rows → Rows) (parts : Edits begun last edit) (sound : IsDatabase last.now) where
-    pub commit_keeps : (end : State) → Shows last end last.now last.now false → Commits (state g old) end edit
+  module _ (external : Bool) (last : State) (edit : Rows → Rows) (parts : Edits external begun last edit) (sound : IsDatabase last.now) where
+    pub commit_keeps : (end : State) → Shows last end last.now last.now false → Commits external (state g old) end edit
     commit_keeps end done = record {
       was_open = parts.was_open;
       is_open = done.is_open;
       committed = done.committed_is ∙ sym done.now_is;
       schema = λ has. ap (λ (d : Database). d.schema) done.now_is ∙ parts.schema has;
       listed = λ has. subst IsDatabase (sym done.now_is) sound;
-      rows = λ has. subst (λ db. AreSameRows (edit (rows_in (state g old).now)) (rows_in db)) (sym done.now_is) (parts.rows has);
+      rows = λ has. subst (λ db. AreSameRows (edit (rows_in external (state g old).now)) (rows_in external db)) (sym done.now_is) (parts.rows has);
       ignores = parts.ignores;
     }
 
-    pub commit_leaves : (trees : Trees) → trees ≡ last.now.trees → MayCommit (state g old) edit trees
+    pub commit_leaves : (trees : Trees) → trees ≡ last.now.trees → MayCommit external (state g old) edit trees
     commit_leaves trees same = record {
       was_open = parts.was_open;
       listed = λ has. rw same (subst (λ s. IsDatabase (record { schema = s; trees = last.now.trees })) (parts.schema has) sound);
-      rows = λ has. rw same (parts.rows has);
+      rows = λ has. rw same (subst (λ s. AreSameRows (edit (rows_in external (state g old).now)) (rows_in external (record { schema = s; trees = last.now.trees }))) (parts.schema has) (parts.rows has));
       ignores = parts.ignores;
     }
 
@@ -92,9 +92,9 @@ pub on_err_then : {A E : Type 0} {P : E → Type 0} {Q : Type 0} (r : Result A E
 on_err_then (Ok a) p f = tt
 on_err_then (Err e) p f = f e p
 
-pub on_ok_given : {A E : Type 0} {P R : Type 0} (Q : Type 0) (r : Result A E) → R → (P → OnOk r Q) → OnOk r (R × (P → Q))
-on_ok_given Q (Ok a) h f = (h, f)
-on_ok_given Q (Err e) h f = tt
+pub on_ok_given : {X A E R : Type 0} (P Q : X → Type 0) (r : Result A E) → R → ((x : X) → P x → OnOk r (Q x)) → OnOk r (R × ((x : X) → P x → Q x))
+on_ok_given P Q (Ok a) h f = (h, f)
+on_ok_given P Q (Err e) h f = tt
 
 pub on_err_all : {A E : Type 0} {P Q : Type 0} (r : Result A E) → OnErr r P → (P → Q) → OnErr r Q
 on_err_all (Ok a) p f = tt
@@ -113,5 +113,5 @@ on_err_given Q (Ok a) f = tt
 on_err_given Q (Err e) f = f
 
 -- what fails after an edit commits nothing either
-pub kept_after : (old mid new : State) (edit : Rows → Rows) → Edits old mid edit → KeepsCommit mid new → KeepsCommit old new
-kept_after old mid new edit e kept = record { was_open = λ _. e.was_open; committed = λ is_open. kept.committed is_open ∙ e.committed }
+pub kept_after : (external : Bool) (old mid new : State) (edit : Rows → Rows) → Edits external old mid edit → KeepsCommit mid new → KeepsCommit old new
+kept_after external old mid new edit e kept = record { was_open = λ _. e.was_open; committed = λ is_open. kept.committed is_open ∙ e.committed }

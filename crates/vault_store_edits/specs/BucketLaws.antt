@@ -1,7 +1,6 @@
 -- What the statement that puts a row of buckets in does.
-use Rattle.std.proofs.Common.{◌≡◌, refl}
+use Rattle.std.proofs.Common.{◌≡◌, Bool, refl}
 use Rattle.sqlite_tied.specs.Compute.{everything}
-use Rattle.sqlite.specs.Listing.{understood}
 use Rattle.sqlite_schema.specs.declared.schema.Kind.TheVariants as kind
 use Rattle.sqlite_rules.specs.Cast.{cast}
 use Rattle.vault_base.specs.declared.refusal.Table.TheVariants as table
@@ -10,14 +9,13 @@ use Rattle.vault_audit_model.specs.Rows.{bucket_row, default_mode, default_days,
 use Rattle.vault_audit_model.specs.Tables.{buckets}
 use Rattle.vault_audit_model.proofs.ValueLemmas.{cast_null}
 use Rattle.vault_store_edits.specs.Casts.{cast_number, cast_number_or_null}
+use Rattle.vault_store_edits.specs.Insertions.{insertion}
 use Rattle.vault_store_edits.specs.Inserts.{Inserts}
 
-pub bucket_inserts : (b : BucketRow) → Inserts table.Buckets buckets (bucket_row b)
-unfolding understood everything
-bucket_inserts b = record {
-  command = refl;
-  plain = (refl, refl);
-  places = λ limit mode text db out h. h;
+pub bucket_inserts : (external : Bool) (b : BucketRow) → Inserts external table.Buckets buckets (bucket_row b)
+unfolding everything
+bucket_inserts external b = record {
+  text = insertion external table.Buckets refl;
   one = refl;
   here = refl;
   reads_so = λ rows.

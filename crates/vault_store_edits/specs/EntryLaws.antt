@@ -1,7 +1,6 @@
 -- What the statement that puts a row of entries in does.
-use Rattle.std.proofs.Common.{◌≡◌, refl}
+use Rattle.std.proofs.Common.{◌≡◌, Bool, refl}
 use Rattle.sqlite_tied.specs.Compute.{everything}
-use Rattle.sqlite.specs.Listing.{understood}
 use Rattle.sqlite_schema.specs.declared.schema.Kind.TheVariants as kind
 use Rattle.sqlite_rules.specs.Cast.{cast}
 use Rattle.vault_base.specs.declared.refusal.Table.TheVariants as table
@@ -9,14 +8,13 @@ use Rattle.vault_core_model.specs.declared.records.Entry.{Entry}
 use Rattle.vault_audit_model.specs.Rows.{entry_row, removal_at, removal_cause, removal_by}
 use Rattle.vault_audit_model.specs.Tables.{entries}
 use Rattle.vault_store_edits.specs.Casts.{cast_number, cast_number_or_null, cast_flag, cast_text_or_null, cast_kind, cast_name}
+use Rattle.vault_store_edits.specs.Insertions.{insertion}
 use Rattle.vault_store_edits.specs.Inserts.{Inserts}
 
-pub entry_inserts : (e : Entry) → Inserts table.Entries entries (entry_row e)
-unfolding understood everything
-entry_inserts e = record {
-  command = refl;
-  plain = (refl, refl);
-  places = λ limit mode text db out h. h;
+pub entry_inserts : (external : Bool) (e : Entry) → Inserts external table.Entries entries (entry_row e)
+unfolding everything
+entry_inserts external e = record {
+  text = insertion external table.Entries refl;
   one = refl;
   here = refl;
   reads_so = λ rows.

@@ -8,6 +8,7 @@ pub mod Inside
 pub mod Typed
 pub mod Casts
 pub mod Inserts
+pub mod Insertions
 pub mod DepartmentLaws
 pub mod CallerLaws
 pub mod BucketLaws
@@ -18,4 +19,5 @@ pub mod SettingLaws
 pub mod NoteLaws
 pub mod HeadLaws
 pub mod TenureLaws
+pub mod ExternalLaws
 pub mod NewRows

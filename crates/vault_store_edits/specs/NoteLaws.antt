@@ -1,7 +1,6 @@
 -- What the statement that puts a row of intake in does.
-use Rattle.std.proofs.Common.{◌≡◌, refl}
+use Rattle.std.proofs.Common.{◌≡◌, Bool, refl}
 use Rattle.sqlite_tied.specs.Compute.{everything}
-use Rattle.sqlite.specs.Listing.{understood}
 use Rattle.sqlite_schema.specs.declared.schema.Kind.TheVariants as kind
 use Rattle.sqlite_rules.specs.Cast.{cast}
 use Rattle.vault_base.specs.declared.refusal.Table.TheVariants as table
@@ -10,14 +9,13 @@ use Rattle.vault_audit_model.specs.Rows.{note_row, retention_mode, retention_unt
 use Rattle.vault_audit_model.specs.Tables.{intake}
 use Rattle.vault_audit_model.proofs.ValueLemmas.{cast_null}
 use Rattle.vault_store_edits.specs.Casts.{cast_number, cast_number_or_null, cast_flag_or_null}
+use Rattle.vault_store_edits.specs.Insertions.{insertion}
 use Rattle.vault_store_edits.specs.Inserts.{Inserts}
 
-pub note_inserts : (n : Note) → Inserts table.Intake intake (note_row n)
-unfolding understood everything
-note_inserts n = record {
-  command = refl;
-  plain = (refl, refl);
-  places = λ limit mode text db out h. h;
+pub note_inserts : (external : Bool) (n : Note) → Inserts external table.Intake intake (note_row n)
+unfolding everything
+note_inserts external n = record {
+  text = insertion external table.Intake refl;
   one = refl;
   here = refl;
   reads_so = λ rows.

@@ -1,7 +1,6 @@
 -- What the statement that puts a row of rules in does.
-use Rattle.std.proofs.Common.{◌≡◌, refl}
+use Rattle.std.proofs.Common.{◌≡◌, Bool, refl}
 use Rattle.sqlite_tied.specs.Compute.{everything}
-use Rattle.sqlite.specs.Listing.{understood}
 use Rattle.sqlite_schema.specs.declared.schema.Kind.TheVariants as kind
 use Rattle.sqlite_rules.specs.Cast.{cast}
 use Rattle.vault_base.specs.declared.refusal.Table.TheVariants as table
@@ -11,14 +10,13 @@ use Rattle.vault_audit_model.specs.Tables.{rules}
 use Rattle.vault_audit_model.specs.Values.{number_or_null}
 use Rattle.vault_audit_model.proofs.ValueLemmas.{cast_null}
 use Rattle.vault_store_edits.specs.Casts.{cast_number, cast_number_or_null, cast_flag}
+use Rattle.vault_store_edits.specs.Insertions.{insertion}
 use Rattle.vault_store_edits.specs.Inserts.{Inserts}
 
-pub rule_inserts : (r : RuleRow) → Inserts table.Rules rules (rule_row r)
-unfolding understood everything
-rule_inserts r = record {
-  command = refl;
-  plain = (refl, refl);
-  places = λ limit mode text db out h. h;
+pub rule_inserts : (external : Bool) (r : RuleRow) → Inserts external table.Rules rules (rule_row r)
+unfolding everything
+rule_inserts external r = record {
+  text = insertion external table.Rules refl;
   one = refl;
   here = refl;
   reads_so = λ rows.

@@ -1,7 +1,6 @@
 -- What the statement that puts a row of settings in does.
-use Rattle.std.proofs.Common.{◌≡◌, refl}
+use Rattle.std.proofs.Common.{◌≡◌, Bool, refl}
 use Rattle.sqlite_tied.specs.Compute.{everything}
-use Rattle.sqlite.specs.Listing.{understood}
 use Rattle.sqlite_schema.specs.declared.schema.Kind.TheVariants as kind
 use Rattle.sqlite_rules.specs.Cast.{cast}
 use Rattle.vault_base.specs.declared.refusal.Table.TheVariants as table
@@ -10,14 +9,13 @@ use Rattle.vault_audit_model.specs.Rows.{setting_row, retention_mode, retention_
 use Rattle.vault_audit_model.specs.Tables.{settings}
 use Rattle.vault_audit_model.proofs.ValueLemmas.{cast_null}
 use Rattle.vault_store_edits.specs.Casts.{cast_number, cast_number_or_null, cast_flag}
+use Rattle.vault_store_edits.specs.Insertions.{insertion}
 use Rattle.vault_store_edits.specs.Inserts.{Inserts}
 
-pub setting_inserts : (s : SettingRow) → Inserts table.Settings settings (setting_row s)
-unfolding understood everything
-setting_inserts s = record {
-  command = refl;
-  plain = (refl, refl);
-  places = λ limit mode text db out h. h;
+pub setting_inserts : (external : Bool) (s : SettingRow) → Inserts external table.Settings settings (setting_row s)
+unfolding everything
+setting_inserts external s = record {
+  text = insertion external table.Settings refl;
   one = refl;
   here = refl;
   reads_so = λ rows.

@@ -49,7 +49,7 @@ impl<'a> Put for NewBucket<'a> {
         )
     }
 
-    ghost inserts = { λ x. bucket_inserts (new_bucket x.name.now x.dept.now) };
+    ghost inserts = { λ external there x. bucket_inserts external (new_bucket x.name.now x.dept.now) };
 }
 
 /// Puts in a bucket of a department, with no default retention.

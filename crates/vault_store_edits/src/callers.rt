@@ -40,7 +40,7 @@ impl Put for Caller {
         )
     }
 
-    ghost inserts = { caller_inserts };
+    ghost inserts = { λ external there. caller_inserts external };
 }
 
 /// Puts in a caller.

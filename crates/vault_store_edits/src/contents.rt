@@ -40,7 +40,7 @@ impl<'a> Put for NewContent<'a> {
         )
     }
 
-    ghost inserts = { λ x. content_inserts (record { id = x.id; content = x.content.now }) };
+    ghost inserts = { λ external there x. content_inserts external (record { id = x.id; content = x.content.now }) };
 }
 
 /// Puts in the bytes of a version.

@@ -43,7 +43,7 @@ impl<'a> Put for NewDepartment<'a> {
         )
     }
 
-    ghost inserts = { λ x. department_inserts (new_department x.name.now) };
+    ghost inserts = { λ external there x. department_inserts external (new_department x.name.now) };
 }
 
 /// Puts in a department with nothing admitted.

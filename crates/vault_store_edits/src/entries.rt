@@ -55,7 +55,7 @@ impl Put for Entry {
         )
     }
 
-    ghost inserts = { entry_inserts };
+    ghost inserts = { λ external there. entry_inserts external };
 }
 
 /// Puts in an entry, with its removal if it has one. `TooBig` where its size is 2^63 or more.

@@ -48,7 +48,7 @@ impl<'a> Put for NewHead<'a> {
         )
     }
 
-    ghost inserts = { λ x. head_inserts (record { bucket = x.bucket.now; key = x.key.now; head = x.head.now }) };
+    ghost inserts = { λ external there x. head_inserts external (record { bucket = x.bucket.now; key = x.key.now; head = x.head.now }) };
 }
 
 /// Puts in the head of a key. `TooBig` where its count is 2^63 or more.

@@ -44,7 +44,7 @@ impl Put for Note {
         )
     }
 
-    ghost inserts = { note_inserts };
+    ghost inserts = { λ external there. note_inserts external };
 }
 
 /// Puts in the note of an accepted line. `TooBig` where its size is 2^63 or more.

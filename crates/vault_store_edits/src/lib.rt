@@ -11,6 +11,7 @@ pub mod contents;
 pub mod departments;
 pub mod entries;
 pub mod entry_parameters;
+pub mod external;
 pub mod heads;
 pub mod intake;
 mod laws;

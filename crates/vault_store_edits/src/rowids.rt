@@ -2,19 +2,18 @@
 //!
 //! A statement names its rows by their rowids, and no clause of `sqlite` says that these differ. So
 //! those of the rows that it is to find are looked up first.
-ghost use Rattle.std.specs.Prelude.{◌≡◌, IsTrue, OnOk, List, [], ◌∷◌};
+ghost use Rattle.std.specs.Prelude.{◌≡◌, Bool, IsTrue, OnOk, List, [], ◌∷◌};
 ghost use Rattle.std.specs.List.{AllByRecursion};
 ghost use Rattle.sqlite_sql.specs.Term.{Term};
 ghost use Rattle.sqlite.specs.State.{HasCleanDisk, IsUnchanged, KeepsCommit, Survives};
 ghost use Rattle.sqlite.specs.Held.{state};
 ghost use Rattle.sqlite.specs.Values.{bound};
-ghost use Rattle.vault_audit_model.specs.Queries.{Selects};
 ghost use Rattle.vault_audit_model.specs.Tables.{vault_schema};
 ghost use Rattle.vault_audit_model.specs.Values.{number};
 ghost use Rattle.vault_store_edits.specs.Trees.{tree_of};
 ghost use Rattle.vault_store_edits.specs.UniqueRowids.{HaveUniqueRowids};
 ghost use Rattle.vault_store_model.specs.Scans.{passes};
-ghost use Rattle.vault_store_edits.specs.Queries.{Stands, rowid_text, rowids_where};
+ghost use Rattle.vault_store_edits.specs.Queries.{SelectsIfKnown, Stands, rowid_text, rowids_where};
 
 use sqlite::types::ValueRef;
 use sqlite::{Alter, Error, ErrorCode, Row, Transaction, params};
@@ -37,13 +36,14 @@ fn by_rowid(table: Table) -> &'static str
         Table::Intake => "SELECT rowid FROM intake WHERE rowid = ?1",
         Table::Heads => "SELECT rowid FROM heads WHERE rowid = ?1",
         Table::Tenures => "SELECT rowid FROM tenures WHERE rowid = ?1",
+        Table::External => "SELECT rowid FROM external WHERE rowid = ?1",
     }
 }
 
 /// Refuses a row that shows no rowid, or one that another row of the table has too.
 fn check_row<S: Alter>(tx: &mut Transaction<'_, S>, table: Table, row: &Row) -> Result<(), Error>
     ensures same_reference { tx.new.conn.ghost_name ≡ tx.old.conn.ghost_name }
-    ensures stands { HasCleanDisk (state S.Store tx.new.conn.now) → (state S.Store tx.old.conn.now).now.schema ≡ vault_schema
+    ensures stands { (external : Bool) → HasCleanDisk (state S.Store tx.new.conn.now) → (state S.Store tx.old.conn.now).now.schema ≡ vault_schema external
         → OnOk result (IsUnchanged (state S.Store tx.old.conn.now) (state S.Store tx.new.conn.now) × Stands ((state S.Store tx.old.conn.now).now.trees (tree_of table)) row.now) }
     ensures kept { HasCleanDisk (state S.Store tx.new.conn.now) → IsTrue tx.old.conn.now.in_transaction → KeepsCommit (state S.Store tx.old.conn.now) (state S.Store tx.new.conn.now) }
     ensures inside { HasCleanDisk (state S.Store tx.new.conn.now) → IsTrue tx.old.conn.now.in_transaction → OnOk result (IsTrue tx.new.conn.now.in_transaction) }
@@ -65,7 +65,7 @@ fn check_rows<S: Alter>(
     rows: &[Row],
 ) -> Result<(), Error>
     ensures same_reference { tx.new.conn.ghost_name ≡ tx.old.conn.ghost_name }
-    ensures stand { HasCleanDisk (state S.Store tx.new.conn.now) → (state S.Store tx.old.conn.now).now.schema ≡ vault_schema → IsTrue (state S.Store tx.old.conn.now).is_open
+    ensures stand { (external : Bool) → HasCleanDisk (state S.Store tx.new.conn.now) → (state S.Store tx.old.conn.now).now.schema ≡ vault_schema external → IsTrue (state S.Store tx.old.conn.now).is_open
         → OnOk result (IsUnchanged (state S.Store tx.old.conn.now) (state S.Store tx.new.conn.now) × AllByRecursion (Stands ((state S.Store tx.old.conn.now).now.trees (tree_of table))) rows.now) }
     ensures kept { HasCleanDisk (state S.Store tx.new.conn.now) → IsTrue tx.old.conn.now.in_transaction → KeepsCommit (state S.Store tx.old.conn.now) (state S.Store tx.new.conn.now) }
     ensures inside { HasCleanDisk (state S.Store tx.new.conn.now) → IsTrue tx.old.conn.now.in_transaction → OnOk result (IsTrue tx.new.conn.now.in_transaction) }
@@ -87,8 +87,8 @@ pub fn check_rowids<S: Alter>(
     params: &[ValueRef<'_>],
 ) -> Result<(), Error>
     ensures same_reference { tx.new.conn.ghost_name ≡ tx.old.conn.ghost_name }
-    ensures unique { HasCleanDisk (state S.Store tx.new.conn.now) → (state S.Store tx.old.conn.now).now.schema ≡ vault_schema
-        → (tests : List Term) → Selects vault_schema sql.now (rowids_where (tree_of table) tests)
+    ensures unique { (external : Bool) → HasCleanDisk (state S.Store tx.new.conn.now) → (state S.Store tx.old.conn.now).now.schema ≡ vault_schema external
+        → (tests : List Term) → SelectsIfKnown (vault_schema external) sql.now (rowids_where (tree_of table) tests)
         → OnOk result (IsUnchanged (state S.Store tx.old.conn.now) (state S.Store tx.new.conn.now)
         × HaveUniqueRowids (passes tests (bound params.now)) ((state S.Store tx.old.conn.now).now.trees (tree_of table))) }
     ensures kept { HasCleanDisk (state S.Store tx.new.conn.now) → IsTrue tx.old.conn.now.in_transaction → KeepsCommit (state S.Store tx.old.conn.now) (state S.Store tx.new.conn.now) }
@@ -107,8 +107,8 @@ pub fn check_id<S: Alter>(
     id: VersionId,
 ) -> Result<(), Error>
     ensures same_reference { tx.new.conn.ghost_name ≡ tx.old.conn.ghost_name }
-    ensures unique { HasCleanDisk (state S.Store tx.new.conn.now) → (state S.Store tx.old.conn.now).now.schema ≡ vault_schema
-        → (tests : List Term) → Selects vault_schema sql.now (rowids_where (tree_of table) tests)
+    ensures unique { (external : Bool) → HasCleanDisk (state S.Store tx.new.conn.now) → (state S.Store tx.old.conn.now).now.schema ≡ vault_schema external
+        → (tests : List Term) → SelectsIfKnown (vault_schema external) sql.now (rowids_where (tree_of table) tests)
         → OnOk result (IsUnchanged (state S.Store tx.old.conn.now) (state S.Store tx.new.conn.now)
         × HaveUniqueRowids (passes tests (number id ∷ [])) ((state S.Store tx.old.conn.now).now.trees (tree_of table))) }
     ensures kept { HasCleanDisk (state S.Store tx.new.conn.now) → IsTrue tx.old.conn.now.in_transaction → KeepsCommit (state S.Store tx.old.conn.now) (state S.Store tx.new.conn.now) }

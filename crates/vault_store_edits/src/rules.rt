@@ -1,5 +1,5 @@
 //! Rows of `rules`.
-ghost use Rattle.std.specs.Prelude.{◌≡◌, map, IsTrue, OnOk};
+ghost use Rattle.std.specs.Prelude.{◌≡◌, Bool, map, IsTrue, OnOk};
 ghost use Rattle.std.specs.List.{AllByRecursion};
 ghost use Rattle.sqlite.specs.Effect.{IsDatabase};
 ghost use Rattle.sqlite.specs.State.{HasCleanDisk, Survives};
@@ -84,7 +84,7 @@ impl<'a> Put for NewRule<'a> {
         )
     }
 
-    ghost inserts = { λ x. rule_inserts (record { bucket = x.bucket.now; place = x.place; rule = x.rule.now }) };
+    ghost inserts = { λ external there x. rule_inserts external (record { bucket = x.bucket.now; place = x.place; rule = x.rule.now }) };
 }
 
 /// Puts in a rule of a bucket at its place, counted from 1.
@@ -115,10 +115,10 @@ pub fn put_rules<S: Alter>(
     rules: &[Rule],
 ) -> Result<(), Error>
     ensures same_reference { tx.new.conn.ghost_name ≡ tx.old.conn.ghost_name }
-    ensures edits { HasCleanDisk (state S.Store tx.new.conn.now) → IsTrue tx.old.conn.now.in_transaction → IsTrue (state S.Store tx.old.conn.now).is_open
-        → OnOk result (Edits (state S.Store tx.old.conn.now) (state S.Store tx.new.conn.now) (with_each table.Rules (map rule_row (rules_from bucket.now 1 rules.now)))) }
-    ensures sound { HasCleanDisk (state S.Store tx.new.conn.now) → IsTrue tx.old.conn.now.in_transaction
-        → (state S.Store tx.old.conn.now).now.schema ≡ vault_schema → IsDatabase (state S.Store tx.old.conn.now).now → OnOk result (IsDatabase (state S.Store tx.new.conn.now).now) }
+    ensures edits { (external : Bool) → HasCleanDisk (state S.Store tx.new.conn.now) → IsTrue tx.old.conn.now.in_transaction → IsTrue (state S.Store tx.old.conn.now).is_open
+        → OnOk result (Edits external (state S.Store tx.old.conn.now) (state S.Store tx.new.conn.now) (with_each table.Rules (map rule_row (rules_from bucket.now 1 rules.now)))) }
+    ensures sound { (external : Bool) → HasCleanDisk (state S.Store tx.new.conn.now) → IsTrue tx.old.conn.now.in_transaction
+        → (state S.Store tx.old.conn.now).now.schema ≡ vault_schema external → IsDatabase (state S.Store tx.old.conn.now).now → OnOk result (IsDatabase (state S.Store tx.new.conn.now).now) }
     ensures kept { CommitsNothing S.Store tx.old.conn.now tx.new.conn.now result }
     ensures survives { Survives (state S.Store tx.old.conn.now) (state S.Store tx.new.conn.now) (λ _. ⊥) }
     ensures limits { OnOk result (AllByRecursion IsTypedRule rules.now) }

@@ -49,7 +49,7 @@ impl<'a> Put for NewSetting<'a> {
         )
     }
 
-    ghost inserts = { λ x. setting_inserts (record { id = x.id; place = x.place; setting = x.setting.now }) };
+    ghost inserts = { λ external there x. setting_inserts external (record { id = x.id; place = x.place; setting = x.setting.now }) };
 }
 
 /// Puts in a setting of a version at its place, counted from 1.

@@ -46,7 +46,7 @@ impl<'a> Put for NewTenure<'a> {
         )
     }
 
-    ghost inserts = { λ x. tenure_inserts (record { id = x.id; tenure = x.tenure.now }) };
+    ghost inserts = { λ external there x. tenure_inserts external (record { id = x.id; tenure = x.tenure.now }) };
 }
 
 /// Puts in a tenure of a version.

@@ -1,5 +1,5 @@
 //! An edit of the tables, made as a whole or not at all.
-ghost use Rattle.std.specs.Prelude.{◌≡◌, false, IsTrue, OnOk, OnErr};
+ghost use Rattle.std.specs.Prelude.{◌≡◌, Bool, false, IsTrue, OnOk, OnErr};
 ghost use Rattle.sqlite_trees.specs.Tree.{Trees};
 ghost use Rattle.sqlite.specs.Effect.{IsDatabase};
 ghost use Rattle.sqlite.specs.Held.{state};
@@ -14,7 +14,7 @@ use crate::laws::connection_is_open;
 use sqlite::{Alter, Connection, Error, Transaction};
 use vault_audit_laws::connection::tables_obey_their_schema;
 
-/// What is done inside a transaction.
+/// What is done inside a transaction, over the tables of a vault: one that registers contents which are kept outside, or not.
 pub trait Part<S: Alter> {
     ghost use Rattle.vault_store_model.specs.Rows.{Rows};
 
@@ -26,8 +26,8 @@ pub trait Part<S: Alter> {
 
     fn make(&self, tx: &mut Transaction<'_, S>) -> Result<(), Error>
         ensures same_reference { tx.new.conn.ghost_name ≡ tx.old.conn.ghost_name }
-        ensures edits { HasCleanDisk (state S.Store tx.new.conn.now) → IsTrue tx.old.conn.now.in_transaction → IsReady (state S.Store tx.old.conn.now)
-            → OnOk result (Edits (state S.Store tx.old.conn.now) (state S.Store tx.new.conn.now) (edit self.now) × IsDatabase (state S.Store tx.new.conn.now).now) }
+        ensures edits { (external : Bool) → HasCleanDisk (state S.Store tx.new.conn.now) → IsTrue tx.old.conn.now.in_transaction → IsReady external (state S.Store tx.old.conn.now)
+            → OnOk result (Edits external (state S.Store tx.old.conn.now) (state S.Store tx.new.conn.now) (edit self.now) × IsDatabase (state S.Store tx.new.conn.now).now) }
         ensures limited { OnOk result (limits self.now) }
         ensures kept { CommitsNoPart S.Store tx.old.conn.now tx.new.conn.now result }
         ensures survives { Survives (state S.Store tx.old.conn.now) (state S.Store tx.new.conn.now) (λ _. ⊥) };
@@ -37,10 +37,10 @@ pub trait Part<S: Alter> {
 fn make_open<S: Alter, P: Part<S>>(tx: &mut Transaction<'_, S>, part: &P) -> Result<(), Error>
     ensures same_reference { tx.new.conn.ghost_name ≡ tx.old.conn.ghost_name }
     ensures edits { HasCleanDisk (state S.Store tx.new.conn.now) → IsTrue tx.old.conn.now.in_transaction → IsLive (state S.Store tx.old.conn.now)
-        → OnOk result (IsTrue (state S.Store tx.old.conn.now).is_open × ((state S.Store tx.old.conn.now).now.schema ≡ vault_schema → Edits (state S.Store tx.old.conn.now) (state S.Store tx.new.conn.now) (P.edit part.now) × IsDatabase (state S.Store tx.new.conn.now).now)) }
+        → OnOk result (IsTrue (state S.Store tx.old.conn.now).is_open × ((external : Bool) → (state S.Store tx.old.conn.now).now.schema ≡ vault_schema external → Edits external (state S.Store tx.old.conn.now) (state S.Store tx.new.conn.now) (P.edit part.now) × IsDatabase (state S.Store tx.new.conn.now).now)) }
     ensures limited { OnOk result (P.limits part.now) }
-    ensures kept { HasCleanDisk (state S.Store tx.new.conn.now) → IsTrue tx.old.conn.now.in_transaction → IsLive (state S.Store tx.old.conn.now)
-        → OnErr result ((IsTrue (state S.Store tx.old.conn.now).is_open → (state S.Store tx.old.conn.now).now.schema ≡ vault_schema) → KeepsCommit (state S.Store tx.old.conn.now) (state S.Store tx.new.conn.now)) }
+    ensures kept { (external : Bool) → HasCleanDisk (state S.Store tx.new.conn.now) → IsTrue tx.old.conn.now.in_transaction → IsLive (state S.Store tx.old.conn.now)
+        → OnErr result ((IsTrue (state S.Store tx.old.conn.now).is_open → (state S.Store tx.old.conn.now).now.schema ≡ vault_schema external) → KeepsCommit (state S.Store tx.old.conn.now) (state S.Store tx.new.conn.now)) }
     ensures survives { Survives (state S.Store tx.old.conn.now) (state S.Store tx.new.conn.now) (λ _. ⊥) }
 {
     connection_is_open(tx)?;

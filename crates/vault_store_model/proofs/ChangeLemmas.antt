@@ -33,13 +33,15 @@ use Rattle.vault_store_model.specs.Rows.{AreSameRows, HasRows, rows_in, rows_of}
 use Rattle.vault_store_model.specs.Edits.{and_then, at_moment}
 use Rattle.vault_store_model.specs.Changes.{edit_of, headed, head_with, others_at, with_move, without_entry}
 use Rattle.vault_store_model.specs.Limits.{IsChangeInLimits}
+use Rattle.vault_store_model.proofs.AdmissionLemmas.{admitted_alike}
 use Rattle.vault_store_model.proofs.BesideLemmas.{beside_heads}
 use Rattle.vault_store_model.proofs.ConfigLemmas.{default_set, rules_set}
 use Rattle.vault_store_model.proofs.EntryLemmas.{found_history, each_is}
-use Rattle.vault_store_model.proofs.KeptLemmas.{kept_changed}
+use Rattle.vault_store_model.proofs.KeptLemmas.{external_changed, kept_changed}
 use Rattle.vault_store_model.proofs.ListLemmas.{map_unread, filter-append}
 use Rattle.vault_store_model.proofs.OrderLemmas.{edit_ignores}
 use Rattle.vault_store_model.proofs.RecordLemmas.{dept_added, caller_added, caller_closed, bucket_added}
+use Rattle.vault_store_model.proofs.RemovalLemmas.{removed_alike}
 use Rattle.vault_store_model.proofs.HeadsByEntry.{held_of_key, heads_by, heads_are, last_of, head_over_entries, head_of_entries}
 use Rattle.vault_store_model.proofs.HeadLemmas.{heads_changed}
 use Rattle.vault_store_model.proofs.HeadParts.{is_elsewhere}
@@ -118,8 +120,9 @@ elsewhere_admitted hs h =
 heads_of_admission : (v : Vault) (t : ℕ) (a : Admission) → Sound v → v.last ≤ t → IsAdmission v t a → IsPermutation (rows_of (changed v t (Admit a)) table.Heads) (edit_of v t (Admit a) (rows_of v) table.Heads)
 heads_of_admission v t a sound later is =
     let e = a.history.entry in
-    subst (λ (o : Option Head). IsPermutation (map head_row (heads_in (changed v t (Admit a)))) (headed e.bucket e.key (head_of v e.bucket e.key) o (map head_row (heads_in v)))) (head_admitted v t a is.held)
-    (heads_changed v (changed v t (Admit a)) e.bucket e.key sound.ids (Sound-changed v t (Admit a) sound later is).ids (elsewhere_admitted v.histories a.history))
+    subst (IsPermutation (map head_row (heads_in (changed v t (Admit a))))) (sym (admitted_alike v.external v t a (rows_of v) table.Heads refl))
+    (subst (λ (o : Option Head). IsPermutation (map head_row (heads_in (changed v t (Admit a)))) (headed e.bucket e.key (head_of v e.bucket e.key) o (map head_row (heads_in v)))) (head_admitted v t a is.held)
+    (heads_changed v (changed v t (Admit a)) e.bucket e.key sound.ids (Sound-changed v t (Admit a) sound later is).ids (elsewhere_admitted v.histories a.history)))
 
 -- ---- a removal
 
@@ -179,9 +182,10 @@ heads_of_removal v t id r sound later is =
     let e = g.entry in
     let there : entry_of v id ≡ Some e = held.1 ∙ ap Some (sym found.2) in
     subst (λ (o : Option Entry). IsPermutation (rows_of (changed v t (Remove id r)) table.Heads) (and_then (without_entry v (changed v t (Remove id r)) id r o) (at_moment t) (rows_of v) table.Heads)) (sym there)
+    (subst (IsPermutation (map head_row (heads_in (changed v t (Remove id r))))) (sym (removed_alike v.external v t id r e (rows_of v) table.Heads refl))
     (subst (λ (o : Option Head). IsPermutation (map head_row (heads_in (changed v t (Remove id r)))) (headed e.bucket e.key (head_of v e.bucket e.key) o (map head_row (heads_in v)))) (head_removed v t id r e.bucket e.key)
     (heads_changed v (changed v t (Remove id r)) e.bucket e.key sound.ids (Sound-changed v t (Remove id r) sound later is).ids
-    (elsewhere_removed id r g v.histories (each_is v.histories id g sound.ids found.1))))
+    (elsewhere_removed id r g v.histories (each_is v.histories id g sound.ids found.1)))))
 
 -- ---- every change
 
@@ -203,10 +207,12 @@ rows_made v t c kept later allowed s = beside_heads v t c kept.sound allowed s r
 
 -- ---- databases
 
-pub rows_stated : (old new : Database) (v : Vault) (t : ℕ) (c : Change) → HasRows old v → v.last ≤ t → t ≤ last_moment → Allows v t c → IsChangeInLimits c → new.schema ≡ vault_schema
-    → AreSameRows (edit_of v t c (rows_in old)) (rows_in new) → HasRows new (changed v t c)
+pub rows_stated : (old new : Database) (v : Vault) (t : ℕ) (c : Change) → HasRows old v → v.last ≤ t → t ≤ last_moment → Allows v t c → IsChangeInLimits v.external c → new.schema ≡ vault_schema v.external
+    → AreSameRows (edit_of v t c (rows_in v.external old)) (rows_in v.external new) → HasRows new (changed v t c)
 rows_stated old new v t c has later low allowed given schema edited = record {
-  schema = schema;
-  rows = λ s. IsPermutation-trans _ _ _ (rows_made v t c has.kept later allowed s) (IsPermutation-trans _ _ _ (edit_ignores v t c (rows_of v) (rows_in old) has.rows s) (edited s));
+  schema = subst (λ external. new.schema ≡ vault_schema external) (sym (external_changed v t c)) schema;
+  rows =
+      subst (λ external. AreSameRows (rows_of (changed v t c)) (rows_in external new)) (sym (external_changed v t c))
+      (λ s. IsPermutation-trans _ _ _ (rows_made v t c has.kept later allowed s) (IsPermutation-trans _ _ _ (edit_ignores v t c (rows_of v) (rows_in v.external old) has.rows s) (edited s)));
   kept = kept_changed v t c has.kept later low allowed given;
 }

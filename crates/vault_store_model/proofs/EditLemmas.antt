@@ -9,7 +9,7 @@ use Rattle.vault_base.specs.declared.refusal.Table.{Table}
 use Rattle.vault_audit_model.specs.Order.{place_of}
 use Rattle.vault_store_model.specs.Rows.{Rows, AreSameRows, rows_in}
 use Rattle.vault_store_model.specs.Copies.{with_copies}
-use Rattle.vault_store_model.specs.Edits.{with_rows, with_row, with_changed, changed_if, without, and_then, IgnoresOrder, Edits}
+use Rattle.vault_store_model.specs.Edits.{with_rows, with_row, with_changed, changed_if, without, made_if, and_then, IgnoresOrder, Edits}
 
 -- an edit of one table's list of rows ignores the order, where it is so on lists
 by_table : (b : Bool) (edit : List Row → List Row) → ((xs ys : List Row) → IsPermutation xs ys → IsPermutation (edit xs) (edit ys)) → (xs ys : List Row) → IsPermutation xs ys
@@ -39,6 +39,10 @@ copies_by false test made xs ys us vs same alike = alike
 pub with_copies_ignores : (t from : Table) (test : Row → Bool) (made : Row → Row) → IgnoresOrder (with_copies t from test made)
 with_copies_ignores t from test made xs ys same s = copies_by (place_of t == place_of s) test made (xs from) (ys from) (xs s) (ys s) (same from) (same s)
 
+pub made_if_ignores : (b : Bool) (edit : Rows → Rows) → IgnoresOrder edit → IgnoresOrder (made_if b edit)
+made_if_ignores true edit ignores xs ys same = ignores xs ys same
+made_if_ignores false edit ignores xs ys same = same
+
 pub and_then_ignores : (first second : Rows → Rows) → IgnoresOrder first → IgnoresOrder second → IgnoresOrder (and_then first second)
 and_then_ignores first second a b xs ys same = b (first xs) (first ys) (a xs ys same)
 
@@ -46,13 +50,15 @@ pub same_rows_then : (xs ys zs : Rows) → AreSameRows xs ys → AreSameRows ys 
 same_rows_then xs ys zs a b t = IsPermutation-trans (xs t) (ys t) (zs t) (a t) (b t)
 
 -- one part of a transaction after the other
-pub edits_then : (old mid new : State) (first second : Rows → Rows) → Edits old mid first → Edits mid new second → Edits old new (and_then first second)
-edits_then old mid new first second a b = record {
+pub edits_then : (external : Bool) (old mid new : State) (first second : Rows → Rows) → Edits external old mid first → Edits external mid new second → Edits external old new (and_then first second)
+edits_then external old mid new first second a b = record {
   was_open = a.was_open;
   is_open = b.is_open;
   inside = b.inside;
   committed = b.committed ∙ a.committed;
   schema = λ has. b.schema (a.schema has);
-  rows = λ has. same_rows_then (second (first (rows_in old.now))) (second (rows_in mid.now)) (rows_in new.now) (b.ignores (first (rows_in old.now)) (rows_in mid.now) (a.rows has)) (b.rows (a.schema has));
+  rows = λ has.
+      same_rows_then (second (first (rows_in external old.now))) (second (rows_in external mid.now)) (rows_in external new.now)
+      (b.ignores (first (rows_in external old.now)) (rows_in external mid.now) (a.rows has)) (b.rows (a.schema has));
   ignores = and_then_ignores first second a.ignores b.ignores;
 }

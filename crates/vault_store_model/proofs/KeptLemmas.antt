@@ -1,5 +1,5 @@
 -- A vault that may be kept may be kept after a change in its limits.
-use Rattle.std.proofs.Common.{◌≡◌, ℕ, ◌≤◌, ◌==◌, List, [], ◌∷◌, ◌++◌, map, true, false, Option, Some, None, IfSome, IsTrue}
+use Rattle.std.proofs.Common.{◌≡◌, ℕ, ◌≤◌, ◌==◌, List, [], ◌∷◌, ◌++◌, map, Bool, true, false, Option, Some, None, IfSome, IsTrue, refl}
 use Rattle.std.specs.Prelude.{if◌then◌else◌}
 use Rattle.std.specs.List.{AllByRecursion}
 use Rattle.std.specs.Str.{bytes_eq}
@@ -24,7 +24,9 @@ use Rattle.vault_core_model.specs.Vault.{Vault}
 use Rattle.vault_core_laws.proofs.Lists.{All-push, All-placed}
 use Rattle.vault_core_laws.proofs.Soundness.{Sound-changed}
 use Rattle.vault_audit_model.specs.Limits.{IsInLimits, IsPlainName, IsCaller, IsBucket, AreRules, IsHistory, IsNote, IsSetting, IsRemoval}
+use Rattle.vault_audit_model.specs.SchemaVersions.{is_external, edition_of}
 use Rattle.vault_audit_model.specs.Spells.{IsKept}
+use Rattle.vault_audit_model.specs.Tenures.{IsUnmovedIn}
 use Rattle.vault_store_model.specs.Limits.{IsChangeInLimits}
 
 each_map : {A : Type 0} (P : A → Type 0) (f : A → A) → ((x : A) → P x → P (f x)) → (xs : List A) → AllByRecursion P xs → AllByRecursion P (map f xs)
@@ -59,23 +61,23 @@ owner_limited name dept given b is =
       | false ↦ is
     ]
 
-tenure_limited : (name : List ℕ) (t : Tenure) (h : History) → IsHistory h → IsHistory (tenured_if name t h)
-tenure_limited name t h is =
-    elim (is_held_version_in name h.entry) as (λ b. IsHistory (if b then tenured_by t h else h)) [
+tenure_limited : (external : Bool) (name : List ℕ) (t : Tenure) (h : History) → IsHistory external h → IsHistory external (tenured_if name t h)
+tenure_limited external name t h is =
+    elim (is_held_version_in name h.entry) as (λ b. IsHistory external (if b then tenured_by t h else h)) [
       | true ↦ record { entry = is.entry; settings = is.settings }
       | false ↦ is
     ]
 
-setting_limited : (id : ℕ) (s : Setting) → IsSetting s → (h : History) → IsHistory h → IsHistory (with_setting id s h)
-setting_limited id s given h is =
-    elim (h.entry.id == id) as (λ b. IsHistory (if b then record h { settings = h.settings ++ s ∷ [] } else h)) [
+setting_limited : (external : Bool) (id : ℕ) (s : Setting) → IsSetting s → (h : History) → IsHistory external h → IsHistory external (with_setting id s h)
+setting_limited external id s given h is =
+    elim (h.entry.id == id) as (λ b. IsHistory external (if b then record h { settings = h.settings ++ s ∷ [] } else h)) [
       | true ↦ record { entry = is.entry; settings = All-push IsSetting h.settings s is.settings given }
       | false ↦ is
     ]
 
-removal_limited : (id : ℕ) (r : Removal) → IsRemoval r → (h : History) → IsHistory h → IsHistory (removed_if id r h)
-removal_limited id r given h is =
-    elim (h.entry.id == id) as (λ b. IsHistory (if b then removed_by r h else h)) [
+removal_limited : (external : Bool) (id : ℕ) (r : Removal) → IsRemoval r → (h : History) → IsHistory external h → IsHistory external (removed_if id r h)
+removal_limited external id r given h is =
+    elim (h.entry.id == id) as (λ b. IsHistory external (if b then removed_by r h else h)) [
       | true ↦ record {
         entry = record {
           id = is.entry.id;
@@ -91,11 +93,11 @@ removal_limited id r given h is =
       | false ↦ is
     ]
 
-note_limited : (note : Option Note) (ns : List Note) → IfSome note IsNote → AllByRecursion IsNote ns → AllByRecursion IsNote (placed_if_given note_cmp note ns)
-note_limited None ns given all = all
-note_limited (Some n) ns given all = All-placed IsNote note_cmp n ns given all
+note_limited : (external : Bool) (note : Option Note) (ns : List Note) → IfSome note (IsNote external) → AllByRecursion (IsNote external) ns → AllByRecursion (IsNote external) (placed_if_given note_cmp note ns)
+note_limited external None ns given all = all
+note_limited external (Some n) ns given all = All-placed (IsNote external) note_cmp n ns given all
 
-pub limited_changed : (v : Vault) (t : ℕ) (c : Change) → IsInLimits v → t ≤ last_moment → IsChangeInLimits c → IsInLimits (changed v t c)
+pub limited_changed : (v : Vault) (t : ℕ) (c : Change) → IsInLimits v → t ≤ last_moment → IsChangeInLimits v.external c → IsInLimits (changed v t c)
 limited_changed v t (AddDept name) is low given = record {
   last = low;
   departments = All-placed IsPlainName name_cmp name v.departments given is.departments;
@@ -134,7 +136,7 @@ limited_changed v t (MoveBucket name dept) is low given = record {
   callers = is.callers;
   buckets = each_map IsBucket (with_department name dept) (owner_limited name dept given) v.buckets is.buckets;
   notes = is.notes;
-  histories = each_map IsHistory (tenured_if name (next_tenure v t dept)) (tenure_limited name (next_tenure v t dept)) v.histories is.histories;
+  histories = each_map (IsHistory v.external) (tenured_if name (next_tenure v t dept)) (tenure_limited v.external name (next_tenure v t dept)) v.histories is.histories;
 }
 limited_changed v t (SetDefault name default) is low given = record {
   last = low;
@@ -157,8 +159,8 @@ limited_changed v t (Admit a) is low given = record {
   departments = is.departments;
   callers = is.callers;
   buckets = is.buckets;
-  notes = note_limited a.note v.notes given.1 is.notes;
-  histories = All-push IsHistory v.histories a.history is.histories given.0;
+  notes = note_limited v.external a.note v.notes given.1 is.notes;
+  histories = All-push (IsHistory v.external) v.histories a.history is.histories given.0;
 }
 limited_changed v t (AddSetting id s) is low given = record {
   last = low;
@@ -166,7 +168,7 @@ limited_changed v t (AddSetting id s) is low given = record {
   callers = is.callers;
   buckets = is.buckets;
   notes = is.notes;
-  histories = each_map IsHistory (with_setting id s) (setting_limited id s given) v.histories is.histories;
+  histories = each_map (IsHistory v.external) (with_setting id s) (setting_limited v.external id s given) v.histories is.histories;
 }
 limited_changed v t (Remove id r) is low given = record {
   last = low;
@@ -174,26 +176,36 @@ limited_changed v t (Remove id r) is low given = record {
   callers = is.callers;
   buckets = is.buckets;
   notes = is.notes;
-  histories = each_map IsHistory (removed_if id r) (removal_limited id r given) v.histories is.histories;
+  histories = each_map (IsHistory v.external) (removed_if id r) (removal_limited v.external id r given) v.histories is.histories;
 }
 
--- contents that were all inside stay so
-inside_changed : (v : Vault) (t : ℕ) (c : Change) → v.external ≡ false → (changed v t c).external ≡ false
-inside_changed v t (AddDept name) inside = inside
-inside_changed v t (AddCaller c) inside = inside
-inside_changed v t (CloseCaller name) inside = inside
-inside_changed v t (AddBucket name dept) inside = inside
-inside_changed v t (MoveBucket name dept) inside = inside
-inside_changed v t (SetDefault name default) inside = inside
-inside_changed v t (SetRules name rules) inside = inside
-inside_changed v t (Admit a) inside = inside
-inside_changed v t (AddSetting id s) inside = inside
-inside_changed v t (Remove id r) inside = inside
+-- whether the vault registers contents that are kept outside stays as it is
+pub external_changed : (v : Vault) (t : ℕ) (c : Change) → (changed v t c).external ≡ v.external
+external_changed v t (AddDept name) = refl
+external_changed v t (AddCaller c) = refl
+external_changed v t (CloseCaller name) = refl
+external_changed v t (AddBucket name dept) = refl
+external_changed v t (MoveBucket name dept) = refl
+external_changed v t (SetDefault name default) = refl
+external_changed v t (SetRules name rules) = refl
+external_changed v t (Admit a) = refl
+external_changed v t (AddSetting id s) = refl
+external_changed v t (Remove id r) = refl
 
-pub kept_changed : (v : Vault) (t : ℕ) (c : Change) → IsKept v → v.last ≤ t → t ≤ last_moment → Allows v t c → IsChangeInLimits c → IsKept (changed v t c)
+-- the edition registers what the vault does
+pub edition_is : (external : Bool) → external ≡ is_external (edition_of external)
+edition_is false = refl
+edition_is true = refl
+
+-- and states every tenure
+pub any_tenures : (external : Bool) (v : Vault) → IsUnmovedIn (edition_of external) v
+any_tenures false v = tt
+any_tenures true v = tt
+
+pub kept_changed : (v : Vault) (t : ℕ) (c : Change) → IsKept v → v.last ≤ t → t ≤ last_moment → Allows v t c → IsChangeInLimits v.external c → IsKept (changed v t c)
 kept_changed v t c kept later low allowed given = record {
-  inside = inside_changed v t c kept.inside;
+  external = edition_is (changed v t c).external;
   limits = limited_changed v t c kept.limits low given;
   sound = Sound-changed v t c kept.sound later allowed;
-  unmoved = tt;
+  unmoved = any_tenures (changed v t c).external (changed v t c);
 }

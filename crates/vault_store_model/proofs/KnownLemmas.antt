@@ -25,10 +25,10 @@ use Rattle.vault_store_model.proofs.TenureLemmas.{marker_admitted}
 
 -- ---- a change that admits nothing
 
-pub meta_passes : (meta : Option MetaRow) (v w : Vault) (t : ℕ) → IfSome meta (λ m. m ≡ meta_of v) → w.last ≡ t → next_id w ≡ next_id v → w.moves ≡ v.moves
+pub meta_passes : (meta : Option MetaRow) (v w : Vault) (t : ℕ) → IfSome meta (λ m. m ≡ meta_of v) → w.last ≡ t → next_id w ≡ next_id v → w.moves ≡ v.moves → w.external ≡ v.external
     → IfSome (option_map (λ (m : MetaRow). record m { last = t }) meta) (λ m. m ≡ meta_of w)
-meta_passes None v w t is last next moves = tt
-meta_passes (Some m) v w t is last next moves = rw (is, last, next, moves) refl
+meta_passes None v w t is last next moves external = tt
+meta_passes (Some m) v w t is last next moves external = rw (is, last, next, moves, external) refl
 
 -- ---- an admission
 

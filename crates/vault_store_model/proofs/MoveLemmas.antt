@@ -19,8 +19,9 @@ use Rattle.vault_core_model.specs.Places.{is_held_version_in}
 use Rattle.vault_core_model.specs.Sound.{Sound}
 use Rattle.vault_core_model.specs.Totals.{items_of}
 use Rattle.vault_core_model.specs.Vault.{Vault}
+use Rattle.vault_audit_model.specs.SchemaVersions.{number_of, edition_of}
 use Rattle.vault_audit_model.specs.Rows.{department_row, bucket_row, rule_row, entry_row, content_row, setting_row}
-use Rattle.vault_audit_model.specs.Spells.{bucket_of, rules_in, contents_in, settings_in, department_in, sums_over}
+use Rattle.vault_audit_model.specs.Spells.{bucket_of, rules_in, contents_in, external_in, settings_in, department_in, sums_over}
 use Rattle.vault_store_model.specs.Rows.{rows_of}
 use Rattle.vault_store_model.specs.Edits.{changed_if}
 use Rattle.vault_store_model.specs.Tests.{is_named, with_owner, with_sums}
@@ -30,7 +31,7 @@ use Rattle.vault_store_model.proofs.CopyLemmas.{tenures_added}
 use Rattle.vault_store_model.proofs.EntryLemmas.{texts_turned}
 use Rattle.vault_store_model.proofs.ListLemmas.{map_rows, map_unread, flat_map_unread}
 use Rattle.vault_store_model.proofs.MoveSums.{sums_left}
-use Rattle.vault_store_model.proofs.SettingLemmas.{next_kept}
+use Rattle.vault_store_model.proofs.SettingLemmas.{external_unread, next_kept}
 
 -- ---- the bucket
 
@@ -50,6 +51,9 @@ entry_kept name t h = elim (is_held_version_in name h.entry) as (λ b. entry_row
 
 content_kept : (name : List ℕ) (t : Tenure) (h : History) → contents_in (tenured_if name t h) ≡ contents_in h
 content_kept name t h = elim (is_held_version_in name h.entry) as (λ b. contents_in (if b then tenured_by t h else h) ≡ contents_in h) [ true ↦ refl | false ↦ refl ]
+
+external_kept : (name : List ℕ) (t : Tenure) (h : History) → external_in (tenured_if name t h) ≡ external_in h
+external_kept name t h = elim (is_held_version_in name h.entry) as (λ b. external_in (if b then tenured_by t h else h) ≡ external_in h) [ true ↦ refl | false ↦ refl ]
 
 settings_kept : (name : List ℕ) (t : Tenure) (h : History) → settings_in (tenured_if name t h) ≡ settings_in h
 settings_kept name t h = elim (is_held_version_in name h.entry) as (λ b. settings_in (if b then tenured_by t h else h) ≡ settings_in h) [ true ↦ refl | false ↦ refl ]
@@ -97,7 +101,7 @@ all_written v w owner dept (d ∷ ds) others =
 
 moved : (v : Vault) (t : ℕ) (name dept : List ℕ) → Sound v → (is : IsMove v name dept)
     → AreSameBesideHeads (rows_of (changed v t (MoveBucket name dept))) (with_move v (changed v t (MoveBucket name dept)) t name dept (Some is.bucket) (rows_of v))
-moved v t name dept sound is table.Meta beside = IsPermutation-same _ _ (ap (λ row. row ∷ []) (next_kept t (v.moves + 1) (tenured_if name (next_tenure v t dept)) v.histories))
+moved v t name dept sound is table.Meta beside = IsPermutation-same _ _ (ap (λ row. row ∷ []) (next_kept (number_of (edition_of v.external)) t (v.moves + 1) (tenured_if name (next_tenure v t dept)) v.histories))
 moved v t name dept sound is table.Departments beside =
     IsPermutation-same _ _ (all_written v (changed v t (MoveBucket name dept)) is.bucket.dept dept v.departments
     (λ d not_owner not_new. sums_left v t name dept sound is d (texts_turned d is.bucket.dept false not_owner) (texts_turned d dept false not_new)))
@@ -108,6 +112,8 @@ moved v t name dept sound is table.Entries beside =
     IsPermutation-same _ _ (map_unread (λ h. entry_row h.entry) (tenured_if name (next_tenure v t dept)) (entry_kept name (next_tenure v t dept)) v.histories)
 moved v t name dept sound is table.Contents beside =
     IsPermutation-same _ _ (ap (map content_row) (flat_map_unread contents_in (tenured_if name (next_tenure v t dept)) (content_kept name (next_tenure v t dept)) v.histories))
+moved v t name dept sound is table.External beside =
+    IsPermutation-same _ _ (external_unread (edition_of v.external) (tenured_if name (next_tenure v t dept)) (external_kept name (next_tenure v t dept)) v.histories)
 moved v t name dept sound is table.Settings beside =
     IsPermutation-same _ _ (ap (map setting_row) (flat_map_unread settings_in (tenured_if name (next_tenure v t dept)) (settings_kept name (next_tenure v t dept)) v.histories))
 moved v t name dept sound is table.Tenures beside = tenures_added name (next_tenure v t dept) v.histories

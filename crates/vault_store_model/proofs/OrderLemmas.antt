@@ -15,12 +15,12 @@ use Rattle.vault_core_model.specs.declared.change.Change.TheVariants.{AddDept, A
 use Rattle.vault_core_model.specs.Change.{changed, new_bucket}
 use Rattle.vault_core_model.specs.Reads.{entry_of, head_of, head_over}
 use Rattle.vault_core_model.specs.Vault.{Vault, config_of, next_id}
-use Rattle.vault_audit_model.specs.Rows.{caller_row, bucket_row, rule_row, entry_row, content_row, setting_row, note_row, tenure_row}
-use Rattle.vault_audit_model.specs.Spells.{bucket_of, rules_if_given, contents_in, settings_in, tenures_in, department_in}
+use Rattle.vault_audit_model.specs.Rows.{caller_row, bucket_row, rule_row, entry_row, content_row, setting_row, note_row, tenure_row, external_row}
+use Rattle.vault_audit_model.specs.Spells.{bucket_of, rules_if_given, contents_in, external_in, settings_in, tenures_in, department_in}
 use Rattle.vault_store_model.specs.Edits.{changed_if, IgnoresOrder, pushed, with_each, at_moment}
 use Rattle.vault_store_model.specs.Copies.{is_held_version, moved_row}
 use Rattle.vault_store_model.specs.Tests.{is_named, is_numbered, is_of_key, every, with_last, with_last_and_next, with_last_and_moves, with_sums, closed_row, with_default_columns, with_owner, removed_row, with_head_columns}
-use Rattle.vault_store_model.proofs.EditLemmas.{with_row_ignores, with_changed_ignores, without_ignores, with_copies_ignores, and_then_ignores, with_rows_ignores}
+use Rattle.vault_store_model.proofs.EditLemmas.{with_row_ignores, with_changed_ignores, without_ignores, with_copies_ignores, made_if_ignores, and_then_ignores, with_rows_ignores}
 use Rattle.vault_store_model.specs.Changes.{added_if_given, with_row_if_given, summed, with_sums_of, headed, with_head, head_with, others_at, with_history, without_entry, with_department_sums, with_move, edit_of}
 
 -- ---- lists of rows
@@ -68,17 +68,19 @@ history_ignores : (v : Vault) (h : History) → IgnoresOrder (with_history v h)
 history_ignores v h =
     and_then_ignores _ _ (with_row_ignores table.Entries (entry_row h.entry))
     (and_then_ignores _ _ (each_ignores table.Contents (map content_row (contents_in h)))
+    (and_then_ignores _ _ (made_if_ignores v.external _ (each_ignores table.External (map external_row (external_in h))))
     (and_then_ignores _ _ (each_ignores table.Settings (map setting_row (settings_in h)))
     (and_then_ignores _ _ (each_ignores table.Tenures (map tenure_row (tenures_in h)))
-    (head_ignores h.entry.bucket h.entry.key (head_of v h.entry.bucket h.entry.key) (Some (head_with h.entry.id (head_of v h.entry.bucket h.entry.key)))))))
+    (head_ignores h.entry.bucket h.entry.key (head_of v h.entry.bucket h.entry.key) (Some (head_with h.entry.id (head_of v h.entry.bucket h.entry.key))))))))
 
 removal_ignores : (v w : Vault) (id : ℕ) (r : Removal) (e : Option Entry) → IgnoresOrder (without_entry v w id r e)
 removal_ignores v w id r None xs ys are = are
 removal_ignores v w id r (Some e) xs ys are =
     and_then_ignores _ _ (with_changed_ignores table.Entries (is_numbered id) (removed_row r))
     (and_then_ignores _ _ (without_ignores table.Contents (is_numbered id))
+    (and_then_ignores _ _ (made_if_ignores v.external _ (without_ignores table.External (is_numbered id)))
     (and_then_ignores _ _ (sums_ignore w e.marker (config_of v e.bucket))
-    (head_ignores e.bucket e.key (head_of v e.bucket e.key) (head_over (others_at v id e.bucket e.key))))) xs ys are
+    (head_ignores e.bucket e.key (head_of v e.bucket e.key) (head_over (others_at v id e.bucket e.key)))))) xs ys are
 
 move_ignores : (v w : Vault) (t : ℕ) (name dept : List ℕ) (owner : Option BucketConfig) → IgnoresOrder (with_move v w t name dept owner)
 move_ignores v w t name dept None xs ys are = are

@@ -17,9 +17,11 @@ use Rattle.vault_core_model.specs.Sound.{Sound, AreIdsFrom}
 use Rattle.vault_core_model.specs.Totals.{items_by, items_of, shares_of}
 use Rattle.vault_core_model.specs.Vault.{Vault, history_of}
 use Rattle.vault_audit_model.specs.declared.rows.SettingRow.{SettingRow}
-use Rattle.vault_audit_model.specs.SchemaVersions.{number_of, newest}
-use Rattle.vault_audit_model.specs.Rows.{meta_row, entry_row, content_row, setting_row, tenure_row}
-use Rattle.vault_audit_model.specs.Spells.{settings_from, settings_in, contents_in, tenures_in}
+use Rattle.vault_audit_model.specs.SchemaVersions.{number_of, edition_of}
+use Rattle.vault_audit_model.specs.declared.schema.SchemaVersion.{SchemaVersion}
+use Rattle.vault_audit_model.specs.declared.schema.SchemaVersion.TheVariants.{First, Second, Third, Fourth}
+use Rattle.vault_audit_model.specs.Rows.{meta_row, entry_row, content_row, setting_row, tenure_row, external_row}
+use Rattle.vault_audit_model.specs.Spells.{settings_from, settings_in, contents_in, external_in, external_rows_of, tenures_in}
 use Rattle.vault_core_laws.proofs.Soundness.{setting_count}
 use Rattle.vault_store_model.specs.Rows.{rows_of}
 use Rattle.vault_store_model.specs.Changes.{edit_of}
@@ -89,6 +91,16 @@ entry_kept id s h = elim (eqb h.entry.id id) as (λ b. entry_row (if b then reco
 content_kept : (id : ℕ) (s : Setting) (h : History) → contents_in (with_setting id s h) ≡ contents_in h
 content_kept id s h = elim (eqb h.entry.id id) as (λ b. contents_in (if b then record h { settings = h.settings ++ s ∷ [] } else h) ≡ contents_in h) [ true ↦ refl | false ↦ refl ]
 
+external_kept : (id : ℕ) (s : Setting) (h : History) → external_in (with_setting id s h) ≡ external_in h
+external_kept id s h = elim (eqb h.entry.id id) as (λ b. external_in (if b then record h { settings = h.settings ++ s ∷ [] } else h) ≡ external_in h) [ true ↦ refl | false ↦ refl ]
+
+-- the rows of external, where each history has those that it had
+pub external_unread : (n : SchemaVersion) (f : History → History) → ((h : History) → external_in (f h) ≡ external_in h) → (hs : List History) → external_rows_of n (map f hs) ≡ external_rows_of n hs
+external_unread First f same hs = refl
+external_unread Second f same hs = refl
+external_unread Third f same hs = refl
+external_unread Fourth f same hs = ap (map external_row) (flat_map_unread external_in f same hs)
+
 tenures_kept : (id : ℕ) (s : Setting) (h : History) → tenures_in (with_setting id s h) ≡ tenures_in h
 tenures_kept id s h = elim (eqb h.entry.id id) as (λ b. tenures_in (if b then record h { settings = h.settings ++ s ∷ [] } else h) ≡ tenures_in h) [ true ↦ refl | false ↦ refl ]
 
@@ -98,9 +110,9 @@ items_kept v t id s d =
     (all_of (λ h. items_by d (shares_of (with_setting id s h)) ≡ items_by d (shares_of h))
     (λ h. elim (eqb h.entry.id id) as (λ b. items_by d (shares_of (if b then record h { settings = h.settings ++ s ∷ [] } else h)) ≡ items_by d (shares_of h)) [ true ↦ refl | false ↦ refl ]) v.histories)
 
-pub next_kept : (t moves : ℕ) (f : History → History) (hs : List History)
-    → meta_row (record { schema = number_of newest; last = t; next = length (map f hs) + 1; moves = moves }) ≡ meta_row (record { schema = number_of newest; last = t; next = length hs + 1; moves = moves })
-next_kept t moves f hs = ap (λ n. meta_row (record { schema = number_of newest; last = t; next = n + 1; moves = moves })) (length-map hs f)
+pub next_kept : (schema t moves : ℕ) (f : History → History) (hs : List History)
+    → meta_row (record { schema = schema; last = t; next = length (map f hs) + 1; moves = moves }) ≡ meta_row (record { schema = schema; last = t; next = length hs + 1; moves = moves })
+next_kept schema t moves f hs = ap (λ n. meta_row (record { schema = schema; last = t; next = n + 1; moves = moves })) (length-map hs f)
 
 -- ---- the change
 
@@ -114,9 +126,10 @@ settings_added v t id s sound is =
     (IsPermutation-map setting_row _ _ (set_in 1 id s v.histories g sound.ids found.1))
 
 pub setting_added : (v : Vault) (t id : ℕ) (s : Setting) → Sound v → IsNextSetting v t id s → AreSameBesideHeads (rows_of (changed v t (AddSetting id s))) (edit_of v t (AddSetting id s) (rows_of v))
-setting_added v t id s sound is table.Meta beside = IsPermutation-same _ _ (ap (λ row. row ∷ []) (next_kept t v.moves (with_setting id s) v.histories))
+setting_added v t id s sound is table.Meta beside = IsPermutation-same _ _ (ap (λ row. row ∷ []) (next_kept (number_of (edition_of v.external)) t v.moves (with_setting id s) v.histories))
 setting_added v t id s sound is table.Entries beside = IsPermutation-same _ _ (map_unread (λ h. entry_row h.entry) (with_setting id s) (entry_kept id s) v.histories)
 setting_added v t id s sound is table.Contents beside = IsPermutation-same _ _ (ap (map content_row) (flat_map_unread contents_in (with_setting id s) (content_kept id s) v.histories))
+setting_added v t id s sound is table.External beside = IsPermutation-same _ _ (external_unread (edition_of v.external) (with_setting id s) (external_kept id s) v.histories)
 setting_added v t id s sound is table.Settings beside = settings_added v t id s sound is
 setting_added v t id s sound is table.Tenures beside = IsPermutation-same _ _ (ap (map tenure_row) (flat_map_unread tenures_in (with_setting id s) (tenures_kept id s) v.histories))
 setting_added v t id s sound is table.Departments beside = IsPermutation-same _ _ (sums_by_items v (changed v t (AddSetting id s)) (items_kept v t id s))

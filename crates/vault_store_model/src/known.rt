@@ -15,6 +15,7 @@ ghost use Rattle.vault_store_model.specs.Known.{AreKnown};
 
 use std::alloc::AllocError;
 use vault_audit_model::rows::{BucketRow, DepartmentRow, MetaRow};
+use vault_audit_model::schema::SchemaVersion;
 use vault_base::moment::Moment;
 use vault_base::moment::laws::moment_is_in_range;
 use vault_base::name::{BucketName, DeptName};
@@ -39,6 +40,13 @@ pub struct Known {
     bucket: Option<BucketRow>,
     sums: Option<DepartmentRow>,
     load: Option<BucketLoad>,
+}
+
+/// Whether the vault that has this row of `meta` registers contents that are kept outside.
+pub fn is_external(meta: MetaRow) -> bool
+    ensures { (v : Vault) → meta ≡ meta_of v → result ≡ v.external }
+{
+    meta.schema == SchemaVersion::Fourth.number()
 }
 
 /// The row of `meta` after a change at a moment that admits nothing and moves no bucket.
@@ -252,7 +260,7 @@ impl Known {
 
     /// What stays known after a change that admits nothing, and changes neither a bucket nor `moves`.
     fn pass(&mut self, at: Moment)
-        ensures { (v w : Vault) → AreKnown self.old v → w.last ≡ at → next_id w ≡ next_id v → w.moves ≡ v.moves → w.buckets ≡ v.buckets → AreKnown self.new w }
+        ensures { (v w : Vault) → AreKnown self.old v → w.last ≡ at → next_id w ≡ next_id v → w.moves ≡ v.moves → w.external ≡ v.external → w.buckets ≡ v.buckets → AreKnown self.new w }
     {
         self.meta = meta_at(self.meta, at);
         self.sums = None;

@@ -91,5 +91,5 @@ found_buckets v after most rows (db, sound, answers) =
     (all_weaker IsBucket (λ b. test after (row_for b) ≡ keep after b) (tests after) v.buckets sound.spells.kept.limits.buckets) in
     let same = subst (λ os. IsPermutation os found) (names_kept after v.buckets) are in
     let rise = ascending-filter (λ j k. slice_cmp nat_cmp j k ≡ Less) later names (names_rise v.buckets sound.spells.kept.sound.ordered.buckets) in
-    answered buckets_tree buckets_tests (col 1 1 ∷ []) buckets_order (col 0 1) db params rows (answers buckets_query buckets_is) (map name_out (filter later names)) same (outs_rise (filter later names) rise)
+    answered buckets_tree buckets_tests (col 1 1 ∷ []) buckets_order (col 0 1) db params rows (answers buckets_query (buckets_is v.external)) (map name_out (filter later names)) same (outs_rise (filter later names) rise)
     ∙ ap (take most) (map-map (λ (o : Output). o.1) name_out (filter later names)) ∙ take-map name_row most (filter later names)

@@ -156,7 +156,7 @@ module _ (v : Vault) (bucket key : List ℕ) (rows : List Row) (finds : FindsRow
       records_found row_of head_columns heads_tree (where_is 1 0 ∷ where_is 2 1 ∷ []) head_shown (Text bucket ∷ Text key ∷ []) has_key is_its (λ r. refl)
       (λ r. rw (and_true (is_true (binary (Compare Eq Binary) (column r 2) (Text key)))) refl) picked
       finds.0 (filter (is_current v) v.histories) rows (subst (λ xs. IsPermutation xs (map head_columns (finds.0.trees heads_tree))) (map-map head_row (head_in v) (filter (is_current v) v.histories)) finds.1.heads)
-      (finds.2 _ head_selects)
+      (finds.2 _ (head_selects v.external))
 
   pub head_read : (row : Row) (x : HeadRow) → slice_get rows 0 ≡ Some row → row ≡ head_row x → Some x.head ≡ head_of v bucket key
   head_read row x first reads =
@@ -169,8 +169,8 @@ module _ (v : Vault) (bucket key : List ℕ) (rows : List Row) (finds : FindsRow
 
   pub head_limited : (row : Row) → slice_get rows 0 ≡ Some row → ReportsOne head_row IsHeadRow row
   head_limited row first =
-      let now = all_filtered IsHistory (is_current v) v.histories finds.1.spells.kept.limits.histories in
-      let it = first_limited row_of IsHistory (filter is_its (filter (is_current v) v.histories)) rows row (all_filtered IsHistory is_its (filter (is_current v) v.histories) now) head_found first in
+      let now = all_filtered (IsHistory v.external) (is_current v) v.histories finds.1.spells.kept.limits.histories in
+      let it = first_limited row_of (IsHistory v.external) (filter is_its (filter (is_current v) v.histories)) rows row (all_filtered (IsHistory v.external) is_its (filter (is_current v) v.histories) now) head_found first in
       (head_in v it.0, it.1, record { bucket = it.2.entry.bucket; key = it.2.entry.key; newest = it.2.entry.id })
 
   pub no_head : ◌≡◌ {A = Option Row} None (slice_get rows 0) → None ≡ head_of v bucket key

@@ -71,7 +71,7 @@ found_ids v bucket key most rows (db, sound, answers) =
     let alike = subst (λ os. IsPermutation os found) (mapped_kept (λ h. but_out (row_of h)) but_as keep (ids_alike bucket key) v.histories) are in
     let same = IsPermutation-trans _ _ _ (IsPermutation-sym _ _ (IsPermutation-reverse (map but_as hs))) alike in
     let rise = ascending-filter IsOlder keep v.histories (ids_rise 1 v.histories sound.spells.kept.sound.ids) in
-    answered entries_tree entries_tests (col 1 0 ∷ []) held_order (col 0 2) db params rows (answers ids_query ids_is) (reverse (map but_as hs)) same (ids_fall hs rise)
+    answered entries_tree entries_tests (col 1 0 ∷ []) held_order (col 0 2) db params rows (answers ids_query (ids_is v.external)) (reverse (map but_as hs)) same (ids_fall hs rise)
     ∙ ap (take most) (shown_reversed but_as (λ h. refl) hs) ∙ take-map id_row most (ids_at v bucket key)
 
 -- ---- those that are older than one
@@ -130,7 +130,7 @@ found_older v bucket key than most rows (db, sound, answers) =
     let same = IsPermutation-trans _ _ _ (IsPermutation-sym _ _ (IsPermutation-reverse (map older_as hs))) are in
     let rise = ascending-filter IsOlder keep v.histories (ids_rise 1 v.histories sound.spells.kept.sound.ids) in
     let low = λ (id : ℕ). nat_lt id than in
-    answered entries_tree older_tests (col 1 0 ∷ []) older_order (col 0 3) db params rows (answers older_query older_is) (reverse (map older_as hs)) same (older_fall hs rise)
+    answered entries_tree older_tests (col 1 0 ∷ []) older_order (col 0 3) db params rows (answers older_query (older_is v.external)) (reverse (map older_as hs)) same (older_fall hs rise)
     ∙ ap (take most) (shown_reversed older_as (λ h. refl) hs ∙ ap (map id_row) (older_ids than (λ h. is_held_at bucket key h.entry) v.histories))
     ∙ take-map id_row most (filter low (ids_at v bucket key))
 

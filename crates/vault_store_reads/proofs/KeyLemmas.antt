@@ -66,11 +66,11 @@ two a false c d p q = rw (p, sym q) refl
 tests : (bucket after : List ℕ) (x : HeadRow) → (length x.key == 0) ≡ false → test bucket after (head_row x) ≡ keep bucket after x
 tests bucket after x is = two _ _ _ _ (same_text x.bucket bucket) (later_text x.key after ∙ after_is x.key after is)
 
-all_tests : (v : Vault) (bucket after : List ℕ) → AllByRecursion IsHistory v.histories → AllByRecursion (λ x. test bucket after (head_row x) ≡ keep bucket after x) (heads_in v)
+all_tests : (v : Vault) (bucket after : List ℕ) → AllByRecursion (IsHistory v.external) v.histories → AllByRecursion (λ x. test bucket after (head_row x) ≡ keep bucket after x) (heads_in v)
 all_tests v bucket after all =
     let P : HeadRow → Type 0 = λ x. test bucket after (head_row x) ≡ keep bucket after x in
     all_map P (head_in v) (filter (is_current v) v.histories)
-    (All-filter (λ h. P (head_in v h)) (is_current v) v.histories (all_weaker IsHistory (λ h. P (head_in v h)) (λ h is. tests bucket after (head_in v h) (named h.entry.key is.entry.key.1)) v.histories all))
+    (All-filter (λ h. P (head_in v h)) (is_current v) v.histories (all_weaker (IsHistory v.external) (λ h. P (head_in v h)) (λ h is. tests bucket after (head_in v h) (named h.entry.key is.entry.key.1)) v.histories all))
 
 abbrev out : Row → Output
 out c = (column c 1 ∷ [], column c 1 ∷ [])
@@ -116,5 +116,5 @@ found_keys v bucket after most rows (db, sound, answers) =
     let each = IsPermutation-map key_out _ _ (IsPermutation-filter later _ _ (one_each v bucket v.histories (are_now v sound.spells.kept.sound.ids))) in
     let same = IsPermutation-trans (map key_out ks) _ _ each (subst (λ l. IsPermutation l (map (λ r. output query (params ∷ r ∷ [])) (filter (passes keys_tests params) (db.trees heads_tree)))) (heads_keys v bucket after v.histories) are) in
     let rise = ascending-filter (λ j k. slice_cmp nat_cmp j k ≡ Less) later (keys_of v bucket) (keys_rise (held_keys bucket v.histories)) in
-    answered heads_tree keys_tests (col 1 2 ∷ []) keys_order (col 0 2) db params rows (answers query keys_is) (map key_out ks) same (outs_rise ks rise)
+    answered heads_tree keys_tests (col 1 2 ∷ []) keys_order (col 0 2) db params rows (answers query (keys_is v.external)) (map key_out ks) same (outs_rise ks rise)
     ∙ ap (take most) (map-map (λ (o : Output). o.1) key_out ks) ∙ take-map key_row most ks

@@ -22,6 +22,7 @@ pub mod ValueLemmas
 pub mod WantLemmas
 pub mod AskedLemmas
 pub mod LimitLemmas
+pub mod WiderLemmas
 pub mod ReadableLemmas
 pub mod BoundLemmas
 pub mod IdLemmas

@@ -1,13 +1,18 @@
 -- The row of meta.
-use Rattle.std.proofs.Common.{◌≡◌, List, [], ◌∷◌, map, true, Option, None, Some, slice_get, IsPermutation, refl}
+use Rattle.std.proofs.Common.{◌≡◌, List, [], ◌∷◌, ◌++◌, map, take, Bool, true, false, Option, None, Some, slice_get, IsPermutation, refl, subst}
+use Rattle.std.proofs.lemmas.List.Sorted.{IsPermutation-map}
+use Rattle.sqlite_keyed.proofs.ListLemmas.{map-map}
 use Rattle.sqlite_value.specs.Order.{Row}
 use Rattle.vault_core_model.specs.Sound.{Sound}
 use Rattle.vault_core_model.specs.Vault.{Vault}
 use Rattle.vault_audit_model.specs.declared.rows.MetaRow.{MetaRow}
 use Rattle.vault_audit_model.specs.Limits.{IsMetaRow}
-use Rattle.vault_audit_model.specs.Rows.{meta_row, meta_columns}
+use Rattle.vault_audit_model.specs.declared.schema.SchemaVersion.TheVariants.{Third, Fourth}
+use Rattle.vault_audit_model.specs.Rows.{meta_row, meta_columns_as}
+use Rattle.vault_audit_model.specs.SchemaVersions.{edition_of}
 use Rattle.vault_audit_model.specs.Spells.{meta_of}
 use Rattle.vault_audit_model.specs.Tables.{meta_tree}
+use Rattle.vault_audit_model.specs.Values.{number}
 use Rattle.vault_audit_model.proofs.SameRows.{same_meta}
 use Rattle.vault_audit_rows.specs.Records.{ReportsOne}
 use Rattle.vault_store_reads.specs.Queries.{FindsRows}
@@ -16,11 +21,20 @@ use Rattle.vault_store_reads.proofs.LimitLemmas.{first_limited}
 use Rattle.vault_store_reads.proofs.ListLemmas.{none_of}
 use Rattle.vault_store_reads.proofs.TextLemmas.{meta_text, meta_shown, meta_selects}
 
+-- the columns that the third schema version has, and what is there for those that it lacks
+abbrev of_third : Row → Row
+of_third r = take 5 r ++ number 0 ∷ number 1 ∷ []
+
+-- the columns that the fourth schema version has besides have these values in every vault
+as_third : (external : Bool) (m : MetaRow) (stored : List Row) → IsPermutation (meta_row m ∷ []) (map (meta_columns_as (edition_of external)) stored) → IsPermutation (meta_row m ∷ []) (map (meta_columns_as Third) stored)
+as_third false m stored same = same
+as_third true m stored same = subst (IsPermutation (meta_row m ∷ [])) (map-map of_third (meta_columns_as Fourth) stored) (IsPermutation-map of_third _ _ same)
+
 module _ (v : Vault) (rows : List Row) (finds : FindsRows v meta_text [] rows) where
   meta_found : IsPermutation (map meta_row (meta_of v ∷ [])) rows
   meta_found =
-      records_found meta_row meta_columns meta_tree [] meta_shown [] (λ r. true) (λ m. true) (λ r. refl) (λ r. refl) (λ m. refl) finds.0 (meta_of v ∷ []) rows finds.1.spells.meta
-      (finds.2 _ meta_selects)
+      records_found meta_row (meta_columns_as Third) meta_tree [] meta_shown [] (λ r. true) (λ m. true) (λ r. refl) (λ r. refl) (λ m. refl) finds.0 (meta_of v ∷ []) rows (as_third v.external (meta_of v) (finds.0.trees meta_tree) finds.1.spells.meta)
+      (finds.2 _ (meta_selects v.external))
 
   pub meta_read : (row : Row) (m : MetaRow) → slice_get rows 0 ≡ Some row → row ≡ meta_row m → m ≡ meta_of v
   meta_read row m first reads =

@@ -15,6 +15,7 @@ use Rattle.sqlite_value.specs.Order.{Row, column}
 use Rattle.sqlite_sql.specs.declared.ops.BinaryOp.TheVariants.{Compare}
 use Rattle.sqlite_sql.specs.declared.ops.CompareOp.TheVariants.{Eq}
 use Rattle.sqlite_sql.specs.Ops.{binary, is_true}
+use Rattle.vault_base.specs.declared.refusal.Table.TheVariants as table
 use Rattle.vault_tally.specs.Row.{IsRowOf}
 use Rattle.vault_core_model.specs.declared.records.Bucket.{Bucket}
 use Rattle.vault_core_model.specs.declared.records.Caller.{Caller}
@@ -29,6 +30,7 @@ use Rattle.vault_audit_model.specs.Spells.{department_in, bucket_of}
 use Rattle.vault_audit_model.specs.Tables.{departments_tree, callers_tree, buckets_tree}
 use Rattle.vault_audit_model.proofs.SameRows.{number_same, same_caller, same_bucket}
 use Rattle.vault_store_model.proofs.DepartmentLemmas.{no_items}
+use Rattle.vault_store_model.proofs.RowsLemmas.{sound_is_rows}
 use Rattle.vault_audit_rows.specs.Records.{ReportsOne}
 use Rattle.vault_store_reads.specs.Queries.{FindsRows}
 use Rattle.vault_store_reads.proofs.FindLemmas.{records_found, at_most_one, first_found, none_found, read_found}
@@ -68,7 +70,7 @@ module _ (v : Vault) (name : List ℕ) (rows : List Row) (finds : FindsRows v de
   departments_found : IsPermutation (map row_in (filter (λ d. bytes_eq d name) v.departments)) rows
   departments_found =
       records_found row_in department_columns departments_tree (where_is 1 0 ∷ []) department_shown (Text name ∷ []) (has_name name) (λ d. bytes_eq d name) (λ r. refl) (λ r. and_true _) (λ d. same_text d name)
-      finds.0 v.departments rows finds.1.numbers (finds.2 _ department_selects)
+      finds.0 v.departments rows (((sound_is_rows finds.0 v).0 finds.1).rows table.Departments) (finds.2 _ (department_selects v.external))
 
   pub department_there : not (length rows == 0) ≡ has_department v name
   department_there =
@@ -117,7 +119,7 @@ module _ (v : Vault) (name : List ℕ) (rows : List Row) (finds : FindsRows v ca
       subst (λ cs. IsPermutation (map caller_row cs) rows)
       (at_most_one caller_cmp (λ (c : Caller). bytes_eq c.name name) (λ a b. tied_names a.name b.name name) v.callers finds.1.spells.kept.sound.ordered.callers)
       (records_found caller_row caller_columns callers_tree (where_is 1 0 ∷ []) caller_shown (Text name ∷ []) (has_name name) (λ (c : Caller). bytes_eq c.name name) (λ r. refl) (λ r. and_true _) (λ c. same_text c.name name)
-      finds.0 v.callers rows finds.1.spells.callers (finds.2 _ caller_selects))
+      finds.0 v.callers rows finds.1.spells.callers (finds.2 _ (caller_selects v.external)))
 
   pub caller_read : (row : Row) (c : Caller) → slice_get rows 0 ≡ Some row → row ≡ caller_row c → Some c ≡ caller_of v name
   caller_read row c first reads = read_found caller_row same_caller (caller_of v name) rows row c caller_found first reads
@@ -140,7 +142,7 @@ module _ (v : Vault) (name : List ℕ) (rows : List Row) (finds : FindsRows v bu
       subst (λ bs. IsPermutation (map row_for bs) rows)
       (at_most_one bucket_cmp (λ (b : Bucket). bytes_eq b.name name) (λ a b. tied_names a.name b.name name) v.buckets finds.1.spells.kept.sound.ordered.buckets)
       (records_found row_for bucket_columns buckets_tree (where_is 1 0 ∷ []) bucket_shown (Text name ∷ []) (has_name name) (λ (b : Bucket). bytes_eq b.name name) (λ r. refl) (λ r. and_true _) (λ b. same_text b.name name)
-      finds.0 v.buckets rows finds.1.spells.buckets (finds.2 _ bucket_selects))
+      finds.0 v.buckets rows finds.1.spells.buckets (finds.2 _ (bucket_selects v.external)))
 
   pub config_read : (row : Row) (r : BucketRow) → slice_get rows 0 ≡ Some row → row ≡ bucket_row r → Some r.config ≡ config_of v name
   config_read row r first reads =

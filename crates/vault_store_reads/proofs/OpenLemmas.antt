@@ -10,9 +10,8 @@ use Rattle.sqlite.proofs.Callers.{IsPlain, never_commits}
 use Rattle.sqlite.proofs.StateLemmas.{survives_then, survives_weaker}
 use Rattle.sqlite_sql.specs.Query.{Query}
 use Rattle.vault_core_model.specs.Vault.{Vault}
-use Rattle.vault_audit_model.specs.Queries.{Selects}
-use Rattle.vault_audit_model.specs.Tables.{vault_schema}
 use Rattle.vault_store_model.specs.Keeping.{Keeps}
+use Rattle.vault_store_reads.specs.Queries.{SelectsInBoth}
 use Rattle.vault_store_reads.specs.Quiet.{IsQuiet, OnlyReads, ReadsQuietly}
 use Rattle.sqlite_trees.specs.declared.store.Store.{Ghosts}
 use Rattle.sqlite.specs.Held.{Held}
@@ -30,9 +29,9 @@ open_after sql params old new items (Ok x) ok = is_open_after sql params old new
 open_after sql params old new items (Err e) ok = tt
 
 -- a query that doesn't write leaves a crash what it left before
-pub quiet : (sql : List ℕ) (params : Row) (old new : State) (q : Query) → Selects vault_schema sql q → Survives old new (CommitsShowing sql params old) → Survives old new (IsQuiet old)
+pub quiet : (sql : List ℕ) (params : Row) (old new : State) (q : Query) → SelectsInBoth sql q → Survives old new (CommitsShowing sql params old) → Survives old new (IsQuiet old)
 quiet sql params old new q it =
-    survives_weaker old new _ _ (λ _ db commits v was is_open. never_commits sql params old db (subst (λ s. IsPlain (understood s sql)) (sym (was is_open).0.spells.schema) it.plain) commits)
+    survives_weaker old new _ _ (λ _ db commits v was is_open. never_commits sql params old db (subst (λ s. IsPlain (understood s sql)) (sym (was is_open).0.spells.schema) (it v.external).plain) commits)
 
 -- so do two reads, where the first leaves the vault, and an open connection open
 pub quiet_then : (a b c : State) → (HasCleanDisk b → (v : Vault) → Keeps a v → Keeps b v) → (HasCleanDisk b → IsTrue a.is_open → IsTrue b.is_open) → Survives a b (IsQuiet a) → Survives b c (IsQuiet b) → Survives a c (IsQuiet a)

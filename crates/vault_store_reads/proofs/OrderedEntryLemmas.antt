@@ -87,7 +87,7 @@ found_held v bucket key most rows (db, sound, answers) =
     let alike = subst (λ os. IsPermutation os found) (mapped_kept (λ h. held_out (row_of h)) held_as keep (held_alike bucket key) v.histories) are in
     let same = IsPermutation-trans _ _ _ (IsPermutation-sym _ _ (IsPermutation-reverse (map held_as hs))) alike in
     let rise = ascending-filter IsOlder keep v.histories (ids_rise 1 v.histories sound.spells.kept.sound.ids) in
-    answered entries_tree entries_tests entries_shown held_order (col 0 2) db params rows (answers held_query entries_is) (reverse (map held_as hs)) same (held_fall hs rise)
+    answered entries_tree entries_tests entries_shown held_order (col 0 2) db params rows (answers held_query (entries_is v.external)) (reverse (map held_as hs)) same (held_fall hs rise)
     ∙ ap (take most) (shown_reversed hs)
 
 -- ---- the newest besides one
@@ -166,5 +166,5 @@ found_newest v bucket key id rows (db, sound, answers) =
     let alike = subst (λ os. IsPermutation os found) (mapped_kept (λ h. but_out (row_of h)) but_as keep (but_alike bucket key id) v.histories) are in
     let same = IsPermutation-trans _ _ _ (IsPermutation-sym _ _ (IsPermutation-reverse (but_outs hs))) alike in
     let rise = ascending-filter IsOlder keep v.histories (ids_rise 1 v.histories sound.spells.kept.sound.ids) in
-    answered entries_tree newest_tests (col 1 0 ∷ []) held_order (lit (Int (pos 1))) db params rows (answers but_query newest_is) (reverse (but_outs hs)) same (but_fall hs rise)
+    answered entries_tree newest_tests (col 1 0 ∷ []) held_order (lit (Int (pos 1))) db params rows (answers but_query (newest_is v.external)) (reverse (but_outs hs)) same (but_fall hs rise)
     ∙ first_but hs ∙ ap (λ gs. map id_row (option_to_list (option_map (λ head. head.newest) (head_over gs)))) (sym (filter_twice (λ h. not (h.entry.id == id)) (λ h. is_held_at bucket key h.entry) v.histories))

@@ -6,7 +6,7 @@ use Rattle.std.specs.Cmp.Lexicographic.{slice_cmp}
 use Rattle.std.specs.Str.{bytes_eq}
 use Rattle.sqlite_keyed.proofs.ListLemmas.{map-map}
 use Rattle.sqlite_value.specs.Order.{Row}
-use Rattle.vault_base.specs.Limits.{most_content, most_settings}
+use Rattle.vault_base.specs.Limits.{most_settings}
 use Rattle.vault_base.specs.Name.{is_version_id}
 use Rattle.vault_core_model.specs.Places.{is_held_at, is_held_in, comes_after, held_at, keys_of, key_set, with_key, with_key_by}
 use Rattle.vault_core_model.specs.Reads.{buckets_after, entries_of, head_over, held_of, ids_before, is_older, keys_after, last_setting, setting_of}
@@ -25,8 +25,8 @@ use Rattle.vault_store_reads.specs.Readable.{AreReadable, IsHeldRow, IsLastSetti
 use Rattle.vault_store_reads.specs.Shown.{entry_shown, held_row, id_row, ids_at, key_row, last_row, name_row, newest_but, without_lock}
 use Rattle.vault_store_reads.proofs.LimitLemmas.{all_given, all_last, all_part, all_reversed, all_taken}
 use Rattle.vault_store_reads.proofs.OrderedListLemmas.{last, part_of}
+use Rattle.vault_store_reads.proofs.WiderLemmas.{small}
 use Rattle.vault_audit_rows.proofs.LimitLemmas.{all_filtered, all_mapped, most_of, rules_limited, settings_limited, tenures_limited, wholes}
-use Rattle.vault_audit_rows.proofs.ColumnLemmas.{sized_within}
 
 pub reported : {X : Type 0} (row_of : X → Row) (Is : X → Type 0) (xs : List X) → AllByRecursion Is xs → AreReadable row_of Is (map row_of xs)
 reported row_of Is [] all = tt
@@ -41,11 +41,6 @@ last_limited s (t ∷ ts) all = last_limited t ts all.1
 by_settings : (ss : List Setting) → AllByRecursion IsSetting ss → length ss ≤ most_settings → AllByRecursion IsLastSetting (option_to_list (last_setting ss))
 by_settings [] all few = tt
 by_settings (s ∷ ss) all few = (record { count = (omega arith, few); retention = last_limited s ss all }, tt)
-
--- ---- sizes
-
-pub small : (h : History) → IsHistory h → h.entry.size ≤ most_content
-small h is = sized_within h.entry.marker h.entry.size h.entry.digest is.entry.sized
 
 -- ---- keys
 
@@ -90,7 +85,7 @@ module _ (v : Vault) (kept : IsKept v) where
   setting_readable id =
       reported last_row IsLastSetting (option_to_list (setting_of v id))
       (all_given IsLastSetting (λ (h : History). last_setting h.settings) (λ (h : History). h.entry.id == id) v.histories
-      (all_as (λ (h : History) (its : IsHistory h × IsWhole v.external h). by_settings h.settings its.0.settings (most_of v.external h its.1)) v.histories (wholes v kept)))
+      (all_as (λ (h : History) (its : IsHistory v.external h × IsWhole v.external h). by_settings h.settings its.0.settings (most_of v.external h its.1)) v.histories (wholes v kept)))
 
   pub settings_readable : (id : ℕ) → AreReadable setting_row IsSettingRow (map setting_row (part_of settings_in (history_of v id)))
   settings_readable id = reported setting_row IsSettingRow _ (all_part IsSettingRow settings_in (λ (h : History). h.entry.id == id) v.histories (settings_limited v kept))
@@ -107,8 +102,8 @@ module _ (v : Vault) (kept : IsKept v) where
 
   pub held_readable : (bucket key : List ℕ) (most : ℕ) → AreReadable held_row IsHeldRow (take most (reverse (map entry_shown (entries_of v bucket key))))
   held_readable bucket key most =
-      let here = all_filtered IsHistory (λ h. is_held_at bucket key h.entry) v.histories kept.limits.histories in
-      let each = all_as (λ (h : History) (is : IsHistory h). record { id = is.entry.id; size = small h is; admitted = is.entry.admitted }) (held_at v bucket key) here in
+      let here = all_filtered (IsHistory v.external) (λ h. is_held_at bucket key h.entry) v.histories kept.limits.histories in
+      let each = all_as (λ (h : History) (is : IsHistory v.external h). record { id = is.entry.id; size = small v.external h is; admitted = is.entry.admitted }) (held_at v bucket key) here in
       let bare = all_mapped IsHeldRow (λ (h : History). without_lock (held_of h)) (held_at v bucket key) each in
       let rows : AreReadable held_row IsHeldRow (map entry_shown (entries_of v bucket key)) =
       subst (AreReadable held_row IsHeldRow) (map-map held_row (λ (h : History). without_lock (held_of h)) (held_at v bucket key) ∙ sym (map-map entry_shown held_of (held_at v bucket key))) (reported held_row IsHeldRow _ bare) in
@@ -116,21 +111,21 @@ module _ (v : Vault) (kept : IsKept v) where
 
   pub keys_readable : (bucket after : List ℕ) (most : ℕ) → AreReadable key_row IsObjectKey (map key_row (keys_after v bucket after most))
   keys_readable bucket after most =
-      let held = all_filtered IsHistory (λ h. is_held_in bucket h.entry) v.histories kept.limits.histories in
-      let keys = all_mapped IsObjectKey (λ (h : History). h.entry.key) _ (all_as (λ (h : History) (is : IsHistory h). is.entry.key) _ held) in
+      let held = all_filtered (IsHistory v.external) (λ h. is_held_in bucket h.entry) v.histories kept.limits.histories in
+      let keys = all_mapped IsObjectKey (λ (h : History). h.entry.key) _ (all_as (λ (h : History) (is : IsHistory v.external h). is.entry.key) _ held) in
       reported key_row IsObjectKey _ (all_taken IsObjectKey most _ (all_filtered IsObjectKey (λ k. comes_after k after) (keys_of v bucket) (keys_all _ keys)))
 
   pub newest_readable : (bucket key : List ℕ) (id : ℕ) → AreReadable id_row (λ n. IsTrue (is_version_id n)) (map id_row (option_to_list (newest_but v bucket key id)))
   newest_readable bucket key id =
-      let here = all_filtered IsHistory (λ h. is_held_at bucket key h.entry) v.histories kept.limits.histories in
-      let others = all_filtered IsHistory (λ h. not (h.entry.id == id)) (held_at v bucket key) here in
+      let here = all_filtered (IsHistory v.external) (λ h. is_held_at bucket key h.entry) v.histories kept.limits.histories in
+      let others = all_filtered (IsHistory v.external) (λ h. not (h.entry.id == id)) (held_at v bucket key) here in
       reported id_row (λ n. IsTrue (is_version_id n)) _
-      (newest_ids (head_over (filter (λ h. not (h.entry.id == id)) (held_at v bucket key))) (head_ids _ (all_as (λ (h : History) (is : IsHistory h). is.entry.id) _ others)))
+      (newest_ids (head_over (filter (λ h. not (h.entry.id == id)) (held_at v bucket key))) (head_ids _ (all_as (λ (h : History) (is : IsHistory v.external h). is.entry.id) _ others)))
 
   ids_all : (bucket key : List ℕ) → AllByRecursion (λ n. IsTrue (is_version_id n)) (ids_at v bucket key)
   ids_all bucket key =
-      let here = all_filtered IsHistory (λ h. is_held_at bucket key h.entry) v.histories kept.limits.histories in
-      let each = all_mapped (λ n. IsTrue (is_version_id n)) (λ (h : History). h.entry.id) (held_at v bucket key) (all_as (λ (h : History) (is : IsHistory h). is.entry.id) (held_at v bucket key) here) in
+      let here = all_filtered (IsHistory v.external) (λ h. is_held_at bucket key h.entry) v.histories kept.limits.histories in
+      let each = all_mapped (λ n. IsTrue (is_version_id n)) (λ (h : History). h.entry.id) (held_at v bucket key) (all_as (λ (h : History) (is : IsHistory v.external h). is.entry.id) (held_at v bucket key) here) in
       all_reversed (λ n. IsTrue (is_version_id n)) _ each
 
   pub ids_readable : (bucket key : List ℕ) (most : ℕ) → AreReadable id_row (λ n. IsTrue (is_version_id n)) (map id_row (take most (ids_at v bucket key)))

@@ -18,6 +18,7 @@ use Rattle.sqlite_sql.specs.declared.ops.CompareOp.TheVariants.{Eq}
 use Rattle.sqlite_sql.specs.Ops.{binary, is_true}
 use Rattle.sqlite_sql.specs.Query.{Query, Output, output, output_cmp}
 use Rattle.vault_audit_model.specs.Tables.{rules_tree}
+use Rattle.vault_base.specs.declared.refusal.Table.TheVariants as table
 use Rattle.vault_rules.specs.Rules.{is_rule_set, passes_if_given}
 use Rattle.vault_rules.specs.declared.rule.Rule.{Rule}
 use Rattle.vault_core_model.specs.declared.records.Bucket.{Bucket}
@@ -27,6 +28,7 @@ use Rattle.vault_core_model.specs.Vault.{Vault, bucket_in, rules_of}
 use Rattle.vault_audit_model.specs.declared.rows.RuleRow.{RuleRow}
 use Rattle.vault_audit_model.specs.Rows.{rule_row, rule_columns}
 use Rattle.vault_audit_model.specs.Spells.{rules_from, rules_in, rules_if_given}
+use Rattle.vault_store_model.proofs.RowsLemmas.{sound_is_rows}
 use Rattle.vault_store_reads.specs.Shown.{set_of}
 use Rattle.vault_store_reads.specs.Queries.{FindsRows}
 use Rattle.vault_store_model.specs.Scans.{passes}
@@ -106,10 +108,10 @@ found_rules v name rows (db, sound, answers) =
     let its : mine ≡ part_of rules_in (bucket_in v.buckets name) =
     in_one_part (λ b. bytes_eq b.name name) rules_in (λ r. bytes_eq r.bucket name) (λ b. all_given name b.name b.rules) v.buckets (names_apart name v.buckets sound.spells.kept.sound.ordered.buckets) in
     let params : Row = Text name ∷ [] in
-    let are = of_records rule_row rule_columns (test name) out (passes rules_tests params) (λ r. output query (params ∷ r ∷ [])) (λ r. refl) (λ r. refl) (λ r. bytes_eq r.bucket name) all (db.trees rules_tree) sound.spells.rules
+    let are = of_records rule_row rule_columns (test name) out (passes rules_tests params) (λ r. output query (params ∷ r ∷ [])) (λ r. refl) (λ r. refl) (λ r. bytes_eq r.bucket name) all (db.trees rules_tree) (((sound_is_rows db v).0 sound).rows table.Rules)
     (always (λ r. test name (rule_row r) ≡ bytes_eq r.bucket name) (λ r. and_true _ ∙ same_text r.bucket name) all) in
     let rise = subst (Ascending (λ r s. r.place < s.place)) (sym its) (part_rises (bucket_in v.buckets name)) in
-    answered rules_tree rules_tests rules_shown rules_order no_limit db params rows (answers query rules_is) (outs mine) are (outs_rise mine rise)
+    answered rules_tree rules_tests rules_shown rules_order no_limit db params rows (answers query (rules_is v.external)) (outs mine) are (outs_rise mine rise)
     ∙ map-map (λ (o : Output). o.1) (λ r. out (rule_row r)) mine ∙ ap (map rule_row) its
 
 -- ---- the rules that such rows state

@@ -124,7 +124,7 @@ found_setting v id rows (db, sound, answers) =
     (always (λ s. test id (setting_row s) ≡ (s.id == id)) (λ s. and_true _ ∙ same_number s.id id) all) in
     let same = IsPermutation-trans _ _ _ (IsPermutation-sym _ _ (IsPermutation-reverse (outs mine))) are in
     let rise = subst (IsAscending (λ s t. s.place < t.place)) (sym its) (part_rises (history_of v id)) in
-    answered settings_tree setting_tests setting_shown setting_order (lit (Int (pos 1))) db params rows (answers query setting_is) (reverse (outs mine)) same (outs_fall mine rise)
+    answered settings_tree setting_tests setting_shown setting_order (lit (Int (pos 1))) db params rows (answers query (setting_is v.external)) (reverse (outs mine)) same (outs_fall mine rise)
     ∙ first_out mine ∙ ap (λ ss. map last_row (option_to_list (option_map stated (last ss)))) its ∙ ap (λ o. map last_row (option_to_list o)) (last_of_part (history_of v id))
 
 -- ---- all of them
@@ -167,5 +167,5 @@ found_settings v id rows (db, sound, answers) =
     let are = of_records setting_row setting_columns (test id) out_all (passes setting_tests params) (λ r. output all_query (params ∷ r ∷ [])) (λ r. refl) (λ r. refl) (λ s. s.id == id) all (db.trees settings_tree) sound.spells.settings
     (always (λ s. test id (setting_row s) ≡ (s.id == id)) (λ s. and_true _ ∙ same_number s.id id) all) in
     let rise = subst (IsAscending (λ s t. s.place < t.place)) (sym its) (part_rises (history_of v id)) in
-    answered settings_tree setting_tests settings_shown settings_order no_limit db params rows (answers all_query settings_is) (outs_all mine) are (outs_rise mine rise)
+    answered settings_tree setting_tests settings_shown settings_order no_limit db params rows (answers all_query (settings_is v.external)) (outs_all mine) are (outs_rise mine rise)
     ∙ map-map (λ (o : Output). o.1) (λ s. out_all (setting_row s)) mine ∙ ap (map setting_row) its

@@ -1,5 +1,5 @@
 -- The tenures of a version, in the order of their numbers, and the last of them.
-use Rattle.std.proofs.Common.{◌≡◌, ℕ, ◌<◌, ◌==◌, ◌&&◌, pos, List, [], ◌∷◌, map, filter, find, flat_map, reverse, take, Bool, true, false, Option, None, Some, option_to_list, Less, refl, sym, ap, subst, ◌∙◌, inl, inr, arith}
+use Rattle.std.proofs.Common.{◌≡◌, ℕ, ◌<◌, ◌==◌, ◌&&◌, pos, List, [], ◌∷◌, map, filter, find, flat_map, reverse, take, Bool, true, false, Option, None, Some, option_to_list, Less, IsPermutation, refl, sym, ap, subst, ◌∙◌, inl, inr, arith}
 use Rattle.std.specs.Prelude.{option_map, unwrap_or}
 use Rattle.std.specs.List.{AllByRecursion}
 use Rattle.std.proofs.lemmas.Bool.{cases_Bool}
@@ -16,6 +16,7 @@ use Rattle.sqlite_sql.specs.Ops.{binary, is_true}
 use Rattle.sqlite_sql.specs.Term.{lit}
 use Rattle.sqlite_sql.specs.Query.{Query, Output, output, output_cmp}
 use Rattle.vault_audit_model.specs.Tables.{tenures_tree}
+use Rattle.vault_base.specs.declared.refusal.Table.TheVariants as table
 use Rattle.vault_core_model.specs.declared.records.Entry.{Entry}
 use Rattle.vault_core_model.specs.declared.records.History.{History}
 use Rattle.vault_core_model.specs.declared.records.Tenure.{Tenure}
@@ -26,6 +27,7 @@ use Rattle.vault_audit_model.specs.declared.rows.TenureRow.{TenureRow}
 use Rattle.vault_audit_model.specs.Rows.{tenure_row, tenure_columns}
 use Rattle.vault_audit_model.specs.Spells.{AreSound, tenure_at, tenures_in}
 use Rattle.vault_audit_model.specs.Values.{number}
+use Rattle.vault_store_model.proofs.RowsLemmas.{sound_is_rows}
 use Rattle.vault_store_reads.specs.Queries.{FindsRows}
 use Rattle.vault_store_model.specs.Scans.{passes}
 use Rattle.vault_store_model.specs.Sums.{last_tenure_of}
@@ -139,6 +141,9 @@ module _ (v : Vault) (id : ℕ) (db : Database) (sound : AreSound db v) where
   abbrev pub its : List TenureRow
   its = part_of tenures_in (history_of v id)
 
+  pub stored : IsPermutation (map tenure_row all) (map tenure_columns (db.trees tenures_tree))
+  stored = ((sound_is_rows db v).0 sound).rows table.Tenures
+
   pub mine_are : mine ≡ its
   mine_are = in_one_part (λ h. h.entry.id == id) tenures_in (λ t. t.id == id) (λ h. all_of h.entry.id h.tenures id) v.histories (ids_apart id v.histories sound.spells.kept.sound.ids)
 
@@ -154,15 +159,15 @@ pub found_tenures : (v : Vault) (id : ℕ) (rows : List Row) → FindsRows v ten
 found_tenures v id rows (db, sound, answers) =
     let params : Row = number id ∷ [] in
     let ours = mine v id db sound in
-    let are = of_records tenure_row tenure_columns (test id) out (passes tenures_tests params) (λ r. output query (params ∷ r ∷ [])) (λ r. refl) (λ r. refl) (λ t. t.id == id) (all v id db sound) (db.trees tenures_tree) sound.spells.tenures (tests v id db sound) in
-    answered tenures_tree tenures_tests tenures_shown tenures_order no_limit db params rows (answers query tenures_is) (outs ours) are (outs_rise ours (rise v id db sound))
+    let are = of_records tenure_row tenure_columns (test id) out (passes tenures_tests params) (λ r. output query (params ∷ r ∷ [])) (λ r. refl) (λ r. refl) (λ t. t.id == id) (all v id db sound) (db.trees tenures_tree) (stored v id db sound) (tests v id db sound) in
+    answered tenures_tree tenures_tests tenures_shown tenures_order no_limit db params rows (answers query (tenures_is v.external)) (outs ours) are (outs_rise ours (rise v id db sound))
     ∙ map-map (λ (o : Output). o.1) (λ t. out (tenure_row t)) ours ∙ ap (map tenure_row) (mine_are v id db sound)
 
 pub found_last : (v : Vault) (id : ℕ) (rows : List Row) → FindsRows v last_tenure_text (number id ∷ []) rows → rows ≡ map tenure_row (option_to_list (last (part_of tenures_in (history_of v id))))
 found_last v id rows (db, sound, answers) =
     let params : Row = number id ∷ [] in
     let ours = mine v id db sound in
-    let are = of_records tenure_row tenure_columns (test id) out (passes tenures_tests params) (λ r. output last_query (params ∷ r ∷ [])) (λ r. refl) (λ r. refl) (λ t. t.id == id) (all v id db sound) (db.trees tenures_tree) sound.spells.tenures (tests v id db sound) in
+    let are = of_records tenure_row tenure_columns (test id) out (passes tenures_tests params) (λ r. output last_query (params ∷ r ∷ [])) (λ r. refl) (λ r. refl) (λ t. t.id == id) (all v id db sound) (db.trees tenures_tree) (stored v id db sound) (tests v id db sound) in
     let same = IsPermutation-trans _ _ _ (IsPermutation-sym _ _ (IsPermutation-reverse (outs ours))) are in
-    answered tenures_tree tenures_tests tenures_shown last_tenure_order (lit (Int (pos 1))) db params rows (answers last_query last_tenure_is) (reverse (outs ours)) same (outs_fall ours (rise v id db sound))
+    answered tenures_tree tenures_tests tenures_shown last_tenure_order (lit (Int (pos 1))) db params rows (answers last_query (last_tenure_is v.external)) (reverse (outs ours)) same (outs_fall ours (rise v id db sound))
     ∙ first_out ours ∙ ap (λ ts. map tenure_row (option_to_list (last ts))) (mine_are v id db sound)

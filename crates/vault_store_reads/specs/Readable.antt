@@ -3,7 +3,7 @@ use Rattle.std.specs.Prelude.{◌≤◌, List, IsTrue, IfSome}
 use Rattle.std.specs.List.{AllByRecursion}
 use Rattle.sqlite_value.specs.Order.{Row}
 use Rattle.vault_base.specs.Days.{last_moment}
-use Rattle.vault_base.specs.Limits.{most_content, most_settings}
+use Rattle.vault_base.specs.Limits.{most_external, most_settings}
 use Rattle.vault_base.specs.Name.{is_version_id}
 use Rattle.vault_core_model.specs.declared.records.LastSetting.{LastSetting}
 use Rattle.vault_audit_model.specs.Limits.{IsRetention}
@@ -16,7 +16,7 @@ pub record IsLastSetting (s : LastSetting) : Type 0 where
 
 pub record IsHeldRow (h : HeldRow) : Type 0 where
   pub id : IsTrue (is_version_id h.id)
-  pub size : h.size ≤ most_content
+  pub size : h.size ≤ most_external
   pub admitted : h.admitted ≤ last_moment
 
 -- each row states an item of that kind, in its limits

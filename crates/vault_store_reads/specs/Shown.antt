@@ -1,10 +1,14 @@
--- What a row of an ordered read says.
-use Rattle.std.specs.Prelude.{◌≡◌, ℕ, ◌==◌, not, List, [], ◌∷◌, map, filter, reverse, Option, None, Some, option_map, option_to_list}
+-- What rows and records say of a vault.
+use Rattle.std.specs.Prelude.{◌≡◌, ℕ, ◌==◌, not, Bool, true, false, List, [], ◌∷◌, map, filter, reverse, Option, None, Some, option_map, option_to_list}
 use Rattle.sqlite_value.specs.declared.value.Value.TheVariants.{Text}
 use Rattle.sqlite_value.specs.Order.{Row}
+use Rattle.vault_base.specs.declared.content.Content.{Content}
+use Rattle.vault_base.specs.declared.content.Content.TheVariants.{Inside, External}
 use Rattle.vault_rules.specs.declared.plan.Held.{Held}
 use Rattle.vault_rules.specs.declared.rule.Rule.{Rule}
+use Rattle.vault_core_model.specs.declared.records.Entry.{Entry}
 use Rattle.vault_core_model.specs.declared.records.LastSetting.{LastSetting}
+use Rattle.vault_core_model.specs.declared.records.Removal.{Removal}
 use Rattle.vault_core_model.specs.declared.records.Tenure.{Tenure}
 use Rattle.vault_core_model.specs.Places.{held_at}
 use Rattle.vault_core_model.specs.Reads.{head_over, lock_of}
@@ -58,3 +62,18 @@ with_lock_in v h = record { id = h.id; marker = h.marker; size = h.size; admitte
 -- the newest held entry of a key besides this one
 abbrev pub newest_but : Vault → List ℕ → List ℕ → ℕ → Option ℕ
 newest_but v bucket key id = option_map (λ head. head.newest) (head_over (filter (λ h. not (h.entry.id == id)) (held_at v bucket key)))
+
+-- the bytes of a content that the tables have
+abbrev pub bytes_inside : Option Content → Option (List ℕ)
+bytes_inside None = None
+bytes_inside (Some (Inside bytes)) = Some bytes
+bytes_inside (Some (External r)) = None
+
+-- a content that is kept outside, of the size and digest of its version; a removed version has no content, nor has a marker
+abbrev pub external_as : Bool → Option Removal → ℕ → Option (List ℕ) → Option Content
+external_as true removal size digest = None
+external_as false (Some r) size digest = None
+external_as false None size digest = option_map (λ d. External (record { size = size; digest = d })) digest
+
+abbrev pub external_of : Entry → Option Content
+external_of e = external_as e.marker e.removal e.size e.digest

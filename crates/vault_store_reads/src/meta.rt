@@ -14,7 +14,7 @@ use sqlite::{Alter, Connection, Error};
 use vault_audit_model::rows::MetaRow;
 use vault_audit_rows::misread::Misread;
 use vault_audit_rows::records;
-use vault_audit_schema::{meta_columns, select_text};
+use vault_audit_schema::{meta_columns, third_select_text};
 use vault_base::moment::Moment;
 
 /// The last moment, the next id and the number of moves.
@@ -25,7 +25,7 @@ pub fn read_meta<S: Alter>(conn: &mut Connection<S>) -> Result<MetaRow, Error>
     ensures open { IsOpenIfOk S.Store conn.new result }
     ensures memory { WantsMemoryIfErr S.Store conn.old conn.new result }
 {
-    let rows = query_rows(conn, meta_columns!(select_text), &[])?;
+    let rows = query_rows(conn, meta_columns!(third_select_text), &[])?;
     match rows.first() {
         Some(row) => match records::read_meta(row) {
             Ok(meta) => Ok(meta),

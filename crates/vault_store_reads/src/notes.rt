@@ -35,7 +35,8 @@ pub fn read_note<S: Alter>(
         params![bucket.as_str(), batch.as_str(), line],
     )?;
     match rows.first() {
-        Some(row) => match records::read_note(row) {
+        // No vault has a wider limit of sizes.
+        Some(row) => match records::read_note(row, true) {
             Ok(note) => Ok(Some(note)),
             Err(misread) => Err(unread(misread)),
         },

@@ -6,5 +6,5 @@ mod decode;
 mod find;
 mod ids;
 pub mod reads;
-mod rows;
+pub(crate) mod rows;
 mod shown;

@@ -41,7 +41,7 @@ use Rattle.vault_store_reads.proofs.WantLemmas.{cause_of}
 use Rattle.vault_store_walks.specs.Handed.{Takes, as_fault}
 use Rattle.vault_store_walks.proofs.RemovedLemmas.{found_removed, removed_query}
 use Rattle.vault_store_walks.proofs.ReadableRows.{removed_readable}
-use Rattle.vault_store_walks.proofs.WalkTexts.{removed_text, removed_is, removed_command, removed_plain, removed_asked}
+use Rattle.vault_store_walks.proofs.WalkTexts.{removed_text, removed_is, removed_command, removed_asked}
 
 module _ {T : Type 0} (takes : Taking T) where
   same_one : (row : Row) (x e : Entry) → row ≡ entry_row x → row ≡ entry_row e → x ≡ e
@@ -84,7 +84,7 @@ module _ {T : Type 0} (takes : Taking T) where
 -- rows that begin the answer begin the rows of the removed entries
 begin_removed : (s : State) (v : Vault) → Keeps s v → IsTrue s.is_open → (rows : List Row) → Begins removed_text [] s rows → (tail : List Row) × (rows ++ tail ≡ map entry_row (removed_entries v))
 begin_removed s v keeps is_open rows begins =
-    let on = goes_on_to removed_text s vault_schema (keeps is_open).0.spells.schema _ _ removed_command is_open rows begins in
+    let on = goes_on_to removed_text s (vault_schema v.external) (keeps is_open).0.spells.schema _ _ (removed_command v.external) is_open rows begins in
     (on.0, found_removed v (rows ++ on.0) (finds removed_text [] s s v keeps (rows ++ on.0) on.1))
 
 -- rows can be equal in one way only
@@ -113,8 +113,8 @@ module _ {S : Type 0} (g : store.Ghosts S) where
   pub begun_removed : (old new : Held S) (v : Vault) → ∥ Keeps (state g old) v ∥₁ → HasBegun g removed_text [] old new → HasGiven g removed_text [] new [] × IsUnchanged (state g old) (state g new)
   begun_removed old new v was (inl h) = h
   begun_removed old new v was (inr h) =
-      let schema : (state g old).now.schema ≡ vault_schema = ∥∥₁_elim was (Coded-set schema.the_row.coded _ _) (λ keeps. (keeps (was_open removed_text [] (state g old) (state g new) _ h.1)).0.spells.schema) in
-      begun_plain g removed_text [] old new (subst (λ s. IsPlain (understood s removed_text)) (sym schema) removed_plain) (inr h)
+      let schema : (state g old).now.schema ≡ vault_schema v.external = ∥∥₁_elim was (Coded-set schema.the_row.coded _ _) (λ keeps. (keeps (was_open removed_text [] (state g old) (state g new) _ h.1)).0.spells.schema) in
+      begun_plain g removed_text [] old new (subst (λ s. IsPlain (understood s removed_text)) (sym schema) (removed_is v.external).plain) (inr h)
 
   -- the rows so far begin those of the removed entries
   pub given_removed : (old now : Held S) (v : Vault) → ∥ Keeps (state g old) v ∥₁ → IsUnchanged (state g old) (state g now) → (rows : List Row) → HasGiven g removed_text [] now rows → (tail : List Row) × (rows ++ tail ≡ map entry_row (removed_entries v))
@@ -163,7 +163,7 @@ module _ {S T : Type 0} (g : store.Ghosts S) (takes : Taking T) (old : Held S) (
       survives = quiet removed_text [] _ _ removed_query removed_is refused.survives;
     });
     opened = λ clean. tt;
-    memory = λ well v was. cause_of removed_text [] (state g old) (state g new) v was well refused.survives.limit removed_plain removed_is.unlisted removed_asked e (refused.err well.clean);
+    memory = λ well v was. cause_of removed_text [] (state g old) (state g new) v was well refused.survives.limit removed_query removed_is removed_asked e (refused.err well.clean);
   }
 
   module _ (now : Held S) (to : T) (walking : Walking now to) where
@@ -216,7 +216,7 @@ module _ {S T : Type 0} (g : store.Ghosts S) (takes : Taking T) (old : Held S) (
       opened = λ clean. tt;
       memory = λ well v was.
           let it = walking.rows (before moved well.clean) v ∣ was ∣₁ in
-          cause_of removed_text [] (state g rows.conn.now) (state g after.conn.now) v (still rows.conn.now to walking (before moved well.clean) v was) well moved.survives.limit removed_plain removed_is.unlisted removed_asked e (moved.err well.clean removed_text [] it.0 it.1);
+          cause_of removed_text [] (state g rows.conn.now) (state g after.conn.now) v (still rows.conn.now to walking (before moved well.clean) v was) well moved.survives.limit removed_query removed_is removed_asked e (moved.err well.clean removed_text [] it.0 it.1);
     }
 
     module _ (row : Bor Row) (moved : HasMoved g rows (Ok (Some row)) after) where
@@ -253,7 +253,7 @@ module _ {S T : Type 0} (g : store.Ghosts S) (takes : Taking T) (old : Held S) (
       }
 
       -- it failed at an entry
-      pub misread : (end : T) (e : Error) → end ≡ to → (ReportsOne entry_row IsEntry row.now → IsMemory e) → HasWalked after.conn.now end (Err e)
+      pub misread : (end : T) (e : Error) → end ≡ to → (ReportsOne entry_row (IsEntry true) row.now → IsMemory e) → HasWalked after.conn.now end (Err e)
       misread end e stays wants = record {
         value = λ clean v was. subst (λ s. TakesSome takes from (removed_entries v) s) (sym stays) (so_far rows.conn.now to walking (before moved clean) v was);
         read = only_reads (reads (Ok (Some row)) moved);

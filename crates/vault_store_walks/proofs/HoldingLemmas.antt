@@ -199,7 +199,7 @@ module _ (v : Vault) (db : Database) (sound : AreSound db v) where
       ap (map (λ (t : TenureRow). number h.entry.size ∷ number t.tenure.from ∷ [])) (last_is all own (tenures.rise v own db sound) ∙ ap (λ ts. option_to_list (last ts)) (tenures.mine_are v own db sound))
       ∙ sized_last h.entry.size (last (tenures.its v own db sound))
       ∙ ap (λ o. map sized_row (map (sized_with h.entry.size) (option_to_list o))) (stated_last v own ∙ ap (λ (o : Option History). last_tenure (unwrap_or (option_map (λ (g : History). g.tenures) o) [])) found) in
-      subst (λ xs. IsPermutation xs (of_entry (db.trees tenures_tree) (row_of h))) its (ended (db.trees tenures_tree) all sound.spells.tenures h)
+      subst (λ xs. IsPermutation xs (of_entry (db.trees tenures_tree) (row_of h))) its (ended (db.trees tenures_tree) all (tenures.stored v own db sound) h)
 
 -- ---- the rows of a bucket
 
@@ -210,7 +210,7 @@ found_sized v bucket rows (db, sound, answers) =
     let keep = λ (h : History). is_held_version_in bucket h.entry in
     let hs = held_versions_in v bucket in
     let read = subst₂ (λ xs ys. IsPermutation (flat_map (held_of ys bucket) (map entry_columns xs)) rows) (uncovered db.trees entries_tree) (uncovered db.trees tenures_tree)
-    (answered (overlay db.trees []) bucket rows ((answers sized_query sized_is).answer Null)) in
+    (answered (overlay db.trees []) bucket rows ((answers sized_query (sized_is v.external)).answer Null)) in
     let stated : flat_map (held_of ts bucket) (map row_of v.histories) ≡ flat_map (λ h. of_entry ts (row_of h)) hs =
     flat_map-map (held_of ts bucket) row_of v.histories
     ∙ flat_map_same_on (λ h. held_of ts bucket (row_of h)) (λ h. cond (keep h) (of_entry ts (row_of h)) []) (λ (h : History). ap (λ b. cond b (of_entry ts (row_of h)) []) (test_is bucket h.entry)) v.histories

@@ -79,14 +79,14 @@ weight_more = with_one weight_of
 
 -- ---- of a vault
 
-empty_as : (marker : Bool) (size : ℕ) (digest : Option (List ℕ)) → IsSizedAs marker size digest → marker ≡ true → size ≡ 0
-empty_as true size digest is yes_ = is.0
-empty_as false size digest is yes_ = absurd (cc yes_)
+empty_as : (external marker : Bool) (size : ℕ) (digest : Option (List ℕ)) → IsSizedAs marker external size digest → marker ≡ true → size ≡ 0
+empty_as external true size digest is yes_ = is.0
+empty_as external false size digest is yes_ = absurd (cc yes_)
 
 -- its last tenure has the size of a version; a marker has neither
-module _ (v : Vault) (h : History) (is : IsHistory h) where
+module _ (v : Vault) (h : History) (is : IsHistory v.external h) where
   bytes_by : (marker : Bool) (ts : List Tenure) → h.entry.marker ≡ marker → h.tenures ≡ ts → HasTenuresAs marker v h → sum_by (λ (x : SizedRow). x.size) (map (sized_with h.entry.size) (option_to_list (last_tenure ts))) ≡ h.entry.size
-  bytes_by true ts so are has = rw (sym are ∙ has, empty_as h.entry.marker h.entry.size h.entry.digest is.entry.sized so) refl
+  bytes_by true ts so are has = rw (sym are ∙ has, empty_as v.external h.entry.marker h.entry.size h.entry.digest is.entry.sized so) refl
   bytes_by false [] so are has = absurd (subst (λ us. AreTenures v h.entry us) are has.0)
   bytes_by false (t ∷ ts) so are has = (of_last (λ (x : SizedRow). x.size) h.entry.size t ts).1
 
@@ -96,20 +96,20 @@ module _ (v : Vault) (h : History) (is : IsHistory h) where
   weight_by false (t ∷ ts) so are has = let it = of_last weight_of h.entry.size t ts in it.1 ∙ ap (λ n. h.entry.size * n) it.2
 
 module _ (v : Vault) (kept : IsKept v) (bucket : List ℕ) (rows : List Row) (are : IsPermutation (map sized_row (flat_map sized_of (held_versions_in v bucket))) rows) where
-  each : AllByRecursion (λ h. IsHistory h × HasTenures v h) v.histories
-  each = all_both IsHistory (HasTenures v) v.histories kept.limits.histories kept.sound.tenured
+  each : AllByRecursion (λ h. IsHistory v.external h × HasTenures v h) v.histories
+  each = all_both (IsHistory v.external) (HasTenures v) v.histories kept.limits.histories kept.sound.tenured
 
   pub bytes_are : bytes_in rows ≡ bucket_bytes v bucket
   bytes_are =
       let f : SizedRow → ℕ = λ x. x.size in
       let P : History → Type 0 = λ h. sum_by f (sized_of h) ≡ h.entry.size in
-      let all = all_as {Q = P} (λ (h : History) (it : IsHistory h × HasTenures v h). bytes_by v h it.0 h.entry.marker h.tenures refl refl it.1) v.histories each in
+      let all = all_as {Q = P} (λ (h : History) (it : IsHistory v.external h × HasTenures v h). bytes_by v h it.0 h.entry.marker h.tenures refl refl it.1) v.histories each in
       of_rows f (flat_map sized_of (held_versions_in v bucket)) rows are ∙ of_versions f (λ h. h.entry.size) (held_versions_in v bucket) (All-filter P (λ h. is_held_version_in bucket h.entry) v.histories all)
 
   pub weight_is : weight_in rows ≡ bucket_weight v bucket
   weight_is =
       let P : History → Type 0 = λ h. sum_by weight_of (sized_of h) ≡ h.entry.size * last_day_from h.tenures in
-      let all = all_as {Q = P} (λ (h : History) (it : IsHistory h × HasTenures v h). weight_by v h it.0 h.entry.marker h.tenures refl refl it.1) v.histories each in
+      let all = all_as {Q = P} (λ (h : History) (it : IsHistory v.external h × HasTenures v h). weight_by v h it.0 h.entry.marker h.tenures refl refl it.1) v.histories each in
       of_rows weight_of (flat_map sized_of (held_versions_in v bucket)) rows are
       ∙ of_versions weight_of (λ h. h.entry.size * last_day_from h.tenures) (held_versions_in v bucket) (All-filter P (λ h. is_held_version_in bucket h.entry) v.histories all)
 

@@ -47,5 +47,5 @@ found_removed v rows (db, sound, answers) =
     let are = of_records row_of entry_columns removed_test removed_out (passes removed_tests []) (λ r. output removed_query ([] ∷ r ∷ [])) (λ r. refl) (λ r. refl) keep v.histories (db.trees entries_tree) sound.spells.entries
     (always (λ h. removed_test (row_of h) ≡ keep h) (λ h. and_true _ ∙ some_removed h.entry.removal) v.histories) in
     let rise = ascending-filter IsOlder keep v.histories (ids_rise 1 v.histories sound.spells.kept.sound.ids) in
-    answered entries_tree removed_tests removed_shown entries_order no_limit db [] rows (answers removed_query removed_is) (map (λ h. removed_out (row_of h)) hs) are (removed_rise hs rise)
+    answered entries_tree removed_tests removed_shown entries_order no_limit db [] rows (answers removed_query (removed_is v.external)) (map (λ h. removed_out (row_of h)) hs) are (removed_rise hs rise)
     ∙ map-map (λ (o : Output). o.1) (λ h. removed_out (row_of h)) hs ∙ sym (map-map entry_row (λ h. h.entry) hs)

@@ -1,5 +1,5 @@
 -- What the texts of the walks mean, and that the tables of a vault answer them.
-use Rattle.std.proofs.Common.{◌≡◌, ℕ, pos, List, [], ◌∷◌, codes, false, None, refl, arith}
+use Rattle.std.proofs.Common.{◌≡◌, ℕ, pos, List, [], ◌∷◌, codes, Bool, true, false, None, refl, arith}
 use Rattle.sqlite_tied.specs.Compute.{everything}
 use Rattle.sqlite_value.specs.declared.value.Value.TheVariants.{Null, Int, Text}
 use Rattle.sqlite_value.specs.declared.keys.Collation.TheVariants.{Binary}
@@ -10,10 +10,10 @@ use Rattle.sqlite_sql.specs.Term.{Term, lit, col, op1, op2}
 use Rattle.sqlite_sql.specs.Query.{Query, inner, counted, end}
 use Rattle.sqlite_schema.specs.declared.command.Command.TheVariants.{Select}
 use Rattle.sqlite.specs.Listing.{understood}
-use Rattle.sqlite.proofs.Callers.{IsPlain, command_of}
-use Rattle.vault_audit_model.specs.Queries.{Selects}
+use Rattle.sqlite.proofs.Callers.{command_of}
 use Rattle.vault_audit_model.specs.Tables.{vault_schema, entries, entries_tree, tenures_tree}
 use Rattle.vault_audit_schema.specs.Texts.{names_of, select_text, terms_of}
+use Rattle.vault_store_reads.specs.Queries.{SelectsInBoth}
 use Rattle.vault_store_reads.specs.Wants.{IsAskedWith}
 use Rattle.vault_store_reads.proofs.OrderedTextLemmas.{entries_order, no_limit}
 use Rattle.vault_store_reads.proofs.SelectLemmas.{select_of}
@@ -45,13 +45,15 @@ sized_query = record {
   offset = lit (Int (pos 0));
 }
 
-pub sized_is : Selects vault_schema sized_text sized_query
+pub sized_is : SelectsInBoth sized_text sized_query
 unfolding understood everything
-sized_is = record { names = codes "size" ∷ codes "moment" ∷ []; is = refl; plain = (refl, refl); unlisted = refl }
+sized_is false = record { names = codes "size" ∷ codes "moment" ∷ []; is = refl; plain = (refl, refl); unlisted = refl }
+sized_is true = record { names = codes "size" ∷ codes "moment" ∷ []; is = refl; plain = (refl, refl); unlisted = refl }
 
 pub sized_asked : (bucket : List ℕ) → IsAskedWith sized_text (Text bucket ∷ [])
 unfolding understood everything
-sized_asked bucket = (omega (arith), refl, (refl, refl, refl, refl))
+sized_asked bucket false = (omega (arith), refl, (refl, refl, refl, refl))
+sized_asked bucket true = (omega (arith), refl, (refl, refl, refl, refl))
 
 -- ---- the removed entries
 
@@ -67,18 +69,17 @@ removed_shown = terms_of entries
 abbrev pub removed_names : List (List ℕ)
 removed_names = names_of entries
 
-pub removed_is : Selects vault_schema removed_text (select_of entries_tree removed_tests removed_shown entries_order no_limit)
+pub removed_is : SelectsInBoth removed_text (select_of entries_tree removed_tests removed_shown entries_order no_limit)
 unfolding understood everything
-removed_is = record { names = removed_names; is = refl; plain = (refl, refl); unlisted = refl }
+removed_is false = record { names = removed_names; is = refl; plain = (refl, refl); unlisted = refl }
+removed_is true = record { names = removed_names; is = refl; plain = (refl, refl); unlisted = refl }
 
-pub removed_command : command_of (understood vault_schema removed_text) ≡ Select (record { lets = []; body = select_of entries_tree removed_tests removed_shown entries_order no_limit }) removed_names
+pub removed_command : (external : Bool) → command_of (understood (vault_schema external) removed_text) ≡ Select (record { lets = []; body = select_of entries_tree removed_tests removed_shown entries_order no_limit }) removed_names
 unfolding understood everything
-removed_command = refl
-
-pub removed_plain : IsPlain (understood vault_schema removed_text)
-unfolding understood everything
-removed_plain = (refl, refl)
+removed_command false = refl
+removed_command true = refl
 
 pub removed_asked : IsAskedWith removed_text []
 unfolding understood everything
-removed_asked = (omega (arith), refl, (refl, refl, refl, refl))
+removed_asked false = (omega (arith), refl, (refl, refl, refl, refl))
+removed_asked true = (omega (arith), refl, (refl, refl, refl, refl))

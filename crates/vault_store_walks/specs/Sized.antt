@@ -2,7 +2,7 @@
 use Rattle.std.specs.Prelude.{ℕ, ◌*◌, ◌≤◌, List, [], ◌∷◌, map, option_to_list}
 use Rattle.sqlite_value.specs.Order.{Row}
 use Rattle.vault_base.specs.Days.{day, last_moment}
-use Rattle.vault_base.specs.Limits.{most_content}
+use Rattle.vault_base.specs.Limits.{most_external}
 use Rattle.vault_core_model.specs.Sound.{last_tenure}
 use Rattle.vault_core_model.specs.declared.records.History.{History}
 use Rattle.vault_core_model.specs.declared.records.Tenure.{Tenure}
@@ -10,7 +10,7 @@ use Rattle.vault_audit_model.specs.Values.{number}
 use Rattle.vault_store_walks.specs.declared.held.SizedRow.{SizedRow}
 
 pub record IsSizedRow (x : SizedRow) : Type 0 where
-  pub size : x.size ≤ most_content
+  pub size : x.size ≤ most_external
   pub from : x.from ≤ last_moment
 
 -- the size of a version, and since when its department has it

@@ -10,8 +10,8 @@ ghost use Rattle.vault_store_walks.specs.Sized.{IsSizedRow, sized_row, weight_of
 ghost use Rattle.vault_store_walks.specs.declared.held.SizedRow.{SizedRow as Sized};
 
 use sqlite::{Alter, Connection, Error, ErrorCode, Row, params};
-use vault_audit_rows::cell::{moment, number_within};
-use vault_base::limits::MOST_CONTENT;
+use vault_audit_rows::cell::{moment, number_up_to};
+use vault_base::limits::MOST_EXTERNAL;
 use vault_base::moment::Moment;
 use vault_base::name::BucketName;
 use vault_store_reads::query::UNREADABLE;
@@ -32,12 +32,9 @@ pub fn read_sized(row: &Row) -> Option<SizedRow>
     if row.column_count() != 2 {
         return None;
     }
-    let size = number_within(row, 0, 0, MOST_CONTENT as u32)?;
+    let size = number_up_to(row, 0, MOST_EXTERNAL)?;
     let from = moment(row, 1)?;
-    Some(SizedRow {
-        size: u64::from(size),
-        from,
-    })
+    Some(SizedRow { size, from })
 }
 
 /// The bytes and their weight with a version more, where they are numbers of 64 bits.

@@ -1,5 +1,5 @@
 //! The walk over the removed entries.
-ghost use Rattle.std.specs.Prelude.{◌≡◌, IfOk, IfErr, OnErr};
+ghost use Rattle.std.specs.Prelude.{◌≡◌, true, IfOk, IfErr, OnErr};
 ghost use Rattle.sqlite.specs.Held.{state};
 ghost use Rattle.sqlite.specs.State.{HasCleanDisk};
 ghost use Rattle.vault_core_model.specs.declared.records.Entry.{Entry};
@@ -25,9 +25,9 @@ use vault_store_reads::query::unread;
 fn hand<T: Sink>(row: &Row, sink: &mut T) -> Result<bool, Error>
     ensures ok { IfOk result (λ taken. (e : Entry) × (row.now ≡ entry_row e) × T.takes sink.old e taken sink.new) }
     ensures err { OnErr result (sink.new ≡ sink.old) }
-    ensures memory { ReportsOne entry_row IsEntry row.now → IfErr result IsMemory }
+    ensures memory { ReportsOne entry_row (IsEntry true) row.now → IfErr result IsMemory }
 {
-    match read_entry(row) {
+    match read_entry(row, true) {
         Ok(entry) => Ok(sink.take(&entry)),
         Err(misread) => Err(unread(misread)),
     }

@@ -6,7 +6,7 @@ use vault_store::create::fill;
 
 /// Makes a vault in an empty store.
 pub fn made<S: Alter>(conn: &mut Connection<S>) -> Result<(), Refusal> {
-    fill(conn)
+    fill(conn, false)
 }
 
 /// Carries out statements.

@@ -323,7 +323,7 @@ fn judge_over<S: Alter>(
     media: &Media,
     names: &Names,
 ) -> (Result<(), Fail>, Connection<S>) {
-    match SqlKeeper::create(alloc, conn) {
+    match SqlKeeper::create(alloc, conn, false) {
         Ok(keeper) => {
             let mut keeper = keeper;
             let judged = judge(alloc, &mut keeper, media, names);

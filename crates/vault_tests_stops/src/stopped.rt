@@ -107,7 +107,7 @@ fn entered<S: Alter>(alloc: Global, is_made: bool, conn: Connection<S>) -> Entra
     if is_made {
         return SqlKeeper::open(alloc, conn);
     }
-    match SqlKeeper::create(alloc, conn) {
+    match SqlKeeper::create(alloc, conn, false) {
         Err((Refusal::NameTaken, conn)) => SqlKeeper::open(alloc, conn),
         other => other,
     }

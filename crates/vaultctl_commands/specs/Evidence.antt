@@ -3,21 +3,15 @@ use Rattle.std.specs.Prelude.{◌≡◌, ◌≤◌, ℕ, ◌∷◌, ◌++◌, []
 use Rattle.std.specs.Fmt.{decimal}
 use Rattle.std.specs.Io.KnownBytes.{Appends}
 use Rattle.vault_core_evidence.specs.Breaches.{law_name}
-use Rattle.vault_core_evidence.specs.Events.{events_asked}
 use Rattle.vault_core_evidence.specs.declared.breach.Breach.{Breach}
 use Rattle.vault_base.specs.declared.refusal.Refusal.TheVariants.{InvalidArgument}
 use Rattle.vault_core_model.specs.Vault.{Vault}
 use Rattle.vault_core_model.specs.declared.reply.Reply.TheVariants as reply
-use Rattle.vault_files_events.specs.EventsText.{events_text}
 use Rattle.vault_files_events.specs.Seal.{IsAhead, moment_asked, seal_of, seal_text}
 use Rattle.vault_files_events.specs.declared.seal_lines.Seal.{Seal}
 use Rattle.vaultctl_commands.specs.Printed.{PrintsReply, printed}
 use Rattle.vaultctl_commands.specs.declared.outcome.Outcome.{Outcome}
 use Rattle.vaultctl_commands.specs.declared.outcome.Outcome.TheVariants.{Done, Refused}
-
--- the events of a vault that are asked for, before a moment or all, are printed
-abbrev pub PrintsEvents : Option ℕ → Vault → Outcome → Option (List ℕ) → Option (List ℕ) → Type 0
-PrintsEvents given v stated before after = (stated ≡ Done) × Appends before after (events_text (events_asked given v))
 
 -- the four lines of a seal are printed, or the reply that refuses one
 abbrev pub PrintsSeal : Outcome → Option (List ℕ) → Option (List ℕ) → Type 0

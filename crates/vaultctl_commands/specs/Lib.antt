@@ -4,3 +4,4 @@ pub mod PrintedIntake
 pub mod Printed
 pub mod Faults
 pub mod Evidence
+pub mod Rows

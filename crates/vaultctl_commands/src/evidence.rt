@@ -1,18 +1,15 @@
 //! What a vault shows to somebody who doesn't trust the machine that it is kept on, printed.
-ghost use Rattle.std.specs.Prelude.{◌≡◌, ◌≢◌, IfOk, OnErr, Err, string_bytes};
+ghost use Rattle.std.specs.Prelude.{◌≡◌, ◌≢◌, IfOk, Err, string_bytes};
 ghost use Rattle.std.specs.Io.KnownBytes.{Appends};
 ghost use Rattle.vault_core_evidence.specs.Breaches.{first_breach};
-ghost use Rattle.vault_core_evidence.specs.Events.{events_asked};
 ghost use Rattle.vault_core_model.specs.Leaves.{LeavesSame};
 ghost use Rattle.vault_core_model.specs.declared.reply.Reply.TheVariants.{Refused};
-ghost use Rattle.vault_files_events.specs.EventsText.{events_text};
 ghost use Rattle.vault_files_events.specs.Seal.{seal_text as seal_lines};
-ghost use Rattle.vault_io.specs.Begins.{Begins};
 ghost use Rattle.vaultctl_commands.specs.Evidence as spec;
 ghost use Rattle.vaultctl_commands.specs.Faults.{reports_device};
 ghost use Rattle.vaultctl_commands.specs.Printed.{printed};
 
-use crate::asked::{AskedEvents, AskedSeal};
+use crate::asked::AskedSeal;
 use crate::carrying::print_refusal;
 use crate::fault::JobFault;
 use crate::outcome::Outcome;
@@ -24,31 +21,7 @@ use vault_core_evidence::breach::{Breach, Law};
 use vault_core_evidence::walk::{Judged, lawful};
 use vault_core_model::halt::{Fault, Halt};
 use vault_core_model::keeper::Keeper;
-use vault_files::ExportFault;
-use vault_files_events::{Seal, export_events, seal, seal_text};
-
-/// Prints all that happened to each entry of a vault, or what of it was before a moment.
-///
-/// `Write` comes where the text can't be written, `Memory` where there is no room for an entry's rows, and `Device` where
-/// the vault's device failed.
-pub fn print_events<K: Keeper, W: Write>(
-    alloc: Global,
-    keeper: &mut K,
-    asked: &AskedEvents,
-    out: &mut W,
-) -> Result<Outcome, JobFault>
-    ensures ok { K.is_honest keeper.new → IfOk result (λ stated. spec.PrintsEvents asked.now.before (K.vault keeper.old) stated (W.contents out.old) (W.contents out.new)) }
-    ensures err { K.is_honest keeper.new → OnErr result (Begins (W.contents out.old) (W.contents out.new) (events_text (events_asked asked.now.before (K.vault keeper.old)))) }
-    ensures leaves { LeavesSame K.Kept keeper.old keeper.new (reports_device result) }
-    ensures reader { result ≢ Err JobFault.Read }
-{
-    match export_events(alloc, keeper, out, asked.before) {
-        Ok(_) => Ok(Outcome::Done),
-        Err(ExportFault::Write) => Err(JobFault::Write),
-        Err(ExportFault::Memory) => Err(JobFault::Memory),
-        Err(ExportFault::Device) => Err(JobFault::Device),
-    }
-}
+use vault_files_events::{Seal, seal, seal_text};
 
 /// Prints the lines of a seal.
 fn print_seal<W: Write>(alloc: Global, seal: &Seal, out: &mut W) -> Result<Outcome, JobFault>

@@ -10,5 +10,6 @@ pub mod outcome;
 pub mod printing;
 pub mod progress_keeper;
 pub mod progress_writer;
+pub mod rows;
 pub mod text;
 mod words;

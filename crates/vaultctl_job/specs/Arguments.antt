@@ -40,6 +40,10 @@ host = record (option (codes "host")) { action = Some Append }
 abbrev pub log : Rule
 log = record (new_rule (codes "log")) { long = Some (codes "log"); action = Some SetTrue }
 
+-- --external
+abbrev pub external : Rule
+external = record (new_rule (codes "external")) { long = Some (codes "external"); action = Some SetTrue }
+
 -- --journal FILE
 abbrev pub journal : Rule
 journal = option (codes "journal")

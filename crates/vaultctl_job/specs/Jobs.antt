@@ -59,7 +59,7 @@ abbrev pub file_of : List Row → Text
 file_of rows = text_of (codes "FILE") rows
 
 unfoldable pub init_of : List Row → InitJob
-init_of rows = record { file = file_of rows }
+init_of rows = record { file = file_of rows; external = is_set (codes "external") rows }
 
 unfoldable pub dept_of : List Row → DeptJob
 dept_of rows = record { file = file_of rows; name = text_of (codes "NAME") rows; asking = asking_of rows }
@@ -134,7 +134,7 @@ serve_of rows = record {
 }
 
 unfoldable pub migrate_of : List Row → MigrateJob
-migrate_of rows = record { old = text_of (codes "OLD") rows; new = text_of (codes "NEW") rows }
+migrate_of rows = record { old = text_of (codes "OLD") rows; new = text_of (codes "NEW") rows; external = is_set (codes "external") rows }
 
 -- what a subcommand of that name asks for with these words
 abbrev pub job_named : Text → List Row → Option Job

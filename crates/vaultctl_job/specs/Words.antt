@@ -15,8 +15,9 @@ on_file name = with_rule (new_app name) (arg.place (codes "FILE"))
 abbrev pub asked : App → App
 asked a = with_rule (with_rule a arg.asker) arg.moment
 
+-- init FILE [--external]
 abbrev pub init_app : App
-init_app = on_file (codes "init")
+init_app = with_rule (on_file (codes "init")) arg.external
 
 -- dept FILE NAME --as C [--at T]
 abbrev pub dept_app : App
@@ -76,9 +77,9 @@ abbrev pub serve_app : App
 serve_app =
     with_rule (with_rule (with_rule (with_rule (with_rule (with_rule (on_file (codes "serve")) arg.port) arg.count) arg.lines) arg.host) arg.log) arg.journal
 
--- migrate OLD NEW
+-- migrate OLD NEW [--external]
 abbrev pub migrate_app : App
-migrate_app = with_rule (with_rule (new_app (codes "migrate")) (arg.place (codes "OLD"))) (arg.place (codes "NEW"))
+migrate_app = with_rule (with_rule (with_rule (new_app (codes "migrate")) (arg.place (codes "OLD"))) (arg.place (codes "NEW"))) arg.external
 
 -- a subcommand is asked for, help is no subcommand, and there is a version to ask for
 abbrev pub needing_subcommand : App → App

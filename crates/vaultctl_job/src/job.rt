@@ -8,10 +8,12 @@ pub struct Asking {
     pub at: Option<Word>,
 }
 
-/// `init FILE`
+/// `init FILE [--external]`
 #[derive(Drop)]
 pub struct InitJob {
     pub file: Word,
+    /// The vault registers contents that are kept outside it.
+    pub external: bool,
 }
 
 /// `dept FILE NAME --as C [--at T]`
@@ -145,13 +147,15 @@ pub struct ServeJob {
     pub journal: Option<Word>,
 }
 
-/// `migrate OLD NEW`
+/// `migrate OLD NEW [--external]`
 #[derive(Drop)]
 pub struct MigrateJob {
-    /// The file of an earlier version.
+    /// The file of an earlier schema version than the copy's.
     pub old: Word,
     /// The file that gets the copy.
     pub new: Word,
+    /// The copy registers contents that are kept outside it.
+    pub external: bool,
 }
 
 /// What the program is to do.

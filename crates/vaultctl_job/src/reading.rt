@@ -120,6 +120,16 @@ impl Memory {
     }
 }
 
+#[tactic(auto, unfolding(crate::specs::Jobs::init_of))]
+fn init(memory: &mut Memory, matches: &ArgMatches<'_>) -> InitJob
+    ensures { spec.IfEnough memory.old.is_short memory.new.is_short (result ≡ spec.init_of (rows_of (found_of matches.now))) }
+{
+    InitJob {
+        file: memory.word(matches, "FILE"),
+        external: is_set(matches, "external"),
+    }
+}
+
 #[tactic(auto, unfolding(crate::specs::Jobs::dept_of))]
 fn dept(memory: &mut Memory, matches: &ArgMatches<'_>) -> DeptJob
     ensures { spec.IfEnough memory.old.is_short memory.new.is_short (result ≡ spec.dept_of (rows_of (found_of matches.now))) }
@@ -259,17 +269,16 @@ fn migrate(memory: &mut Memory, matches: &ArgMatches<'_>) -> MigrateJob
     MigrateJob {
         old: memory.word(matches, "OLD"),
         new: memory.word(matches, "NEW"),
+        external: is_set(matches, "external"),
     }
 }
 
-#[tactic(auto, unfolding(crate::specs::Jobs::init_of, crate::specs::Jobs::register_of, crate::specs::Jobs::verify_of, crate::specs::Jobs::lawful_of, crate::specs::Jobs::replay_of))]
+#[tactic(auto, unfolding(crate::specs::Jobs::register_of, crate::specs::Jobs::verify_of, crate::specs::Jobs::lawful_of, crate::specs::Jobs::replay_of))]
 fn job_read(memory: &mut Memory, name: &str, matches: &ArgMatches<'_>) -> Option<Job>
     ensures { spec.IfEnough memory.old.is_short memory.new.is_short (result ≡ spec.job_named name.now (rows_of (found_of matches.now))) }
 {
     match name {
-        "init" => Some(Job::Init(InitJob {
-            file: memory.word(matches, "FILE"),
-        })),
+        "init" => Some(Job::Init(init(memory, matches))),
         "dept" => Some(Job::Dept(dept(memory, matches))),
         "caller" => Some(Job::Caller(caller(memory, matches))),
         "bucket" => Some(Job::Bucket(bucket(memory, matches))),

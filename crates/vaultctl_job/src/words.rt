@@ -12,8 +12,8 @@ use clap::error::ErrorKind;
 use clap::{ArgMatches, Command, Error};
 use std::alloc::{AllocError, Global};
 
-/// The version of the program, and the schema version of the tables that it writes.
-pub const VERSION: &str = "0.9.0 (schema 3)";
+/// The version of the program, and the schema versions of the tables that it writes.
+pub const VERSION: &str = "0.9.0 (schemas 3 and 4)";
 
 fn needs_subcommand<'a>(command: Command<'a>) -> Command<'a>
     ensures { app_of result ≡ needing_subcommand (app_of command.entry) }

@@ -12,7 +12,7 @@ use Rattle.sqlite.specs.Files.{HoldsDatabase, file_state, over_files}
 use Rattle.sqlite.specs.Held.{Held}
 use Rattle.sqlite.specs.State.{HasCleanDisk}
 use Rattle.vault_core_model.specs.Vault.{Vault}
-use Rattle.vault_audit_model.specs.SchemaVersions.{newest}
+use Rattle.vault_audit_model.specs.SchemaVersions.{edition_of}
 use Rattle.vault_audit_model.specs.Spells.{AreSoundAs}
 use Rattle.vault_store.specs.Kept.{StandsFor}
 use Rattle.vault_store.specs.VaultOf.{vault_of}
@@ -24,8 +24,8 @@ module _ {D : Type 0} {g : Ghosts D} (c : Held (FileStore D g)) (files : Files D
   held : (image : Image) → HoldsDatabase image (file_state c).committed.trees → IsHeldIn image v
   held image holds =
       let kept = stands.keeps copied.was_open in
-      let is = subst (λ db. AreSoundAs newest db v) (sym kept.1) kept.0 in
-      ((file_state c).committed.trees, holds, subst (λ schema. AreSoundAs newest (record { schema = schema; trees = (file_state c).committed.trees }) v) is.spells.schema is)
+      let is = subst (λ db. AreSoundAs (edition_of v.external) db v) (sym kept.1) kept.0 in
+      ((file_state c).committed.trees, holds, subst (λ schema. AreSoundAs (edition_of v.external) (record { schema = schema; trees = (file_state c).committed.trees }) v) is.spells.schema is)
 
 module _ {D : Type 0} {g : Ghosts D} (keeper : SqlKeeper (FileStore D g) over_files) where
   abbrev Stands : Held (FileStore D g) → Type 0

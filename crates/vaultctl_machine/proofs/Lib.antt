@@ -3,5 +3,6 @@ mod ClosingLemmas
 pub mod Failures
 mod FoundLemmas
 mod MigrationLemmas
+mod VersionLemmas
 mod OpeningLemmas
 mod RefusalLemmas

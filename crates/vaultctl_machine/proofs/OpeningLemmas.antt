@@ -29,18 +29,18 @@ use Rattle.vaultctl_machine.specs.Openings.{FindsWhatWasLeft, IsFoundAgain, IsOp
 
 -- trees in which the next opening finds a vault list a schema, and obey it
 are_databases : (v : Vault) (refused : List (ℕ × Change)) → AreDatabases (IsOneFoundIn v refused)
-are_databases v [] trees found = (vault_schema, found.listed)
-are_databases v (c ∷ cs) trees (inl it) = (vault_schema, it.found.listed)
+are_databases v [] trees found = (vault_schema v.external, found.listed)
+are_databases v (c ∷ cs) trees (inl it) = (vault_schema (changed v c.0 c.1).external, it.found.listed)
 are_databases v (c ∷ cs) trees (inr more) = are_databases v cs trees more
 
 -- ---- what the next opening finds is the vault that is kept, or it with one change that was refused
 
 module _ (opened : State) (is_open : IsTrue opened.is_open) (live : IsLive opened) (settled : opened.now ≡ opened.committed) where
-  -- trees list one schema, so that of the opening is the one of every vault
+  -- trees list one schema, so that of the opening is the one of the vault's file
   read_again : (v : Vault) → IsFoundIn v opened.committed.trees → AreSound opened.now v
   read_again v found =
       let db = opened.committed in
-      let same = lists_once (db.trees catalog_tree) db.schema vault_schema (live is_open).1.lists found.listed.lists in
+      let same = lists_once (db.trees catalog_tree) db.schema (vault_schema v.external) (live is_open).1.lists found.listed.lists in
       subst (λ (d : Database). AreSound d v) (sym settled) (subst (λ s. AreSound (record { schema = s; trees = db.trees }) v) (sym same) found.spelled)
 
   read_all : (v : Vault) (refused : List (ℕ × Change)) → IsOneFoundIn v refused opened.committed.trees → AreSoundFor opened.now v refused

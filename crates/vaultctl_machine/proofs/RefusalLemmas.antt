@@ -9,19 +9,19 @@ use Rattle.sqlite.specs.Start.{FindsIn}
 use Rattle.sqlite.specs.State.{State, HasCleanDisk, IsLive, Opens, Survives}
 use Rattle.vault_audit.specs.Health.{IsHealthy}
 use Rattle.vault_audit_model.specs.declared.schema.SchemaVersion.{SchemaVersion}
-use Rattle.vault_audit_model.specs.declared.schema.SchemaVersion.TheVariants.{First, Second}
-use Rattle.vault_audit_model.specs.SchemaVersions.{newest}
+use Rattle.vault_audit_model.specs.SchemaVersions.{edition_of}
 use Rattle.vault_audit_model.specs.Spells.{AreSound, AreSoundAs}
 use Rattle.vault_audit_model.specs.Tables.{no_schema, schema_of}
 use Rattle.vault_base.specs.declared.refusal.Refusal.{Refusal}
 use Rattle.vault_base.specs.declared.refusal.Refusal.TheVariants.{Damaged, Device, Memory, NameTaken}
 use Rattle.vault_base.specs.declared.refusal.Table.{Table}
 use Rattle.vault_core_model.specs.Vault.{Vault}
+use Rattle.vault_store.specs.Copied.{RefusesARow, registering}
 use Rattle.vault_store.specs.Tables.{HasTablesOf}
 use Rattle.vaultctl_machine.proofs.FoundLemmas.{found_of_earlier, was_clean}
 use Rattle.vaultctl_machine.specs.Closings.{Closes}
 use Rattle.vaultctl_machine.specs.Faults.{ReportsFailure, refusal_of}
-use Rattle.vaultctl_machine.specs.Files.{AreSoundEarlier, AreTreesAs, IsWholeAs}
+use Rattle.vaultctl_machine.specs.Files.{AreSoundEarlier, AreTreesAs, IsWholeAs, IsWholeEarlier}
 use Rattle.vaultctl_machine.specs.Refusals.{FailsForItsRow, IsRefusedOver, IsUncopiedFrom, IsUnmade, IsUnmadeOver, LetsBothGo, RefusesItsRowEarlier, Reports}
 use Rattle.vaultctl_machine.specs.declared.open_error.OpenError.{OpenError}
 
@@ -72,28 +72,27 @@ module _ (image : Image) (old new : State) (r : Refusal) (opened : HasCleanDisk 
     damaged = λ clean t is v whole.
         let before = was_clean old new _ survives clean in
         let it = opened before in
-        damaged clean t is v (whole_is_sound image old it.0 it.1 (finds before) newest v whole);
+        damaged clean t is v (whole_is_sound image old it.0 it.1 (finds before) (edition_of v.external) v whole);
   }
 
   -- the same of tables of an earlier schema version
-  earlier_is_sound : HasCleanDisk old → (v : Vault) → IsWholeAs First image v ⊎ IsWholeAs Second image v → AreSoundEarlier old.now v
-  earlier_is_sound clean v (inl whole) = inl (whole_is_sound image old (opened clean).0 (opened clean).1 (finds clean) First v whole)
-  earlier_is_sound clean v (inr whole) = inr (whole_is_sound image old (opened clean).0 (opened clean).1 (finds clean) Second v whole)
+  earlier_is_sound : (external : Bool) → HasCleanDisk old → (v : Vault) → IsWholeEarlier external image v → AreSoundEarlier external old.now v
+  earlier_is_sound external clean v (n, earlier, whole) = (n, earlier, whole_is_sound image old (opened clean).0 (opened clean).1 (finds clean) n v whole)
 
-  pub uncopied_from : (HasCleanDisk new → HasCleanDisk old) → ((v : Vault) → AreSoundEarlier old.now v → HasCleanDisk new → (t : Table) → r ≢ Damaged t) → IsUncopiedFrom image new r
-  uncopied_from clean undamaged = record {
-    damaged = λ is_clean t is v whole. undamaged v (earlier_is_sound (clean is_clean) v whole) is_clean t is;
+  pub uncopied_from : (external : Bool) → (HasCleanDisk new → HasCleanDisk old) → ((v : Vault) → AreSoundEarlier external old.now v → HasCleanDisk new → (t : Table) → r ≢ Damaged t) → IsUncopiedFrom external image new r
+  uncopied_from external clean undamaged = record {
+    damaged = λ is_clean t is v whole. undamaged v (earlier_is_sound external (clean is_clean) v whole) is_clean t is;
   }
 
 -- of the two connections of a copy, as they were opened and as they were let go of
-pub fails_for_its_row : (image : Image) (old source new target : State) (r : Refusal) → (HasCleanDisk old → Opens old × IsLive old) → (HasCleanDisk old → FindsIn image old) → (HasCleanDisk new → Opens new × IsLive new)
+pub fails_for_its_row : (external : Bool) (image : Image) (old source new target : State) (r : Refusal) → (HasCleanDisk old → Opens old × IsLive old) → (HasCleanDisk old → FindsIn image old) → (HasCleanDisk new → Opens new × IsLive new)
     → (HasCleanDisk source → HasCleanDisk old) → (HasCleanDisk target → HasCleanDisk new)
-    → (old.in_transaction ≡ false → new.in_transaction ≡ false → IsHealthy source → IsHealthy target → r ≡ Device → RefusesItsRowEarlier old.now) → FailsForItsRow image source target r
-fails_for_its_row image old source new target r opened finds opened_new clean clean_new refused = λ works works_new is.
+    → (old.in_transaction ≡ false → new.in_transaction ≡ false → IsHealthy source → IsHealthy target → r ≡ Device → RefusesItsRowEarlier external old.now) → FailsForItsRow external image source target r
+fails_for_its_row external image old source new target r opened finds opened_new clean clean_new refused = λ works works_new is.
     let before = clean works.clean in
     let opens = (opened before).0 in
     let it = refused opens.autocommit (opened_new (clean_new works_new.clean)).0.autocommit works works_new is in
-    (it.0, found_of_earlier image old it.0 opens (finds before) it.1, it.2)
+    (it.0, found_of_earlier external image old opens (finds before) it.0 it.1, it.2)
 
 -- what isn't made is never reported as damaged
 undamaged : (r : Refusal) → IsUnmade r → (t : Table) → ¬ (r ≡ Damaged t)
@@ -104,8 +103,8 @@ undamaged r unmade t is =
       | inr it ↦ let never : Device ≡ Damaged t = sym it ∙ is in cc never
     ]
 
-pub uncopied_unmade : (image : Image) (s : State) (r : Refusal) → IsUnmade r → IsUncopiedFrom image s r
-uncopied_unmade image s r unmade = record { damaged = λ clean t is v whole. undamaged r unmade t is }
+pub uncopied_unmade : (external : Bool) (image : Image) (s : State) (r : Refusal) → IsUnmade r → IsUncopiedFrom external image s r
+uncopied_unmade external image s r unmade = record { damaged = λ clean t is v whole. undamaged r unmade t is }
 
 -- a store that works isn't refused as a failed device, and one that is refused as taken has something in it still
 pub unmade_over : (old new : State) (r : Refusal) (Commits : Trees → Type 0) → (HasCleanDisk old → Opens old × IsLive old) → Survives old new Commits → (old.in_transaction ≡ false → IsHealthy new → r ≢ Device)

@@ -10,6 +10,7 @@ use Rattle.sqlite.specs.Files.{file_state, over_files}
 use Rattle.sqlite.specs.Held.{Held}
 use Rattle.sqlite.specs.State.{State, HasCleanDisk}
 use Rattle.vault_core_model.specs.Vault.{Vault}
+use Rattle.vault_store.specs.Copied.{registering}
 use Rattle.vault_store.specs.Kept.{StandsFor}
 use Rattle.vault_store.specs.VaultOf.{vault_of}
 use Rattle.vault_store.specs.declared.sql_keeper.SqlKeeper.{SqlKeeper}
@@ -37,9 +38,9 @@ pub record IsCarriedOn (image : Image) (s : State) (Does : Vault → Vault → T
 abbrev pub Carries : {D : Type 0} {g : Ghosts D} → Image → List (Held (FileStore D g) × Bool) → List (Held (FileStore D g) × Bool) → (Vault → Vault → Type 0) → Type 0
 Carries image old new Does = Closes old new (λ conn. HasCleanDisk (file_state conn) → IsCarriedOn image (file_state conn) Does)
 
--- The vault of an earlier schema version that was found in files that held this image was copied: both connections were closed, and the second one stood for that vault; if both disks returned what was written.
-abbrev pub Copies : {D E : Type 0} {g : Ghosts D} {h : Ghosts E} → Image → List (Held (FileStore D g) × Bool) → List (Held (FileStore D g) × Bool)
+-- The vault of an earlier schema version that was found in files that held this image was copied: both connections were closed, and the second one stood for the copy, which registers contents that are kept outside, or doesn't; if both disks returned what was written.
+abbrev pub Copies : {D E : Type 0} {g : Ghosts D} {h : Ghosts E} → Bool → Image → List (Held (FileStore D g) × Bool) → List (Held (FileStore D g) × Bool)
     → List (Held (FileStore E h) × Bool) → List (Held (FileStore E h) × Bool) → Type 0
-Copies image old new none copies =
+Copies external image old new none copies =
     Closes old new (λ source. Closes none copies (λ conn. HasCleanDisk (file_state source) → HasCleanDisk (file_state conn)
-    → (v : Vault) × IsFoundEarlier image v × ∥ StandsFor (file_state conn) v ∥₁))
+    → (v : Vault) × IsFoundEarlier external image v × ∥ StandsFor (file_state conn) (registering external v) ∥₁))

@@ -9,14 +9,12 @@ use Rattle.vault_base.specs.declared.refusal.Table.{Table}
 use Rattle.vault_core_model.specs.Vault.{Vault}
 use Rattle.vault_audit.specs.Health.{IsHealthy}
 use Rattle.vault_audit.specs.Whole.{IsReported}
-use Rattle.vault_audit_model.specs.declared.schema.SchemaVersion.TheVariants.{First, Second}
-use Rattle.vault_audit_model.specs.SchemaVersions.{newest}
 use Rattle.vault_audit_model.specs.Tables.{no_schema}
-use Rattle.vault_store.specs.Copied.{RefusesARow}
+use Rattle.vault_store.specs.Copied.{RefusesARow, registering}
 use Rattle.vault_store.specs.Create.{IsFault}
 use Rattle.vaultctl_machine.specs.Closings.{Closes}
 use Rattle.vaultctl_machine.specs.Faults.{ReportsFailure, refusal_of}
-use Rattle.vaultctl_machine.specs.Files.{AreSoundEarlier, IsFoundEarlier, IsWholeAs}
+use Rattle.vaultctl_machine.specs.Files.{AreSoundEarlier, IsFoundEarlier, IsWholeEarlier, IsWholeIn}
 use Rattle.vaultctl_machine.specs.declared.open_error.OpenError.{OpenError}
 
 -- a making is refused where something is there already, or where memory runs out, or by the device
@@ -45,19 +43,19 @@ pub record IsRefusedOver (image : Image) (s : State) (r : Refusal) : Type 0 wher
   -- a store that works is never reported as one that failed
   pub healthy : IsHealthy s → r ≢ Device
   -- nor are files that hold a sound vault reported as damaged
-  pub damaged : HasCleanDisk s → (t : Table) → r ≡ Damaged t → (v : Vault) → ¬ IsWholeAs newest image v
+  pub damaged : HasCleanDisk s → (t : Table) → r ≡ Damaged t → (v : Vault) → ¬ IsWholeIn image v
 
 -- a vault of an earlier schema version was looked at in files that held this, and wasn't copied: it isn't reported as damaged where it is sound
-pub record IsUncopiedFrom (image : Image) (s : State) (r : Refusal) : Type 0 where
-  pub damaged : HasCleanDisk s → (t : Table) → r ≡ Damaged t → (v : Vault) → ¬ (IsWholeAs First image v ⊎ IsWholeAs Second image v)
+pub record IsUncopiedFrom (external : Bool) (image : Image) (s : State) (r : Refusal) : Type 0 where
+  pub damaged : HasCleanDisk s → (t : Table) → r ≡ Damaged t → (v : Vault) → ¬ IsWholeEarlier external image v
 
 -- tables of an earlier schema version are sound for a vault, of which a copy is refused for one of its rows
-abbrev pub RefusesItsRowEarlier : Database → Type 0
-RefusesItsRowEarlier db = (v : Vault) × AreSoundEarlier db v × RefusesARow v
+abbrev pub RefusesItsRowEarlier : Bool → Database → Type 0
+RefusesItsRowEarlier external db = (v : Vault) × AreSoundEarlier external db v × RefusesARow (registering external v)
 
 -- Where the two stores work, a copy of the vault in files that held this is reported as a failed device only because the tables of the copy refuse a row of that vault.
-abbrev pub FailsForItsRow : Image → State → State → Refusal → Type 0
-FailsForItsRow image source target r = IsHealthy source → IsHealthy target → r ≡ Device → (v : Vault) × IsFoundEarlier image v × RefusesARow v
+abbrev pub FailsForItsRow : Bool → Image → State → State → Refusal → Type 0
+FailsForItsRow external image source target r = IsHealthy source → IsHealthy target → r ≡ Device → (v : Vault) × IsFoundEarlier external image v × RefusesARow (registering external v)
 
 -- no vault was made in the store of a connection
 pub record IsUnmadeOver (s : State) (r : Refusal) : Type 0 where

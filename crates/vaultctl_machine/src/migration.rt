@@ -1,4 +1,4 @@
-//! Vaults of an earlier schema version, copied into new files.
+//! Vaults of an earlier schema version than the copy's, copied into new files.
 ghost use Rattle.std.specs.Prelude.{◌≡◌, ◌≢◌, ◌∷◌, ◌++◌, [], true, false, IfOk, IfErr, OnOk, OnErr};
 ghost use Rattle.sqlite.specs.Files.{file_state, over_files, IsOpened};
 ghost use Rattle.sqlite.specs.Held.{state};
@@ -6,16 +6,18 @@ ghost use Rattle.sqlite.specs.Start.{FindsIn};
 ghost use Rattle.sqlite.specs.State.{HasCleanDisk};
 ghost use Rattle.sqlite_wal.specs.Files.{image_at};
 ghost use Rattle.vault_audit.specs.Health.{IsHealthy};
-ghost use Rattle.vault_audit_model.specs.declared.schema.SchemaVersion.{SchemaVersion};
+ghost use Rattle.vault_audit_model.specs.declared.schema.SchemaVersion.{SchemaVersion as AnyVersion};
+ghost use Rattle.vault_audit_model.specs.SchemaVersions.{is_external};
 ghost use Rattle.vault_audit_model.specs.Spells.{AreSound, AreSoundAs};
 ghost use Rattle.vault_base.specs.declared.refusal.Table.{Table};
 ghost use Rattle.vault_core_model.specs.Vault.{Vault};
+ghost use Rattle.vault_store.specs.Copied.{registering};
 ghost use Rattle.vault_store.specs.Kept.{StandsFor};
 ghost use Rattle.vault_store.specs.Migrated.{RefusesItsRow};
 ghost use Rattle.vault_store.specs.VaultOf.{vault_of};
 ghost use Rattle.vaultctl_machine.specs.Closings.{Closes};
 ghost use Rattle.vaultctl_machine.specs.Faults.{ReportsFailure, refusal_of};
-ghost use Rattle.vaultctl_machine.specs.Files.{AreSoundEarlier, IsFoundEarlier, IsHeldAs};
+ghost use Rattle.vaultctl_machine.specs.Files.{AreSoundEarlier, IsCopiedFrom, IsHeldAs};
 ghost use Rattle.vaultctl_machine.specs.VaultCounts.{with_copied};
 ghost use Rattle.vaultctl_machine.specs.Places.{after_a_look};
 ghost use Rattle.vaultctl_machine.specs.Refusals.{FailsForItsRow, IsUncopied, IsUncopiedFrom, LetsBothGo, LetsGo, RefusesItsRowEarlier, Reports};
@@ -38,6 +40,24 @@ use vaultctl_machine_stores::cause::Cause;
 use vaultctl_machine_stores::connect::Opened;
 use vaultctl_machine_stores::site::Site;
 
+/// A copy that is to be made: of the vault in one file, into another.
+#[derive(Clone, Copy)]
+pub struct Copying<'a> {
+    /// The path of the file of an earlier schema version than the copy's.
+    pub old: &'a str,
+    /// The path of the file that gets the copy.
+    pub new: &'a str,
+    /// The copy registers contents that are kept outside.
+    pub external: bool,
+}
+
+/// The files of a copy.
+#[derive(Clone, Copy)]
+struct Sites<'s, 'a> {
+    old: &'s Site<'a>,
+    new: &'s Site<'a>,
+}
+
 /// A vault that was copied, and the files that it was copied from, which nobody else has before it is closed.
 pub struct Migrated<O: Alter, S: Alter> {
     source: Connection<O>,
@@ -50,7 +70,8 @@ struct Copied<O: Alter, S: Alter> {
     outcome: Result<SqlKeeper<S>, (Refusal, Connection<S>)>,
 }
 
-/// Copies the vault of one connection, whose tables are of that schema version, into another, over any stores.
+/// Copies the vault of one connection, whose tables are of that schema version, into another, over any stores. The copy
+/// registers contents that are kept outside, or doesn't.
 ///
 /// The errors are those of `SqlKeeper::migrate`.
 fn copy<O: Alter, S: Alter>(
@@ -58,45 +79,48 @@ fn copy<O: Alter, S: Alter>(
     source: Connection<O>,
     schema_version: SchemaVersion,
     new: Connection<S>,
+    external: bool,
 ) -> Copied<O, S>
+    requires { is_external schema_version ≡ false }
     ensures clean { HasCleanDisk (state O.Store result.source) → HasCleanDisk (state O.Store source) }
     ensures clean_new { IfErr result.outcome (λ e. HasCleanDisk (state S.Store e.1) → HasCleanDisk (state S.Store new)) }
     ensures reported { IfErr result.outcome (λ e. IsUncopied e.0) }
-    // The tables that were found spell the vault of the keeper, and so do the new ones.
+    // The vault of the keeper is the copy of the one that the tables spell which were found, and the new ones spell it.
     ensures found { IfOk result.outcome (λ k. HasCleanDisk (state O.Store result.source) → HasCleanDisk (state S.Store k.conn)
-        → AreSoundAs schema_version (state O.Store source).now (vault_of S.Store k)) }
+        → (v : Vault) × AreSoundAs schema_version (state O.Store source).now v × (vault_of S.Store k ≡ registering external v)) }
     ensures sound { IfOk result.outcome (λ k. HasCleanDisk (state S.Store k.conn) → AreSound (state S.Store k.conn).now (vault_of S.Store k)) }
     ensures damaged { IfErr result.outcome (λ e. HasCleanDisk (state O.Store result.source) → (t : Table) → e.0 ≡ Refusal.Damaged t →
         (v : Vault) → ¬ AreSoundAs schema_version (state O.Store source).now v) }
     // Two stores that work are reported as failed only where the tables of the copy refuse a row.
     ensures refused { source.in_transaction ≡ false → new.in_transaction ≡ false
-        → IfErr result.outcome (λ e. IsHealthy (state O.Store result.source) → IsHealthy (state S.Store e.1) → e.0 ≡ Refusal.Device → RefusesItsRow schema_version (state O.Store source).now) }
+        → IfErr result.outcome (λ e. IsHealthy (state O.Store result.source) → IsHealthy (state S.Store e.1) → e.0 ≡ Refusal.Device → RefusesItsRow schema_version external (state O.Store source).now) }
 {
     let mut source = source;
-    let outcome = SqlKeeper::migrate(alloc, &mut source, schema_version, new);
+    let outcome = SqlKeeper::migrate(alloc, &mut source, schema_version, new, external);
     Copied { source, outcome }
 }
 
-/// The same of tables of one of the two earlier schema versions, which their columns say.
+/// The same of tables of one of the earlier schema versions, which their tables and columns say.
 fn copy_earlier<O: Alter, S: Alter>(
     alloc: Global,
     source: Connection<O>,
     new: Connection<S>,
+    external: bool,
 ) -> Copied<O, S>
     ensures clean { HasCleanDisk (state O.Store result.source) → HasCleanDisk (state O.Store source) }
     ensures clean_new { IfErr result.outcome (λ e. HasCleanDisk (state S.Store e.1) → HasCleanDisk (state S.Store new)) }
     ensures reported { IfErr result.outcome (λ e. IsUncopied e.0) }
     ensures found { IfOk result.outcome (λ k. HasCleanDisk (state O.Store result.source) → HasCleanDisk (state S.Store k.conn)
-        → AreSoundEarlier (state O.Store source).now (vault_of S.Store k)) }
+        → (v : Vault) × AreSoundEarlier external (state O.Store source).now v × (vault_of S.Store k ≡ registering external v)) }
     ensures sound { IfOk result.outcome (λ k. HasCleanDisk (state S.Store k.conn) → AreSound (state S.Store k.conn).now (vault_of S.Store k)) }
-    // Tables that are sound as those of one of the two are never reported as damaged.
-    ensures undamaged { (v : Vault) → AreSoundEarlier (state O.Store source).now v
+    // Tables that are sound as those of one of these are never reported as damaged.
+    ensures undamaged { (v : Vault) → AreSoundEarlier external (state O.Store source).now v
         → IfErr result.outcome (λ e. HasCleanDisk (state O.Store result.source) → (t : Table) → e.0 ≢ Refusal.Damaged t) }
     ensures refused { source.in_transaction ≡ false → new.in_transaction ≡ false
-        → IfErr result.outcome (λ e. IsHealthy (state O.Store result.source) → IsHealthy (state S.Store e.1) → e.0 ≡ Refusal.Device → RefusesItsRowEarlier (state O.Store source).now) }
+        → IfErr result.outcome (λ e. IsHealthy (state O.Store result.source) → IsHealthy (state S.Store e.1) → e.0 ≡ Refusal.Device → RefusesItsRowEarlier external (state O.Store source).now) }
 {
-    let schema_version = schema_version_of(source.schema());
-    copy(alloc, source, schema_version, new)
+    let schema_version = schema_version_of(source.schema(), external);
+    copy(alloc, source, schema_version, new, external)
 }
 
 /// The same into a file. Each function names one store of files alone: to name both at once takes more steps than the
@@ -105,19 +129,20 @@ fn copy_to_file<O: Alter, B: Start>(
     alloc: Global,
     source: Connection<O>,
     new: Connection<VaultStore<B>>,
+    external: bool,
 ) -> Copied<O, VaultStore<B>>
     ensures clean { HasCleanDisk (state O.Store result.source) → HasCleanDisk (state O.Store source) }
     ensures clean_new { IfErr result.outcome (λ e. HasCleanDisk (file_state e.1) → HasCleanDisk (file_state new)) }
     ensures reported { IfErr result.outcome (λ e. IsUncopied e.0) }
     ensures found { IfOk result.outcome (λ k. HasCleanDisk (state O.Store result.source) → HasCleanDisk (file_state k.conn)
-        → AreSoundEarlier (state O.Store source).now (vault_of over_files k)) }
+        → (v : Vault) × AreSoundEarlier external (state O.Store source).now v × (vault_of over_files k ≡ registering external v)) }
     ensures sound { IfOk result.outcome (λ k. HasCleanDisk (file_state k.conn) → AreSound (file_state k.conn).now (vault_of over_files k)) }
-    ensures undamaged { (v : Vault) → AreSoundEarlier (state O.Store source).now v
+    ensures undamaged { (v : Vault) → AreSoundEarlier external (state O.Store source).now v
         → IfErr result.outcome (λ e. HasCleanDisk (state O.Store result.source) → (t : Table) → e.0 ≢ Refusal.Damaged t) }
     ensures refused { source.in_transaction ≡ false → new.in_transaction ≡ false
-        → IfErr result.outcome (λ e. IsHealthy (state O.Store result.source) → IsHealthy (file_state e.1) → e.0 ≡ Refusal.Device → RefusesItsRowEarlier (state O.Store source).now) }
+        → IfErr result.outcome (λ e. IsHealthy (state O.Store result.source) → IsHealthy (file_state e.1) → e.0 ≡ Refusal.Device → RefusesItsRowEarlier external (state O.Store source).now) }
 {
-    copy_earlier(alloc, source, new)
+    copy_earlier(alloc, source, new, external)
 }
 
 /// The same from a file.
@@ -125,19 +150,20 @@ fn copy_file<A: Start, B: Start>(
     alloc: Global,
     source: Connection<VaultStore<A>>,
     new: Connection<VaultStore<B>>,
+    external: bool,
 ) -> Copied<VaultStore<A>, VaultStore<B>>
     ensures clean { HasCleanDisk (file_state result.source) → HasCleanDisk (file_state source) }
     ensures clean_new { IfErr result.outcome (λ e. HasCleanDisk (file_state e.1) → HasCleanDisk (file_state new)) }
     ensures reported { IfErr result.outcome (λ e. IsUncopied e.0) }
     ensures found { IfOk result.outcome (λ k. HasCleanDisk (file_state result.source) → HasCleanDisk (file_state k.conn)
-        → AreSoundEarlier (file_state source).now (vault_of over_files k)) }
+        → (v : Vault) × AreSoundEarlier external (file_state source).now v × (vault_of over_files k ≡ registering external v)) }
     ensures sound { IfOk result.outcome (λ k. HasCleanDisk (file_state k.conn) → AreSound (file_state k.conn).now (vault_of over_files k)) }
-    ensures undamaged { (v : Vault) → AreSoundEarlier (file_state source).now v
+    ensures undamaged { (v : Vault) → AreSoundEarlier external (file_state source).now v
         → IfErr result.outcome (λ e. HasCleanDisk (file_state result.source) → (t : Table) → e.0 ≢ Refusal.Damaged t) }
     ensures refused { source.in_transaction ≡ false → new.in_transaction ≡ false
-        → IfErr result.outcome (λ e. IsHealthy (file_state result.source) → IsHealthy (file_state e.1) → e.0 ≡ Refusal.Device → RefusesItsRowEarlier (file_state source).now) }
+        → IfErr result.outcome (λ e. IsHealthy (file_state result.source) → IsHealthy (file_state e.1) → e.0 ≡ Refusal.Device → RefusesItsRowEarlier external (file_state source).now) }
 {
-    copy_to_file(alloc, source, new)
+    copy_to_file(alloc, source, new, external)
 }
 
 /// Copies the vault of a connection that was opened just now into another. Where that is refused, all files are as they
@@ -147,23 +173,23 @@ fn copy_file<A: Start, B: Start>(
 fn copy_into<A: Start, B: Start>(
     lost: &mut Log<Connection<VaultStore<A>>, bool>,
     uncopied: &mut Log<Connection<VaultStore<B>>, bool>,
-    old: &Site<'_>,
-    new: &Site<'_>,
+    sites: Sites<'_, '_>,
     found: Opened<VaultStore<A>>,
     empty: Opened<VaultStore<B>>,
+    external: bool,
 ) -> Result<Migrated<VaultStore<A>, VaultStore<B>>, OpenError>
     requires opened { HasCleanDisk (file_state found.conn) → IsOpened found.conn }
     requires found { HasCleanDisk (file_state found.conn) → FindsIn (image_at A.Start) (file_state found.conn) }
     requires opened_new { HasCleanDisk (file_state empty.conn) → IsOpened empty.conn }
     ensures sound { IfOk result (λ m. HasCleanDisk (file_state m.vault.conn) → AreSound (file_state m.vault.conn).now (vault_of over_files m.vault)) }
     ensures found { IfOk result (λ m. HasCleanDisk (file_state m.source) → HasCleanDisk (file_state m.vault.conn)
-        → IsFoundEarlier (image_at A.Start) (vault_of over_files m.vault)) }
-    ensures held { (n : SchemaVersion) (v : Vault) → IsHeldAs n (image_at A.Start) v → IfOk result (λ m. HasCleanDisk (file_state m.source) → HasCleanDisk (file_state m.vault.conn)
-        → vault_of over_files m.vault ≡ v) }
+        → IsCopiedFrom external (image_at A.Start) (vault_of over_files m.vault)) }
+    ensures held { (n : AnyVersion) (v : Vault) → IsHeldAs n (image_at A.Start) v → IfOk result (λ m. HasCleanDisk (file_state m.source) → HasCleanDisk (file_state m.vault.conn)
+        → vault_of over_files m.vault ≡ registering external v) }
     ensures reported { IfErr result (Reports IsUncopied) }
-    ensures lost { IfErr result (λ e. Closes lost.old.items lost.new.items (λ conn. IsUncopiedFrom (image_at A.Start) (file_state conn) (refusal_of e))) }
+    ensures lost { IfErr result (λ e. Closes lost.old.items lost.new.items (λ conn. IsUncopiedFrom external (image_at A.Start) (file_state conn) (refusal_of e))) }
     ensures healthy { IfErr result (λ e. LetsBothGo lost.old.items lost.new.items uncopied.old.items uncopied.new.items
-        (λ source target. FailsForItsRow (image_at A.Start) (file_state source) (file_state target) (refusal_of e))) }
+        (λ source target. FailsForItsRow external (image_at A.Start) (file_state source) (file_state target) (refusal_of e))) }
     ensures kept { OnOk result ((lost.new ≡ lost.old) × (uncopied.new ≡ uncopied.old)) }
 {
     let Opened {
@@ -176,13 +202,13 @@ fn copy_into<A: Start, B: Start>(
         before: new_before,
         opening: _,
     } = empty;
-    let Copied { source, outcome } = copy_file(old.runtime().alloc(), conn, target);
+    let Copied { source, outcome } = copy_file(sites.old.runtime().alloc(), conn, target, external);
     match outcome {
         Ok(vault) => Ok(Migrated { source, vault }),
         Err((refusal, target)) => {
-            let unsound = why_uncopied(source.schema());
-            let _ = let_go(lost, old, source, &before);
-            let had_no_room = let_go(uncopied, new, target, &new_before);
+            let unsound = why_uncopied(source.schema(), external);
+            let _ = let_go(lost, sites.old, source, &before);
+            let had_no_room = let_go(uncopied, sites.new, target, &new_before);
             Err(refused(refusal, unsound, had_no_room))
         }
     }
@@ -210,22 +236,22 @@ fn copy_at<A: Start, B: Start>(
     lost: &mut Log<Connection<VaultStore<A>>, bool>,
     uncopied: &mut Log<Connection<VaultStore<B>>, bool>,
     rt: &HostRuntime,
-    old: &str,
-    new: &str,
+    copying: Copying<'_>,
     starts: Starts<A, B>,
 ) -> Result<Migrated<VaultStore<A>, VaultStore<B>>, OpenError>
     ensures sound { IfOk result (λ m. HasCleanDisk (file_state m.vault.conn) → AreSound (file_state m.vault.conn).now (vault_of over_files m.vault)) }
     ensures found { IfOk result (λ m. HasCleanDisk (file_state m.source) → HasCleanDisk (file_state m.vault.conn)
-        → IsFoundEarlier (image_at A.Start) (vault_of over_files m.vault)) }
-    ensures held { (n : SchemaVersion) (v : Vault) → IsHeldAs n (image_at A.Start) v → IfOk result (λ m. HasCleanDisk (file_state m.source) → HasCleanDisk (file_state m.vault.conn)
-        → vault_of over_files m.vault ≡ v) }
+        → IsCopiedFrom copying.external (image_at A.Start) (vault_of over_files m.vault)) }
+    ensures held { (n : AnyVersion) (v : Vault) → IsHeldAs n (image_at A.Start) v → IfOk result (λ m. HasCleanDisk (file_state m.source) → HasCleanDisk (file_state m.vault.conn)
+        → vault_of over_files m.vault ≡ registering copying.external v) }
     ensures reported { IfErr result (Reports IsUncopied) }
-    ensures lost { IfErr result (λ e. LetsGo lost.old.items lost.new.items (λ conn. IsUncopiedFrom (image_at A.Start) (file_state conn) (refusal_of e))) }
+    ensures lost { IfErr result (λ e. LetsGo lost.old.items lost.new.items (λ conn. IsUncopiedFrom copying.external (image_at A.Start) (file_state conn) (refusal_of e))) }
     ensures healthy { IfErr result (λ e. LetsBothGo lost.old.items lost.new.items uncopied.old.items uncopied.new.items
-        (λ source target. FailsForItsRow (image_at A.Start) (file_state source) (file_state target) (refusal_of e))) }
+        (λ source target. FailsForItsRow copying.external (image_at A.Start) (file_state source) (file_state target) (refusal_of e))) }
     ensures kept { OnOk result ((lost.new ≡ lost.old) × (uncopied.new ≡ uncopied.old)) }
 {
     let Starts { first, second } = starts;
+    let Copying { old, new, external } = copying;
     let target = match site_for_new(rt, new) {
         Ok(site) => site,
         Err(cause) => return Err(looked_at(rt, new, cause)),
@@ -239,7 +265,13 @@ fn copy_at<A: Start, B: Start>(
         Err(cause) => return Err(looked_at(rt, old, cause)),
     };
     match connect_new(&target, second) {
-        Ok(empty) => copy_into(lost, uncopied, &origin, &target, found, empty),
+        Ok(empty) => {
+            let sites = Sites {
+                old: &origin,
+                new: &target,
+            };
+            copy_into(lost, uncopied, sites, found, empty, external)
+        }
         Err(cause) => {
             let Opened {
                 conn,
@@ -254,10 +286,11 @@ fn copy_at<A: Start, B: Start>(
 
 impl<'a, A: Start, B: Start> Machine<'a, VaultStore<A>, VaultStore<B>> {
     /// Copies the vault in a file of the first or the second schema version, at `old`, into a file at `new` that isn't there, is
-    /// empty, or is a store without a table. `starts` is what the two files and their logs hold.
+    /// empty, or is a store without a table. The copy may register contents that are kept outside; then the file may also be
+    /// of the third schema version. `starts` is what the two files and their logs hold.
     ///
-    /// `Damaged` with the first table at `old` that isn't sound; with `meta` where no file is there, or where it is empty, of the
-    /// newest schema version, or no store of tables whose rows keep its own schema. `NameTaken` where something is in the file at
+    /// `Damaged` with the first table at `old` that isn't sound; with `meta` where no file is there, or where it is empty, of no
+    /// schema version before the copy's, or no store of tables whose rows keep its own schema. `NameTaken` where something is in the file at
     /// `new`, or changes may be in the log beside it. `Memory` where memory was refused. `InUse` where another program has
     /// the file at `old`. `Device` where a file can't be read or made, where somebody has the one at `new`, and where
     /// both are one file. With each of the errors the files are as they were, but for an
@@ -265,31 +298,30 @@ impl<'a, A: Start, B: Start> Machine<'a, VaultStore<A>, VaultStore<B>> {
     /// without a change may be left.
     pub fn migrate(
         &mut self,
-        old: &str,
-        new: &str,
+        copying: Copying<'_>,
         starts: Starts<A, B>,
     ) -> Result<Migrated<VaultStore<A>, VaultStore<B>>, OpenError>
         // It is counted just where there is a copy.
         ensures counted { OnOk result (self.new ≡ record self.old { looked = after_a_look self.old.looked; given = with_copied self.old.given }) }
         ensures uncounted { OnErr result (self.new ≡ record self.old { looked = after_a_look self.old.looked; refused = self.new.refused; uncopied = self.new.uncopied }) }
         ensures sound { IfOk result (λ m. HasCleanDisk (file_state m.vault.conn) → AreSound (file_state m.vault.conn).now (vault_of over_files m.vault)) }
-        // The vault of the copy is the one that the tables spell which were found in the old files.
+        // It is the copy of the vault that the tables spell which were found in the old files.
         ensures found { IfOk result (λ m. HasCleanDisk (file_state m.source) → HasCleanDisk (file_state m.vault.conn)
-            → IsFoundEarlier (image_at A.Start) (vault_of over_files m.vault)) }
-        // Where these held a vault, it is that one.
-        ensures held { (n : SchemaVersion) (v : Vault) → IsHeldAs n (image_at A.Start) v → IfOk result (λ m. HasCleanDisk (file_state m.source) → HasCleanDisk (file_state m.vault.conn)
-            → vault_of over_files m.vault ≡ v) }
+            → IsCopiedFrom copying.external (image_at A.Start) (vault_of over_files m.vault)) }
+        // Where these held a vault, it is the copy of that one.
+        ensures held { (n : AnyVersion) (v : Vault) → IsHeldAs n (image_at A.Start) v → IfOk result (λ m. HasCleanDisk (file_state m.source) → HasCleanDisk (file_state m.vault.conn)
+            → vault_of over_files m.vault ≡ registering copying.external v) }
         // A failure of the disk that is seen is reported as one.
         ensures reported { IfErr result (Reports IsUncopied) }
         // Files that hold a sound vault of an earlier schema version aren't reported as damaged.
-        ensures refused { IfErr result (λ e. LetsGo self.old.refused.items self.new.refused.items (λ conn. IsUncopiedFrom (image_at A.Start) (file_state conn) (refusal_of e))) }
+        ensures refused { IfErr result (λ e. LetsGo self.old.refused.items self.new.refused.items (λ conn. IsUncopiedFrom copying.external (image_at A.Start) (file_state conn) (refusal_of e))) }
         // Two stores that work are reported as a failed device only where the tables of the copy refuse a row of the vault.
         ensures healthy { IfErr result (λ e. LetsBothGo self.old.refused.items self.new.refused.items self.old.uncopied.items self.new.uncopied.items
-            (λ source target. FailsForItsRow (image_at A.Start) (file_state source) (file_state target) (refusal_of e))) }
+            (λ source target. FailsForItsRow copying.external (image_at A.Start) (file_state source) (file_state target) (refusal_of e))) }
     {
         self.looked = self.looked.saturating_add(1);
         let rt = self.rt;
-        match copy_at(&mut self.refused, &mut self.uncopied, rt, old, new, starts) {
+        match copy_at(&mut self.refused, &mut self.uncopied, rt, copying, starts) {
             Ok(migrated) => {
                 self.given = self.given.with_copied();
                 Ok(migrated)

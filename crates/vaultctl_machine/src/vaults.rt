@@ -12,7 +12,7 @@ ghost use Rattle.vault_audit.specs.Whole.{IsReported};
 ghost use Rattle.vault_audit_model.specs.Spells.{AreSound};
 ghost use Rattle.vault_audit_model.specs.Tables.{no_schema};
 ghost use Rattle.vault_base.specs.declared.refusal.Table.{Table as AnyTable};
-ghost use Rattle.vault_core_model.specs.Vault.{Vault, opening};
+ghost use Rattle.vault_core_model.specs.Vault.{Vault, opening_of};
 ghost use Rattle.vault_store.specs.Kept.{StandsFor};
 ghost use Rattle.vault_store.specs.Create.{IsFault};
 ghost use Rattle.vault_store.specs.Tables.{HasTablesOf};
@@ -325,18 +325,19 @@ fn found_in<S: Start>(
 fn create_in<S: Alter>(
     alloc: Global,
     conn: Connection<S>,
+    external: bool,
 ) -> Result<SqlKeeper<S>, (Refusal, Connection<S>)>
-    ensures opening { IfOk result (λ k. HasCleanDisk (state S.Store k.conn) → vault_of S.Store k ≡ opening) }
-    ensures sound { IfOk result (λ k. HasCleanDisk (state S.Store k.conn) → AreSound (state S.Store k.conn).now opening) }
-    ensures alone { IfOk result (λ k. HasCleanDisk (state S.Store k.conn) → LeavesAlone (state S.Store k.conn) opening) }
+    ensures opening { IfOk result (λ k. HasCleanDisk (state S.Store k.conn) → vault_of S.Store k ≡ opening_of external) }
+    ensures sound { IfOk result (λ k. HasCleanDisk (state S.Store k.conn) → AreSound (state S.Store k.conn).now (opening_of external)) }
+    ensures alone { IfOk result (λ k. HasCleanDisk (state S.Store k.conn) → LeavesAlone (state S.Store k.conn) (opening_of external)) }
     ensures fresh { IfOk result (λ k. k.refused.items ≡ []) }
     ensures free { IfErr result (λ e. e.0 ≡ Refusal.NameTaken → (state S.Store conn).now.schema ≢ no_schema) }
     ensures faults { IfErr result (λ e. IsUnmade e.0) }
     ensures healthy { conn.in_transaction ≡ false → IfErr result (λ e. IsHealthy (state S.Store e.1) → e.0 ≢ Refusal.Device) }
-    ensures harmless { IfErr result (λ e. Survives (state S.Store conn) (state S.Store e.1) (trees.IsFoundIn opening)) }
+    ensures harmless { IfErr result (λ e. Survives (state S.Store conn) (state S.Store e.1) (trees.IsFoundIn (opening_of external))) }
     ensures tables { conn.in_transaction ≡ false → IfErr result (λ e. HasCleanDisk (state S.Store e.1) → HasTablesOf (state S.Store conn) (state S.Store e.1)) }
 {
-    SqlKeeper::create(alloc, conn)
+    SqlKeeper::create(alloc, conn, external)
 }
 
 /// A new vault in the empty store of a connection. Where none can be made there, the files are as they were.
@@ -344,11 +345,12 @@ fn made_in<S: Start>(
     lost: &mut Log<Connection<VaultStore<S>>, bool>,
     site: &Site<'_>,
     empty: Opened<VaultStore<S>>,
+    external: bool,
 ) -> Result<FileVault<S>, OpenError>
     requires opened { HasCleanDisk (file_state empty.conn) → IsOpened empty.conn }
-    ensures opening { IfOk result (λ vault. HasCleanDisk (file_state vault.conn) → vault_of over_files vault ≡ opening) }
-    ensures sound { IfOk result (λ vault. HasCleanDisk (file_state vault.conn) → AreSound (file_state vault.conn).now opening) }
-    ensures alone { IfOk result (λ vault. HasCleanDisk (file_state vault.conn) → LeavesAlone (file_state vault.conn) opening) }
+    ensures opening { IfOk result (λ vault. HasCleanDisk (file_state vault.conn) → vault_of over_files vault ≡ opening_of external) }
+    ensures sound { IfOk result (λ vault. HasCleanDisk (file_state vault.conn) → AreSound (file_state vault.conn).now (opening_of external)) }
+    ensures alone { IfOk result (λ vault. HasCleanDisk (file_state vault.conn) → LeavesAlone (file_state vault.conn) (opening_of external)) }
     ensures fresh { IfOk result (λ vault. vault.refused.items ≡ []) }
     ensures reported { IfErr result (Reports IsUnmade) }
     ensures lost { IfErr result (λ e. Closes lost.old.items lost.new.items (λ conn. IsUnmadeOver (file_state conn) (refusal_of e))) }
@@ -359,7 +361,7 @@ fn made_in<S: Start>(
         before,
         opening: _,
     } = empty;
-    match create_in(site.runtime().alloc(), conn) {
+    match create_in(site.runtime().alloc(), conn, external) {
         Ok(vault) => Ok(vault),
         Err((refusal, conn)) => {
             let had_no_room = let_go(lost, site, conn, &before);
@@ -405,10 +407,11 @@ fn made_at<S: Start>(
     rt: &HostRuntime,
     path: &str,
     start: S,
+    external: bool,
 ) -> Result<FileVault<S>, OpenError>
-    ensures opening { IfOk result (λ vault. HasCleanDisk (file_state vault.conn) → vault_of over_files vault ≡ opening) }
-    ensures sound { IfOk result (λ vault. HasCleanDisk (file_state vault.conn) → AreSound (file_state vault.conn).now opening) }
-    ensures alone { IfOk result (λ vault. HasCleanDisk (file_state vault.conn) → LeavesAlone (file_state vault.conn) opening) }
+    ensures opening { IfOk result (λ vault. HasCleanDisk (file_state vault.conn) → vault_of over_files vault ≡ opening_of external) }
+    ensures sound { IfOk result (λ vault. HasCleanDisk (file_state vault.conn) → AreSound (file_state vault.conn).now (opening_of external)) }
+    ensures alone { IfOk result (λ vault. HasCleanDisk (file_state vault.conn) → LeavesAlone (file_state vault.conn) (opening_of external)) }
     ensures fresh { IfOk result (λ vault. vault.refused.items ≡ []) }
     ensures reported { IfErr result (Reports IsUnmade) }
     ensures lost { IfErr result (λ e. LetsGo lost.old.items lost.new.items (λ conn. IsUnmadeOver (file_state conn) (refusal_of e))) }
@@ -419,7 +422,7 @@ fn made_at<S: Start>(
         Err(cause) => return Err(looked_at(rt, path, cause)),
     };
     match connect_new(&site, start) {
-        Ok(opened) => made_in(lost, &site, opened),
+        Ok(opened) => made_in(lost, &site, opened, external),
         Err(cause) => Err(looked_at(rt, path, cause)),
     }
 }
@@ -489,19 +492,25 @@ impl<'a, A: Start, B: Start> Machine<'a, VaultStore<A>, VaultStore<B>> {
         }
     }
 
-    /// Makes a new vault in a file that isn't there or is empty. `start` is what the file and its log hold.
+    /// Makes a new vault in a file that isn't there or is empty: one that registers contents which are kept outside, or
+    /// doesn't. `start` is what the file and its log hold.
     ///
     /// `NameTaken` where something is in it, or changes may be in the log beside it, and both are left as they are.
     /// `Memory` where memory was refused, `Device` where the file can't be made, and `InUse` where another program
     /// has it.
-    pub fn make(&mut self, path: &str, start: A) -> Result<FileVault<A>, OpenError>
+    pub fn make(
+        &mut self,
+        path: &str,
+        start: A,
+        external: bool,
+    ) -> Result<FileVault<A>, OpenError>
         // It is counted just where there is one.
         ensures counted { OnOk result (self.new ≡ record self.old { looked = after_a_look self.old.looked; given = with_made self.old.given }) }
         ensures uncounted { OnErr result (self.new ≡ record self.old { looked = after_a_look self.old.looked; refused = self.new.refused }) }
-        ensures opening { IfOk result (λ vault. HasCleanDisk (file_state vault.conn) → vault_of over_files vault ≡ opening) }
-        ensures sound { IfOk result (λ vault. HasCleanDisk (file_state vault.conn) → AreSound (file_state vault.conn).now opening) }
+        ensures opening { IfOk result (λ vault. HasCleanDisk (file_state vault.conn) → vault_of over_files vault ≡ opening_of external) }
+        ensures sound { IfOk result (λ vault. HasCleanDisk (file_state vault.conn) → AreSound (file_state vault.conn).now (opening_of external)) }
         // A crash leaves a new vault after that, and nothing else.
-        ensures alone { IfOk result (λ vault. HasCleanDisk (file_state vault.conn) → LeavesAlone (file_state vault.conn) opening) }
+        ensures alone { IfOk result (λ vault. HasCleanDisk (file_state vault.conn) → LeavesAlone (file_state vault.conn) (opening_of external)) }
         // No change was refused yet.
         ensures fresh { IfOk result (λ vault. vault.refused.items ≡ []) }
         // A failure of the disk that is seen is reported as one.
@@ -511,7 +520,7 @@ impl<'a, A: Start, B: Start> Machine<'a, VaultStore<A>, VaultStore<B>> {
     {
         self.looked = self.looked.saturating_add(1);
         let rt = self.rt;
-        match made_at(&mut self.refused, rt, path, start) {
+        match made_at(&mut self.refused, rt, path, start, external) {
             Ok(vault) => {
                 self.given = self.given.with_made();
                 Ok(vault)

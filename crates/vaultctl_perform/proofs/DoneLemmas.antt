@@ -8,7 +8,8 @@ use Rattle.sqlite.specs.Files.{file_state, over_files}
 use Rattle.sqlite.specs.Held.{Held}
 use Rattle.sqlite.specs.State.{HasCleanDisk}
 use Rattle.vault_base.specs.declared.refusal.Refusal.{Refusal}
-use Rattle.vault_core_model.specs.Vault.{Vault, opening}
+use Rattle.vault_core_model.specs.Vault.{Vault, opening_of}
+use Rattle.vault_store.specs.Copied.{registering}
 use Rattle.vault_store.specs.Kept.{StandsFor}
 use Rattle.vault_store.specs.VaultOf.{vault_of}
 use Rattle.vault_store.specs.declared.sql_keeper.SqlKeeper.{SqlKeeper}
@@ -19,7 +20,7 @@ use Rattle.vaultctl_commands.specs.declared.fault.JobFault.{JobFault}
 use Rattle.vaultctl_commands.specs.declared.outcome.Outcome.{Outcome}
 use Rattle.vaultctl_machine.proofs.CarriedLemmas.{carried, carries_weaker}
 use Rattle.vaultctl_machine.specs.Closings.{Carries, Closes, Copies}
-use Rattle.vaultctl_machine.specs.Files.{IsFoundEarlier, IsFoundIn}
+use Rattle.vaultctl_machine.specs.Files.{IsCopiedFrom, IsFoundEarlier, IsFoundIn}
 use Rattle.vaultctl_machine.specs.declared.vaults.Machine.{Machine}
 use Rattle.vaultctl_perform.specs.Done.{IsCarriedOut, IsDoneAsRead, IsDoneAsSaid, IsGiven}
 
@@ -54,19 +55,22 @@ module _ {D : Type 0} {g : Ghosts D} where
   closes_from old mid new P c same = subst (λ (l : List (Held (FileStore D g) × Bool)). Closes l new P) same c
 
   -- the connection of a new vault that was closed is of a new vault
-  pub new_closed : (vault : SqlKeeper (FileStore D g) over_files) → ∥ (HasCleanDisk (file_state vault.conn) → StandsFor (file_state vault.conn) (vault_of over_files vault)) ∥₁
-      → (HasCleanDisk (file_state vault.conn) → vault_of over_files vault ≡ opening) → HasCleanDisk (file_state vault.conn) → ∥ StandsFor (file_state vault.conn) opening ∥₁
-  new_closed vault stands is clean = ∥∥₁_map stands (λ it. subst (λ (v : Vault). StandsFor (file_state vault.conn) v) (is clean) (it clean))
+  pub new_closed : (external : Bool) (vault : SqlKeeper (FileStore D g) over_files) → ∥ (HasCleanDisk (file_state vault.conn) → StandsFor (file_state vault.conn) (vault_of over_files vault)) ∥₁
+      → (HasCleanDisk (file_state vault.conn) → vault_of over_files vault ≡ opening_of external) → HasCleanDisk (file_state vault.conn) → ∥ StandsFor (file_state vault.conn) (opening_of external) ∥₁
+  new_closed external vault stands is clean = ∥∥₁_map stands (λ it. subst (λ (v : Vault). StandsFor (file_state vault.conn) v) (is clean) (it clean))
 
-module _ {D E : Type 0} {g : Ghosts D} {h : Ghosts E} (image : Image) where
-  -- both connections of a copy were closed, and the second is of the vault that was found
+module _ {D E : Type 0} {g : Ghosts D} {h : Ghosts E} (external : Bool) (image : Image) where
+  -- both connections of a copy were closed, and the second is of the copy of the vault that was found
   pub copied_both : (source : Held (FileStore D g)) (vault : SqlKeeper (FileStore E h) over_files) (old mid new : List (Held (FileStore D g) × Bool)) (none still copies : List (Held (FileStore E h) × Bool))
       → new ≡ mid ++ (source, true) ∷ [] → copies ≡ still ++ (vault.conn, true) ∷ []
       → ∥ (HasCleanDisk (file_state vault.conn) → StandsFor (file_state vault.conn) (vault_of over_files vault)) ∥₁
-      → (HasCleanDisk (file_state source) → HasCleanDisk (file_state vault.conn) → IsFoundEarlier image (vault_of over_files vault)) → mid ≡ old → still ≡ none → Copies image old new none copies
+      → (HasCleanDisk (file_state source) → HasCleanDisk (file_state vault.conn) → IsCopiedFrom external image (vault_of over_files vault)) → mid ≡ old → still ≡ none → Copies external image old new none copies
   copied_both source vault old mid new none still copies closed copied stands is same unchanged =
-      let Stands : Held (FileStore E h) → Type 0 = λ conn. HasCleanDisk (file_state source) → HasCleanDisk (file_state conn) → (v : Vault) × IsFoundEarlier image v × ∥ StandsFor (file_state conn) v ∥₁ in
-      let copy : Closes none copies Stands = closes_one vault.conn none still copies Stands copied (λ clean there. (vault_of over_files vault, is clean there, ∥∥₁_map stands (λ it. it there))) unchanged in
+      let Stands : Held (FileStore E h) → Type 0 = λ conn. HasCleanDisk (file_state source) → HasCleanDisk (file_state conn) → (v : Vault) × IsFoundEarlier external image v × ∥ StandsFor (file_state conn) (registering external v) ∥₁ in
+      let kept : Stands vault.conn = λ clean there.
+          let it = is clean there in
+          (it.0, it.1, subst (λ (v : Vault). ∥ StandsFor (file_state vault.conn) v ∥₁) it.2 (∥∥₁_map stands (λ stand. stand there))) in
+      let copy : Closes none copies Stands = closes_one vault.conn none still copies Stands copied kept unchanged in
       (source, closed ∙ ap (λ (l : List (Held (FileStore D g) × Bool)). l ++ (source, true) ∷ []) same, copy)
 
 module _ {D E : Type 0} {g : Ghosts D} {h : Ghosts E} (old new : Machine (FileStore D g) (FileStore E h)) (outcome : Result Outcome JobFault) (before after : Option (List ℕ)) where

@@ -1,5 +1,5 @@
 -- What a job came to, whatever that is: which vaults were opened, made or copied, what was done of them, and what was printed.
-use Rattle.std.specs.Prelude.{◌≡◌, ◌⊎◌, ℕ, List, Option, None, Some, Result, Ok, Err, IfOk, ⊤}
+use Rattle.std.specs.Prelude.{◌≡◌, ◌⊎◌, ℕ, Bool, List, Option, None, Some, Result, Ok, Err, IfOk, ⊤}
 use Rattle.std.specs.Io.KnownBytes.{Appends}
 use Rattle.sqlite_disk.specs.declared.Disk.{Ghosts}
 use Rattle.sqlite_store.specs.declared.store.FileStore.{FileStore}
@@ -8,7 +8,7 @@ use Rattle.sqlite.specs.Files.{file_state}
 use Rattle.sqlite.specs.State.{HasCleanDisk}
 use Rattle.vault_base.specs.declared.refusal.Refusal.{Refusal}
 use Rattle.vault_base.specs.declared.refusal.Table.{Table}
-use Rattle.vault_core_model.specs.Vault.{Vault, opening}
+use Rattle.vault_core_model.specs.Vault.{Vault, opening_of}
 use Rattle.vault_core_model.specs.declared.reply.Reply.TheVariants as reply
 use Rattle.vault_store.specs.Kept.{StandsFor}
 use Rattle.vault_values.specs.declared.fault.LineFault.{LineFault}
@@ -38,13 +38,13 @@ module _ {D E : Type 0} {g : Ghosts D} {h : Ghosts E} (old new : Machine (FileSt
   abbrev pub IsUngiven : Type 0
   IsUngiven = (new.given ≡ old.given) × (new.closed ≡ old.closed) × (new.copies ≡ old.copies)
 
-  -- one new vault was made and closed, and no other opened or copied
-  abbrev pub IsNew : Type 0
-  IsNew = (new.given ≡ with_made old.given) × Closes old.closed.items new.closed.items (λ conn. HasCleanDisk (file_state conn) → ∥ StandsFor (file_state conn) opening ∥₁)
+  -- one new vault was made and closed, which registers contents that are kept outside, or doesn't, and no other opened or copied
+  abbrev pub IsNew : Bool → Type 0
+  IsNew external = (new.given ≡ with_made old.given) × Closes old.closed.items new.closed.items (λ conn. HasCleanDisk (file_state conn) → ∥ StandsFor (file_state conn) (opening_of external) ∥₁)
 
   -- so it is of a job that was done, and of one that was refused nothing was made
-  abbrev pub IsMade : Result Outcome JobFault → Type 0
-  IsMade outcome = ((outcome ≡ Ok Done) × IsNew) ⊎ ((outcome ≡ Ok Refused) × IsUngiven)
+  abbrev pub IsMade : Bool → Result Outcome JobFault → Type 0
+  IsMade external outcome = ((outcome ≡ Ok Done) × IsNew external) ⊎ ((outcome ≡ Ok Refused) × IsUngiven)
 
   -- room for the values of words was refused: nothing was looked for or printed
   abbrev pub IsUnread : Result Outcome JobFault → Option (List ℕ) → Option (List ℕ) → Type 0
@@ -85,10 +85,10 @@ module _ {D E : Type 0} {g : Ghosts D} {h : Ghosts E} (image : Image) (outcome :
       (IsGiven image old new (λ v w. w ≡ v) × IfOk outcome (λ stated. (stated ≡ Done) × Appends before after sound_line))
       ⊎ (IsUngiven old new × IfOk outcome (λ stated. (stated ≡ Refused) × ((after ≡ before) ⊎ ((table : Table) × Appends before after (damaged_line table)))))
 
-  -- the vault of an earlier version was copied, and `migrated` printed; or no vault was given out, and nothing printed
-  abbrev pub IsMigrated : Type 0
-  IsMigrated =
-      (((new.given ≡ with_copied old.given) × Copies image old.closed.items new.closed.items old.copies.items new.copies.items) × IfOk outcome (λ stated. (stated ≡ Done) × Appends before after migrated_line))
+  -- the vault of an earlier version was copied into one that registers contents which are kept outside, or doesn't, and `migrated` printed; or no vault was given out, and nothing printed
+  abbrev pub IsMigrated : Bool → Type 0
+  IsMigrated external =
+      (((new.given ≡ with_copied old.given) × Copies external image old.closed.items new.closed.items old.copies.items new.copies.items) × IfOk outcome (λ stated. (stated ≡ Done) × Appends before after migrated_line))
       ⊎ (IsUngiven old new × ((outcome ≡ Ok Refused) × (after ≡ before)))
 
 module _ {D E : Type 0} {g : Ghosts D} {h : Ghosts E} (image : Image) (outcome : Result Outcome JobFault) (old new : Machine (FileStore D g) (FileStore E h)) (input left before after : Option (List ℕ)) where
@@ -99,7 +99,7 @@ module _ {D E : Type 0} {g : Ghosts D} {h : Ghosts E} (image : Image) (outcome :
 
   -- what came of a job, by what was left of the input, and what was printed
   abbrev pub IsPerformed : Job → Type 0
-  IsPerformed (job.Init j) = IsMade old new outcome × (after ≡ before)
+  IsPerformed (job.Init j) = IsMade old new j.external outcome × (after ≡ before)
   IsPerformed (job.Dept j) = IsAskedDone image outcome old new before after (dept_of j)
   IsPerformed (job.Caller j) = IsAskedDone image outcome old new before after (caller_of j)
   IsPerformed (job.Bucket j) = IsAskedDone image outcome old new before after (bucket_of j)
@@ -115,4 +115,4 @@ module _ {D E : Type 0} {g : Ghosts D} {h : Ghosts E} (image : Image) (outcome :
   IsPerformed (job.Lawful j) = IsCarriedOut image old new outcome ((left ≡ input) × (after ≡ before)) (IfOk outcome (λ stated. PrintsLawful stated before after)) (λ v w. IsJudgedDone outcome v w before after)
   IsPerformed (job.Replay j) = IsScriptDone j.file
   IsPerformed (job.Serve j) = IsCarriedOut image old new outcome ((left ≡ input) × (after ≡ before)) ⊤ (λ v w. IsServed j v w)
-  IsPerformed (job.Migrate j) = IsMigrated image outcome old new before after
+  IsPerformed (job.Migrate j) = IsMigrated image outcome old new before after j.external

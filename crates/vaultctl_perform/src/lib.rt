@@ -32,6 +32,7 @@ use vaultctl_commands::fault::JobFault;
 use vaultctl_job::fault::WordsFault;
 use vaultctl_job::job::{Job, ReplayJob};
 use vaultctl_job::words::job_of;
+use vaultctl_machine::migration::Copying;
 use vaultctl_machine::starts::Starts;
 use vaultctl_machine::vaults::FileMachine;
 use vaultctl_remedies::hint::hint;
@@ -80,7 +81,7 @@ pub fn perform<A: Start, B: Start, R: Read, W: Write, E: Write>(
     let Starts { first, second } = starts;
     let call = call_of(job);
     match job {
-        Job::Init(_) => init::init(machine, call.file, first, err),
+        Job::Init(job) => init::init(machine, call.file, first, job.external, err),
         Job::Dept(job) => ask(machine, call, first, dept(alloc, job), out, err),
         Job::Caller(job) => ask(machine, call, first, caller(alloc, job), out, err),
         Job::Bucket(job) => ask(machine, call, first, bucket(alloc, job), out, err),
@@ -98,8 +99,12 @@ pub fn perform<A: Start, B: Start, R: Read, W: Write, E: Write>(
         Job::Serve(work) => in_vault(machine, first, Task { call, work }, reader, out, err),
         Job::Migrate(job) => {
             let starts = Starts { first, second };
-            let (old, new) = (job.old.as_str(), job.new.as_str());
-            migrate::migrate(machine, old, new, starts, out, err)
+            let copying = Copying {
+                old: job.old.as_str(),
+                new: job.new.as_str(),
+                external: job.external,
+            };
+            migrate::migrate(machine, copying, starts, out, err)
         }
     }
 }

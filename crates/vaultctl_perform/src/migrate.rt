@@ -15,6 +15,7 @@ use std::io::Write;
 use vaultctl_commands::fault::JobFault;
 use vaultctl_commands::outcome::Outcome;
 use vaultctl_commands::printing::print;
+use vaultctl_machine::migration::Copying;
 use vaultctl_machine::open_error::OpenError;
 use vaultctl_machine::starts::Starts;
 use vaultctl_machine::vaults::FileMachine;
@@ -22,16 +23,15 @@ use vaultctl_machine::vaults::FileMachine;
 /// Copies the vault and closes both files.
 fn copy<A: Start, B: Start>(
     machine: &mut FileMachine<'_, A, B>,
-    old: &str,
-    new: &str,
+    copying: Copying<'_>,
     starts: Starts<A, B>,
 ) -> Result<(), OpenError>
     ensures looked { machine.new.looked ≡ after_a_look machine.old.looked }
     ensures copied { OnOk result ((machine.new.given ≡ with_copied machine.old.given)
-        × Copies (image_at A.Start) machine.old.closed.items machine.new.closed.items machine.old.copies.items machine.new.copies.items) }
+        × Copies copying.external (image_at A.Start) machine.old.closed.items machine.new.closed.items machine.old.copies.items machine.new.copies.items) }
     ensures none { OnErr result (IsUngiven machine.old machine.new) }
 {
-    let migrated = machine.migrate(old, new, starts)?;
+    let migrated = machine.migrate(copying, starts)?;
     machine.close_migrated(migrated);
     Ok(())
 }
@@ -58,15 +58,14 @@ fn print_copied<W: Write, E: Write>(copied: Result<(), OpenError>, out: &mut W, 
 /// Copies the vault of an earlier version into a new file, and prints `migrated`.
 pub fn migrate<A: Start, B: Start, W: Write, E: Write>(
     machine: &mut FileMachine<'_, A, B>,
-    old: &str,
-    new: &str,
+    copying: Copying<'_>,
     starts: Starts<A, B>,
     out: &mut W,
     err: &mut E,
 ) -> u8
     ensures looked { machine.new.looked ≡ after_a_look machine.old.looked }
-    ensures performed { Ends result (λ outcome. IsMigrated (image_at A.Start) outcome machine.old machine.new (W.contents out.old) (W.contents out.new)) }
+    ensures performed { Ends result (λ outcome. IsMigrated (image_at A.Start) outcome machine.old machine.new (W.contents out.old) (W.contents out.new) copying.external) }
 {
-    let copied = copy(machine, old, new, starts);
+    let copied = copy(machine, copying, starts);
     print_copied(copied, out, err)
 }

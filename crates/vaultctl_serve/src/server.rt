@@ -6,6 +6,7 @@ ghost use Rattle.vault_core_model.specs.Step.{Reached};
 ghost use Rattle.vault_core.specs.Hearing.{HearsAll, HearsOnce, HearsSome};
 ghost use Rattle.vault_core_model.specs.LeavesMany.{LeavesNoLess};
 ghost use Rattle.vault_core.specs.Hearing.{AtMostOne};
+ghost use Rattle.vaultctl_log.specs.Logging.{IsLogged};
 ghost use Rattle.vaultctl_log.specs.declared.entry.Facts.{Facts};
 ghost use Rattle.vaultctl_serve.specs.Account.{IsAccounted, IsMissLogged, LogsOne, LogsWhile, trouble_of as trouble_in};
 ghost use Rattle.vaultctl_serve.specs.Serving.{ReadsAs, ReportsOnce, Stepped, SteppedOnTime, SteppedWhile};
@@ -198,7 +199,7 @@ pub fn serve<R: Net<Stream = TcpStream> + Clock, K: Keeper, H: Hears, T: Reporte
     hears: &mut H,
     place: Port<'_>,
     reporter: &mut T,
-    log: Option<W>,
+    log: &mut Option<W>,
 ) -> Result<(), PortFault>
     ensures stepped { K.is_honest keeper.new → Stepped place.entry.count (K.vault keeper.old) (K.vault keeper.new) }
     // Commands led to the vault, and each was heard of with its reply, while who hears let it be carried out.
@@ -208,8 +209,11 @@ pub fn serve<R: Net<Stream = TcpStream> + Clock, K: Keeper, H: Hears, T: Reporte
     // That it listens is reported first, and then, once, that the device failed where it did.
     ensures reported { OnOk result ((between : T) × T.listens reporter.old place.entry.file.now place.entry.port between
         × ReportsOnce T.fails (K.count keeper.old) (K.count keeper.new) between reporter.new) }
-    // Where it can't listen nothing is reported.
+    // Where it can't listen nothing is reported, and nothing is logged.
     ensures unreported { OnErr result (reporter.new ≡ reporter.old) }
+    ensures unlogged { OnErr result (log.new ≡ log.old) }
+    // There is one line in the log of each try.
+    ensures logged { OnOk result (LogsWhile (λ before after. after ≡ before) (IsLogged W.contents) (H.going hears.new) place.entry.count log.old log.new) }
     ensures leaves { LeavesNoLess K.Kept keeper.old keeper.new }
 {
     let Ok(listener) = TcpListener::bind(rt, (Ipv4Addr::LOCALHOST, place.port)) else {
@@ -221,12 +225,13 @@ pub fn serve<R: Net<Stream = TcpStream> + Clock, K: Keeper, H: Hears, T: Reporte
         listener: &listener,
         hosts: place.hosts,
         alloc: place.alloc,
-        log,
+        log: log.take(),
     };
     let means = Means {
         clock: rt,
         alloc: place.alloc,
     };
     serve_arrivals(&means, &mut arrivals, keeper, hears, place.count, reporter);
+    *log = arrivals.log;
     Ok(())
 }

@@ -1,8 +1,9 @@
 -- What is logged in turns, one after another.
-use Rattle.std.proofs.Common.{◌≡◌, ◌+◌, ◌≤◌, ℕ, Bool, List, [], ◌∷◌, ◌++◌, length, Option, None, Some, refl, subst, arith}
+use Rattle.std.proofs.Common.{◌≡◌, ◌+◌, ◌≤◌, ℕ, Bool, List, [], ◌∷◌, ◌++◌, length, Option, None, Some, refl, ap, subst, arith}
 use Rattle.std.proofs.lemmas.List.{length-append}
 use Rattle.vaultctl_log.specs.declared.entry.Facts.{Facts}
 use Rattle.vaultctl_serve.specs.Account.{LogsOne}
+use Rattle.vaultctl_serve.proofs.LogLemmas.{LogsOne-in}
 use Rattle.vaultctl_serve.specs.Serving.{Missed, Taken, Tries, Try}
 use Rattle.vaultctl_serve_lines.specs.Doors.{LogsInTurns, LogsTurns, taken_in}
 use Rattle.vaultctl_serve_lines.proofs.TurnLemmas.{known-append, taken-append}
@@ -38,3 +39,19 @@ module _ {D : Type 0} (tries : D → Option (List Try)) (silent : D → D → Ty
     known-append (tries before) (tries mid) (tries after) first.0 second.0 first.3 second.3,
     logs-append first.0 second.0 before mid after first.4 second.4,
   )
+
+-- What has a log hears in turns what the log does.
+module _ {D E : Type 0} (log_of : D → E) (silent : E → E → Type 0) (logs : E → Facts → List ℕ → List ℕ → Bool → E → Type 0) where
+  abbrev quiet : D → D → Type 0
+  quiet before after = silent (log_of before) (log_of after)
+
+  abbrev hears : D → Facts → List ℕ → List ℕ → Bool → D → Type 0
+  hears before f asked answered whole after = logs (log_of before) f asked answered whole (log_of after)
+
+  LogsTurns-in : (made : List Try) (before after : D) → LogsTurns (λ _. None) quiet hears made before after → LogsTurns (λ _. None) silent logs made (log_of before) (log_of after)
+  LogsTurns-in [] before after same = ap log_of same
+  LogsTurns-in (Taken moment ∷ later) before after (mid, (f, one), rest) = (log_of mid, (f, LogsOne-in log_of silent logs f before mid one), LogsTurns-in later mid after rest)
+  LogsTurns-in (Missed ∷ later) before after (mid, still, rest) = (log_of mid, still, LogsTurns-in later mid after rest)
+
+  pub LogsInTurns-in : (turns n : ℕ) (before after : D) → LogsInTurns (λ _. None) quiet hears turns n before after → LogsInTurns (λ _. None) silent logs turns n (log_of before) (log_of after)
+  LogsInTurns-in turns n before after (made, many, taken, known, each) = (made, many, taken, known, LogsTurns-in made before after each)

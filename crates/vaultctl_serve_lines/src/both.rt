@@ -1,9 +1,12 @@
 //! A server with two doors: requests at a port, and lines at another or at a path.
-ghost use Rattle.std.specs.Prelude.{◌≡◌, IfOk, OnErr, OnOk};
+ghost use Rattle.std.specs.Prelude.{◌≡◌, None, IfOk, OnErr, OnOk};
 ghost use Rattle.vault_core_model.specs.Step.{Reached};
 ghost use Rattle.vault_core.specs.Hearing.{HearsAll};
 ghost use Rattle.vault_core_model.specs.LeavesMany.{LeavesNoLess};
 ghost use Rattle.vaultctl_serve.specs.Serving.{ReportsOnce, Stepped};
+ghost use Rattle.vaultctl_log.specs.Logging.{IsLogged};
+ghost use Rattle.vaultctl_serve_lines.specs.Doors.{LogsInTurns, ServedInTurns};
+ghost use Rattle.vaultctl_serve_lines.specs.Troubles.{LogsUntaken};
 ghost use Rattle.vaultctl_serve_lines_answers.specs.Closing.{IsEnded};
 
 use crate::door_reporter::DoorReporter;
@@ -94,7 +97,7 @@ pub fn serve_with_lines<
     hears: &mut H,
     places: Places<'_>,
     reporter: &mut T,
-    log: Option<Stderr>,
+    log: &mut Option<Stderr>,
 ) -> Result<Next, DoorFault>
     ensures stepped { K.is_honest keeper.new → Stepped places.entry.count (K.vault keeper.old) (K.vault keeper.new) }
     // Commands led to the vault, and each was heard of with its reply, while who hears let it be carried out.
@@ -106,8 +109,12 @@ pub fn serve_with_lines<
     // That it listens is reported first, and then, once, that the device failed where it did.
     ensures reported { OnOk result ((between : T) × T.listens_at_both reporter.old places.entry.file.now places.entry.port between
         × ReportsOnce T.fails (K.count keeper.old) (K.count keeper.new) between reporter.new) }
-    // Where it can't listen nothing is reported.
+    // Where it can't listen nothing is reported, and nothing is logged.
     ensures unreported { OnErr result (reporter.new ≡ reporter.old) }
+    ensures unlogged { OnErr result (log.new ≡ log.old) }
+    // Each request and each line that was taken has one line in the log, and so has what couldn't be taken.
+    ensures logged { IfOk result (λ next. ServedInTurns next (H.going hears.new) places.entry.count
+        (λ turns n. LogsInTurns (λ _. None) (LogsUntaken (λ _. None)) (IsLogged (λ _. None)) turns n log.old log.new)) }
     ensures leaves { LeavesNoLess K.Kept keeper.old keeper.new }
 {
     let (requests, lines) = match listen(rt, places) {
@@ -122,7 +129,7 @@ pub fn serve_with_lines<
         requests: &requests,
         lines: &lines,
         hosts: places.hosts,
-        log,
+        log: log.take(),
         talk: None,
         line_was_last: false,
     };
@@ -130,5 +137,7 @@ pub fn serve_with_lines<
         clock: rt,
         service: &service,
     };
-    Ok(serve_doors(&server, &mut doors, keeper, hears, places.count, reporter))
+    let ended = serve_doors(&server, &mut doors, keeper, hears, places.count, reporter);
+    *log = doors.log;
+    Ok(ended)
 }

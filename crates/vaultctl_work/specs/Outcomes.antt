@@ -1,7 +1,5 @@
 -- What came of a job, by what its parts answer.
 use Rattle.std.specs.Prelude.{Bool, true, false, Result, Ok, Err}
-use Rattle.vault_files.specs.ExportFault.{ExportFault}
-use Rattle.vault_files.specs.ExportFault.TheVariants as export
 use Rattle.vaultctl_commands.specs.declared.fault.JobFault.{JobFault}
 use Rattle.vaultctl_commands.specs.declared.fault.JobFault.TheVariants as fault
 use Rattle.vaultctl_commands.specs.declared.outcome.Outcome.{Outcome}
@@ -12,13 +10,6 @@ use Rattle.vaultctl_serve.specs.declared.fault.PortFault.{PortFault}
 use Rattle.vaultctl_serve.specs.declared.fault.PortFault.TheVariants as port
 use Rattle.vaultctl_serve_lines.specs.declared.fault.DoorFault.{DoorFault}
 use Rattle.vaultctl_serve_lines.specs.Next.{Next}
-
--- a register is written or a fault is reported, by its name
-abbrev pub exported : Result (Unit {0}) ExportFault → Result Outcome JobFault
-exported (Ok t) = Ok Done
-exported (Err export.Write) = Err fault.Write
-exported (Err export.Memory) = Err fault.Memory
-exported (Err export.Device) = Err fault.Device
 
 -- a fault of a script, by its name
 abbrev pub replay_fault : ReplayFault → JobFault

@@ -1,24 +1,25 @@
 //! What a vault shows to somebody who doesn't trust the machine: its events, a seal over them, and whether it is
 //! lawful.
 ghost use Rattle.std.specs.Prelude.{◌≡◌, ⊤};
+ghost use Rattle.vaultctl_commands.specs.Rows.{PrintsEvents};
 ghost use Rattle.vaultctl_work.specs.Done.{IsJudgedDone, IsSealDone};
 ghost use Rattle.vaultctl_work.specs.Printed.{PrintsSealed, PrintsJudged};
 
-use crate::terminal::{terminal, terminal_beside};
+use crate::terminal::{terminal, terminal_apart};
 use crate::work::Work;
 use std::io::{Read, Stderr, Write};
 use vault_core_model::keeper::Keeper;
 use vaultctl_commands::asked::{AskedEvents, AskedSeal};
-use vaultctl_commands::evidence::{answer_lawful, answer_seal, print_events};
+use vaultctl_commands::evidence::{answer_lawful, answer_seal};
 use vaultctl_commands::fault::JobFault;
 use vaultctl_commands::outcome::Outcome;
-use vaultctl_commands::progress_writer::ProgressWriter;
+use vaultctl_commands::rows::print_events;
 use vaultctl_job::job::LawfulJob;
 
 impl Work for AskedEvents {
     ghost prints = { λ outcome before after. ⊤ };
 
-    ghost does = { λ asked old new result. new.vault ≡ old.vault };
+    ghost does = { λ asked old new result. (new.vault ≡ old.vault) × PrintsEvents asked.before old.vault result old.output new.output };
 
     fn terminal(&self, _rt: &HostRuntime) -> Option<Stderr> {
         None
@@ -33,8 +34,7 @@ impl Work for AskedEvents {
         out: &mut W,
         _err: &mut E,
     ) -> Result<Outcome, JobFault> {
-        let mut stated = ProgressWriter::new(out, terminal_beside(rt));
-        print_events(rt.alloc(), keeper, self, &mut stated)
+        print_events(rt.alloc(), keeper, self, out, terminal_apart(rt))
     }
 }
 

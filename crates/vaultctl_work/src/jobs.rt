@@ -1,17 +1,16 @@
 //! A register, and a script.
 ghost use Rattle.std.specs.Prelude.{◌≡◌, ⊤};
+ghost use Rattle.vaultctl_commands.specs.Rows.{PrintsRegister};
 ghost use Rattle.vaultctl_work.specs.Done.{IsAnswered};
 ghost use Rattle.vaultctl_work.specs.Outcomes as spec;
 
-use crate::terminal::terminal_beside;
+use crate::terminal::terminal_apart;
 use crate::work::Work;
 use std::io::{Read, Stderr, Write};
 use vault_core_model::keeper::Keeper;
-use vault_files::ExportFault;
-use vault_files::register::export_register;
 use vaultctl_commands::fault::JobFault;
 use vaultctl_commands::outcome::Outcome;
-use vaultctl_commands::progress_writer::ProgressWriter;
+use vaultctl_commands::rows::print_register;
 use vaultctl_job::job::{RegisterJob, ReplayJob};
 use vaultctl_remedies::explaining::Explainer;
 use vaultctl_replay::{ReplayFault, replay_observed};
@@ -27,22 +26,11 @@ pub fn fault_of(fault: ReplayFault) -> JobFault
     }
 }
 
-fn done_or_fault(written: Result<(), ExportFault>) -> Result<Outcome, JobFault>
-    ensures { result ≡ spec.exported written }
-{
-    match written {
-        Ok(()) => Ok(Outcome::Done),
-        Err(ExportFault::Write) => Err(JobFault::Write),
-        Err(ExportFault::Memory) => Err(JobFault::Memory),
-        Err(ExportFault::Device) => Err(JobFault::Device),
-    }
-}
-
 /// The register of a vault's removals.
 impl Work for RegisterJob {
     ghost prints = { λ outcome before after. ⊤ };
 
-    ghost does = { λ job old new result. new.vault ≡ old.vault };
+    ghost does = { λ job old new result. (new.vault ≡ old.vault) × PrintsRegister old.vault result old.output new.output };
 
     fn terminal(&self, _rt: &HostRuntime) -> Option<Stderr> {
         None
@@ -57,8 +45,7 @@ impl Work for RegisterJob {
         out: &mut W,
         _err: &mut E,
     ) -> Result<Outcome, JobFault> {
-        let mut stated = ProgressWriter::new(out, terminal_beside(rt));
-        done_or_fault(export_register(rt.alloc(), keeper, &mut stated))
+        print_register(rt.alloc(), keeper, out, terminal_apart(rt))
     }
 }
 

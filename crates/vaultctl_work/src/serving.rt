@@ -96,7 +96,7 @@ fn serve_both<K: Keeper, H: Hears, E: Write>(
     hears: &mut H,
     places: Places<'_>,
     err: &mut E,
-    log: Option<Stderr>,
+    log: &mut Option<Stderr>,
 ) -> Result<Outcome, JobFault>
     ensures done { K.is_honest keeper.new → K.is_honest keeper.old × Stepped places.entry.count (K.vault keeper.old) (K.vault keeper.new) }
     ensures heard { K.is_honest keeper.new → HearsAll H.going H.hears hears.old hears.new (K.vault keeper.old) (K.vault keeper.new) }
@@ -130,7 +130,7 @@ fn serve_for_hosts<K: Keeper, H: Hears, E: Write>(
             alloc,
             count: job.count,
         };
-        return served(serve(rt, keeper, hears, place, err, log_of(rt, job)));
+        return served(serve(rt, keeper, hears, place, err, &mut log_of(rt, job)));
     };
     let Some(lines) = lines_at(place.as_str(), err) else {
         return Err(JobFault::Device);
@@ -144,7 +144,7 @@ fn serve_for_hosts<K: Keeper, H: Hears, E: Write>(
         alloc,
         count: most_with_lines(job.count),
     };
-    serve_both(rt, keeper, hears, places, err, log_of(rt, job))
+    serve_both(rt, keeper, hears, places, err, &mut log_of(rt, job))
 }
 
 /// Serves what the job asks for. Somebody hears of each command that was carried out, and the server ends where that one

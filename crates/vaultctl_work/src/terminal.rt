@@ -7,8 +7,8 @@ pub fn terminal(rt: &HostRuntime) -> Option<Stderr> {
     if err.is_terminal() { Some(err) } else { None }
 }
 
-/// The same for a job that prints much: where that is shown on a terminal too, nothing is to stand between its lines.
-pub fn terminal_beside(rt: &HostRuntime) -> Option<Stderr> {
+/// The same for a job that prints much; none where that is shown on a terminal too, so that its lines stand alone.
+pub fn terminal_apart(rt: &HostRuntime) -> Option<Stderr> {
     if rt.stdout().is_terminal() {
         return None;
     }

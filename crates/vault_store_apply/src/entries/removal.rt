@@ -57,7 +57,7 @@ fn without_version(sums: Row, entry: &Entry, since: Moment, at: Moment) -> Row
     sums
 }
 
-/// Removes a held entry: its bytes go, and the entry keeps the removal.
+/// Removes a held entry: its content goes, and the entry keeps the removal.
 pub fn remove<S: Alter>(
     conn: &mut Connection<S>,
     known: &Known,
@@ -82,7 +82,7 @@ pub fn remove<S: Alter>(
             return Err(error);
         }
     };
-    let beside = match read_removal_context(conn, &entry, id, place.head) {
+    let beside = match read_removal_context(conn, known, &entry, id, place.head) {
         Ok(beside) => beside,
         Err(error) => {
             drop(place);
@@ -100,6 +100,7 @@ pub fn remove<S: Alter>(
         left,
         dept: &place.config.dept,
         sums,
+        external: beside.external,
     };
     let removed = commit_part(conn, at, &part);
     drop(place);

@@ -6,15 +6,19 @@ ghost use Rattle.vault_core_model.specs.declared.records.Tenure.{Tenure};
 ghost use Rattle.vault_core_model.specs.Reads.{head_of};
 ghost use Rattle.vault_core_model.specs.Vault.{Vault};
 ghost use Rattle.vault_store_model.specs.Keeping.{Keeps};
+ghost use Rattle.vault_store_model.specs.Known.{AreKnown};
 ghost use Rattle.vault_store_model.specs.Sums.{last_tenure_of};
 ghost use Rattle.vault_store_reads.specs.Shown.{newest_but};
 ghost use Rattle.vault_store_apply.specs.Heads.{holds_no_other};
-ghost use Rattle.vault_store_reads.specs.Quiet.{OnlyReads, SaysOf};
+ghost use Rattle.vault_store_apply.specs.Known.{IsOpen};
+ghost use Rattle.vault_store_reads.specs.Quiet.{OnlyReads, IsOpenIfOk, SaysOf};
 
 use sqlite::{Alter, Connection, Error};
 use vault_base::moment::Moment;
 use vault_base::name::VersionId;
 use vault_core_model::records::{Entry, Head, Tenure};
+use vault_store_model::known::{Known, is_external};
+use vault_store_reads::meta::read_meta;
 use vault_store_reads::rows_in_order::reads::{read_last_tenure, read_newest_but};
 
 /// Whether a key with this head holds no entry but that one.
@@ -67,25 +71,57 @@ fn find_begin<S: Alter>(
     Ok(begin_of(tenure, entry.admitted))
 }
 
-/// The newest held entry of an entry's key besides it, and since when its department has had it.
+/// Whether the vault registers contents that are kept outside, by the tables.
+fn ask_external<S: Alter>(conn: &mut Connection<S>) -> Result<bool, Error>
+    ensures value { HasCleanDisk (state S.Store conn.new) → IfOk result (λ external. (v : Vault) → Keeps (state S.Store conn.old) v → external ≡ v.external) }
+    ensures open { IsOpenIfOk S.Store conn.new result }
+    ensures read { OnlyReads S.Store conn.old conn.new }
+{
+    let meta = read_meta(conn)?;
+    Ok(is_external(meta))
+}
+
+/// Whether the vault registers contents that are kept outside.
+fn find_external<S: Alter>(conn: &mut Connection<S>, known: &Known) -> Result<bool, Error>
+    requires { IsOpen S.Store conn.old }
+    ensures value { HasCleanDisk (state S.Store conn.new) → IfOk result (λ external. (v : Vault) → Keeps (state S.Store conn.old) v → AreKnown known.now v → external ≡ v.external) }
+    ensures open { IsOpenIfOk S.Store conn.new result }
+    ensures read { OnlyReads S.Store conn.old conn.new }
+{
+    match known.meta() {
+        Some(meta) => Ok(is_external(meta)),
+        None => ask_external(conn),
+    }
+}
+
+/// The newest held entry of an entry's key besides it, since when its department has had it, and whether
+/// the vault registers contents that are kept outside.
 #[derive(Clone, Copy)]
 pub struct RemovalContext {
     pub newest: Option<VersionId>,
     pub since: Moment,
+    pub external: bool,
 }
 
 /// Reads that, by the head of the key.
 pub fn read_removal_context<S: Alter>(
     conn: &mut Connection<S>,
+    known: &Known,
     entry: &Entry,
     id: VersionId,
     head: Option<Head>,
 ) -> Result<RemovalContext, Error>
-    ensures value { HasCleanDisk (state S.Store conn.new) → IfOk result (λ beside. (v : Vault) → Keeps (state S.Store conn.old) v → head ≡ head_of v entry.now.bucket entry.now.key
-        → (beside.newest ≡ newest_but v entry.now.bucket entry.now.key id) × (beside.since ≡ unwrap_or (option_map (λ (t : Tenure). t.from) (last_tenure_of v id)) entry.now.admitted)) }
+    requires { IsOpen S.Store conn.old }
+    ensures value { HasCleanDisk (state S.Store conn.new) → IfOk result (λ beside. (v : Vault) → Keeps (state S.Store conn.old) v → AreKnown known.now v → head ≡ head_of v entry.now.bucket entry.now.key
+        → (beside.newest ≡ newest_but v entry.now.bucket entry.now.key id) × (beside.since ≡ unwrap_or (option_map (λ (t : Tenure). t.from) (last_tenure_of v id)) entry.now.admitted) × (beside.external ≡ v.external)) }
     ensures read { OnlyReads S.Store conn.old conn.new }
 {
+    let external = find_external(conn, known)?;
     let newest = find_newest_but(conn, entry, id, head)?;
     let since = find_begin(conn, entry, id)?;
-    Ok(RemovalContext { newest, since })
+    Ok(RemovalContext {
+        newest,
+        since,
+        external,
+    })
 }

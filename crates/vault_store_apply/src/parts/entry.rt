@@ -1,14 +1,14 @@
 //! An entry that is added, and one that is removed.
 ghost use Rattle.std.specs.Prelude.{◌≡◌, IfSome, OnOk};
 ghost use Rattle.vault_audit_model.specs.Limits.{IsCause};
-ghost use Rattle.vault_store_apply.specs.EntryParts.{history_put, noted_and_summed, bytes_dropped};
+ghost use Rattle.vault_store_apply.specs.EntryParts.{history_put, noted_and_summed, content_dropped};
 ghost use Rattle.vault_store_apply.specs.Typed.{IsFirstTyped};
 ghost use Rattle.vault_store_edits.specs.Inside.{MakesPart};
 ghost use Rattle.vault_store_edits.specs.Typed.{IsTypedEntry, IsTypedNote};
 
 use crate::parts::given::{
-    leave_head, put_content_if_given, put_first_setting, put_first_tenure, put_newest,
-    put_note_if_given, set_sums_of,
+    delete_external_if, leave_head, put_content_if_given, put_external_if_given, put_first_setting,
+    put_first_tenure, put_newest, put_note_if_given, set_sums_of,
 };
 use sqlite::{Alter, Error, Transaction};
 use vault_base::moment::Moment;
@@ -21,7 +21,7 @@ use vault_store_edits::meta::{set_last, set_last_and_next};
 use vault_store_edits::transaction::Part;
 use vault_tally::row::Row as Sums;
 
-/// Puts in an entry with its bytes, its first setting and its first tenure.
+/// Puts in an entry with its content, its first setting and its first tenure.
 fn put_history<S: Alter>(tx: &mut Transaction<'_, S>, history: &History) -> Result<(), Error>
     ensures same_reference { tx.new.conn.ghost_name ≡ tx.old.conn.ghost_name }
     ensures part { MakesPart S.Store tx.old.conn.now tx.new.conn.now result (history_put history.now) }
@@ -29,6 +29,7 @@ fn put_history<S: Alter>(tx: &mut Transaction<'_, S>, history: &History) -> Resu
 {
     put_entry(tx, &history.entry)?;
     put_content_if_given(tx, history.entry.id, &history.content)?;
+    put_external_if_given(tx, history.entry.id, &history.content)?;
     put_first_setting(tx, history.entry.id, history.settings.as_slice())?;
     put_first_tenure(tx, history.entry.id, history.tenures.as_slice())
 }
@@ -49,19 +50,21 @@ fn put_beside<S: Alter>(
     set_sums_of(tx, marker, dept, sums)
 }
 
-/// Writes a removal into the row of its entry, and deletes the bytes.
-fn drop_bytes<S: Alter>(
+/// Writes a removal into the row of its entry, and deletes the content, from a vault that registers contents
+/// which are kept outside, or doesn't.
+fn drop_content<S: Alter>(
     tx: &mut Transaction<'_, S>,
     id: VersionId,
     removal: &Removal,
+    external: bool,
 ) -> Result<(), Error>
     ensures same_reference { tx.new.conn.ghost_name ≡ tx.old.conn.ghost_name }
-    ensures part { MakesPart S.Store tx.old.conn.now tx.new.conn.now result (bytes_dropped id removal.now) }
+    ensures part { MakesPart S.Store tx.old.conn.now tx.new.conn.now result (content_dropped external id removal.now) }
     ensures limits { IsCause removal.now.cause }
 {
     remove_entry(tx, id, removal)?;
     delete_content(tx, id)?;
-    Ok(())
+    delete_external_if(tx, id, external)
 }
 
 /// An admission at a moment, by what was read of the vault before.
@@ -117,6 +120,8 @@ pub struct RemovedEntry<'a> {
     /// The department of the bucket, and the sums that it gets; of a marker they stay as they are.
     pub dept: &'a DeptName,
     pub sums: Sums,
+    /// Whether the vault registers contents that are kept outside.
+    pub external: bool,
 }
 
 impl<S: Alter> Part<S> for RemovedEntry<'_> {
@@ -125,12 +130,12 @@ impl<S: Alter> Part<S> for RemovedEntry<'_> {
     ghost use Rattle.vault_audit_model.specs.Limits.{IsCause};
     ghost use Rattle.vault_store_apply.specs.EntryParts.{entry_removed};
 
-    ghost edit = { λ part. entry_removed part.entry.now part.id part.removal.now part.left part.dept.now part.sums part.at };
+    ghost edit = { λ part. entry_removed part.external part.entry.now part.id part.removal.now part.left part.dept.now part.sums part.at };
 
     ghost limits = { λ part. (part.at ≤ last_moment) × IsCause part.removal.now.cause };
 
     fn make(&self, tx: &mut Transaction<'_, S>) -> Result<(), Error> {
-        drop_bytes(tx, self.id, self.removal)?;
+        drop_content(tx, self.id, self.removal, self.external)?;
         set_sums_of(tx, self.entry.marker, self.dept, &self.sums)?;
         leave_head(tx, &self.entry.bucket, &self.entry.key, self.left)?;
         set_last(tx, self.at)?;

@@ -1,10 +1,11 @@
 //! Statements of one part, each where there is what it writes.
 ghost use Rattle.std.specs.Prelude.{◌≡◌, map, Some, IfSome, OnOk};
 ghost use Rattle.vault_base.specs.declared.refusal.Table.TheVariants as table;
-ghost use Rattle.vault_audit_model.specs.Rows.{content_row, note_row};
-ghost use Rattle.vault_audit_model.specs.Spells.{content_if_given};
+ghost use Rattle.vault_audit_model.specs.Rows.{content_row, external_row, note_row};
+ghost use Rattle.vault_audit_model.specs.Spells.{content_if_given, external_if_given};
 ghost use Rattle.vault_store_model.specs.Changes.{with_row_if_given, with_head};
-ghost use Rattle.vault_store_model.specs.Edits.{with_each};
+ghost use Rattle.vault_store_model.specs.Edits.{without, made_if, with_each};
+ghost use Rattle.vault_store_model.specs.Tests.{is_numbered};
 ghost use Rattle.vault_store_apply.specs.EntryParts.{with_left_head, with_first_setting, with_first_tenure, with_sums_as};
 ghost use Rattle.vault_store_apply.specs.Typed.{IsFirstTyped};
 ghost use Rattle.vault_store_edits.specs.Inside.{MakesPart};
@@ -16,6 +17,7 @@ use vault_base::name::{BucketName, DeptName, ObjectKey, VersionId};
 use vault_core_model::records::{Head, Note, Setting, Tenure};
 use vault_store_edits::contents::put_content;
 use vault_store_edits::departments::set_sums;
+use vault_store_edits::external::{delete_external, put_external};
 use vault_store_edits::heads::{delete_head, put_head, set_head};
 use vault_store_edits::intake::put_note;
 use vault_store_edits::settings::put_setting;
@@ -35,6 +37,38 @@ pub fn put_content_if_given<S: Alter>(
         return Ok(());
     };
     put_content(tx, id, inside)?;
+    Ok(())
+}
+
+/// Puts in that the content of an entry is kept outside, if it is.
+pub fn put_external_if_given<S: Alter>(
+    tx: &mut Transaction<'_, S>,
+    id: VersionId,
+    content: &Option<Content>,
+) -> Result<(), Error>
+    ensures same_reference { tx.new.conn.ghost_name ≡ tx.old.conn.ghost_name }
+    ensures part { MakesPart S.Store tx.old.conn.now tx.new.conn.now result (with_each table.External (map external_row (external_if_given id content.now))) }
+{
+    let Some(Content::External(_)) = content else {
+        return Ok(());
+    };
+    put_external(tx, id)?;
+    Ok(())
+}
+
+/// Deletes that the content of an entry is kept outside, in a vault that registers such contents.
+pub fn delete_external_if<S: Alter>(
+    tx: &mut Transaction<'_, S>,
+    id: VersionId,
+    external: bool,
+) -> Result<(), Error>
+    ensures same_reference { tx.new.conn.ghost_name ≡ tx.old.conn.ghost_name }
+    ensures part { MakesPart S.Store tx.old.conn.now tx.new.conn.now result (made_if external (without table.External (is_numbered id))) }
+{
+    if !external {
+        return Ok(());
+    }
+    delete_external(tx, id)?;
     Ok(())
 }
 

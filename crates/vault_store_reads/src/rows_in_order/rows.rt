@@ -10,11 +10,9 @@ ghost use Rattle.vault_audit_model.specs.declared.rows.SettingRow.{SettingRow};
 ghost use Rattle.vault_audit_model.specs.declared.rows.TenureRow.{TenureRow};
 ghost use Rattle.vault_base.specs.Name.{is_version_id};
 ghost use Rattle.vault_audit_model.specs.Limits.{IsObjectKey, IsRuleRow, IsSettingRow, IsTenureRow};
-ghost use Rattle.vault_audit_model.specs.Queries.{Selects};
 ghost use Rattle.vault_audit_model.specs.Rows.{rule_row, setting_row, tenure_row};
-ghost use Rattle.vault_audit_model.specs.Tables.{vault_schema};
 ghost use Rattle.vault_store_model.specs.Sums.{last_tenure_of};
-ghost use Rattle.vault_store_reads.specs.Queries.{FindsRows};
+ghost use Rattle.vault_store_reads.specs.Queries.{FindsRows, SelectsInBoth};
 ghost use Rattle.vault_store_reads.specs.Quiet.{OnlyReads, ReadsQuietly, IsOpenIfOk, SaysOf};
 ghost use Rattle.vault_store_reads.specs.Readable.{AreReadable, IsHeldRow, IsLastSetting};
 ghost use Rattle.vault_store_reads.specs.Shown.{last_row, entry_shown, held_row, key_row, id_row, set_of, newest_but, ShowsTenure};
@@ -32,7 +30,7 @@ pub fn open_rows<S: Alter>(
     sql: &str,
     params: &[ValueRef<'_>],
 ) -> Result<Vec<Row>, Error>
-    requires { (q : Query) × Selects vault_schema sql.now q }
+    requires { (q : Query) × SelectsInBoth sql.now q }
     ensures rows { SaysOf S.Store conn.old conn.new result (λ v rows. FindsRows v sql.now (bound params.now) rows.items) }
     ensures read { ReadsQuietly S.Store conn.old conn.new }
     ensures open { IsOpenIfOk S.Store conn.new result }

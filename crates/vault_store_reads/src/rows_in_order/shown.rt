@@ -8,11 +8,11 @@ ghost use Rattle.vault_store_reads.specs.Shown.{last_row, held_row, key_row, id_
 ghost use Rattle.vault_store_reads.specs.declared.rows_in_order.shown.HeldRow.{HeldRow as Held};
 
 use sqlite::Row;
-use vault_audit_rows::cell::{flag, moment, number_within, version_id};
+use vault_audit_rows::cell::{flag, moment, number_up_to, number_within, version_id};
 use vault_audit_rows::misread::Misread;
 use vault_audit_rows::name::{bucket_name, object_key};
 use vault_audit_rows::several_columns::retention;
-use vault_base::limits::{MOST_CONTENT, MOST_SETTINGS};
+use vault_base::limits::{MOST_EXTERNAL, MOST_SETTINGS};
 use vault_base::moment::Moment;
 use vault_base::name::{BucketName, ObjectKey, VersionId};
 use vault_core_model::records::LastSetting;
@@ -53,12 +53,12 @@ pub fn read_held(row: &Row) -> Option<HeldRow>
     }
     let id = version_id(row, 0)?;
     let marker = flag(row, 1)?;
-    let size = number_within(row, 2, 0, MOST_CONTENT as u32)?;
+    let size = number_up_to(row, 2, MOST_EXTERNAL)?;
     let admitted = moment(row, 3)?;
     Some(HeldRow {
         id,
         marker,
-        size: u64::from(size),
+        size,
         admitted,
     })
 }

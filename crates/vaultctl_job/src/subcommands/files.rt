@@ -159,5 +159,9 @@ const MIGRATE: Subcommand = Subcommand {
             name: "NEW",
             help: "The file to make; it may not hold a vault yet",
         },
+        Argument::Flag {
+            name: "external",
+            help: "The copy registers contents that are kept outside it, by\ntheir sizes and digests; OLD may be made by this version\nwithout --external",
+        },
     ],
 };

@@ -24,10 +24,16 @@ const INIT: Subcommand = Subcommand {
         "0 done; 1 refused, as 'init: NameTaken' on standard error, or a fault,\nas 'init: Device' there; 2 the words aren't understood, or ask for help."
     ),
     usage: None,
-    arguments: &[Argument::Place {
-        name: "FILE",
-        help: "The file to make; it may not hold a vault yet",
-    }],
+    arguments: &[
+        Argument::Place {
+            name: "FILE",
+            help: "The file to make; it may not hold a vault yet",
+        },
+        Argument::Flag {
+            name: "external",
+            help: "The vault registers contents that are kept outside it,\nby their sizes and digests; this can't be changed later",
+        },
+    ],
 };
 
 const DEPT: Subcommand = Subcommand {

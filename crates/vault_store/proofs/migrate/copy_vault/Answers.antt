@@ -2,6 +2,7 @@ use Rattle.std.proofs.Common.{IsTrue, sym, subst, ◌∙◌, arith}
 use Rattle.sqlite.specs.Held.{state}
 use Rattle.sqlite.specs.State.{HasCleanDisk}
 use Rattle.vault_audit_model.specs.Spells.{AreSound}
+use Rattle.vault_store_create.specs.Copied.{registering}
 use Rattle.vault_store.proofs.MigrateLemmas.{copy_survives, never_copied, survives_more}
 use Rattle.vault_store.proofs.TableLemmas.{leaves_alone, same_tables, same_undone}
 use Rattle.vault_store.proofs.migrate.copy_vault.Goals as goal
@@ -32,12 +33,12 @@ returns-in-Err-commit-clause-tables g c clean =
 
 pub returns-in-Err-commit-clause-crash : goal.returns-in-Err-commit-clause-crash
 returns-in-Err-commit-clause-crash g c =
-    copy_survives (state g.S.Store c.args.new.now) (state g.S.Store c.take_copy.new.new) (state g.S.Store c.look_at_copy.new.new) (state g.S.Store c.commit.new.conn) c.args.schema_version (state g.O.Store c.args.old.now).now (HasCleanDisk (state g.O.Store c.take_copy.new.old))
+    copy_survives (state g.S.Store c.args.new.now) (state g.S.Store c.take_copy.new.new) (state g.S.Store c.look_at_copy.new.new) (state g.S.Store c.commit.new.conn) c.args.schema_version c.args.external (state g.O.Store c.args.old.now).now (HasCleanDisk (state g.O.Store c.take_copy.new.old))
     c.take_copy.ensures.crash c.look_at_copy.ensures.crash c.commit.ensures.crash (λ clean. (c.in-Ok-look_at_copy.ensures.same clean).0.now_is) c.in-Ok.ensures.spelled c.in-Ok.ensures.copied
 
 pub returns-clause-crash : goal.returns-clause-crash
 returns-clause-crash g c =
-    copy_survives (state g.S.Store c.args.new.now) (state g.S.Store c.take_copy.new.new) (state g.S.Store c.look_at_copy.new.new) (state g.S.Store c.commit.new.conn) c.args.schema_version (state g.O.Store c.args.old.now).now (HasCleanDisk (state g.O.Store c.take_copy.new.old))
+    copy_survives (state g.S.Store c.args.new.now) (state g.S.Store c.take_copy.new.new) (state g.S.Store c.look_at_copy.new.new) (state g.S.Store c.commit.new.conn) c.args.schema_version c.args.external (state g.O.Store c.args.old.now).now (HasCleanDisk (state g.O.Store c.take_copy.new.old))
     c.take_copy.ensures.crash c.look_at_copy.ensures.crash c.commit.ensures.crash (λ clean. (c.in-Ok-look_at_copy.ensures.same clean).0.now_is) c.in-Ok.ensures.spelled c.in-Ok.ensures.copied
 
 pub returns-clause-copied : goal.returns-clause-copied
@@ -45,7 +46,7 @@ returns-clause-copied g c clean after v is =
     let looked : HasCleanDisk (state g.S.Store c.look_at_copy.new.new) = omega (arith, after, c.commit.ensures.crash.clean) in
     let taken : HasCleanDisk (state g.S.Store c.take_copy.new.new) = omega (arith, looked, c.look_at_copy.ensures.crash.clean) in
     let same = (c.in-Ok-commit.ensures.committed after).1 ∙ (c.in-Ok-look_at_copy.ensures.same looked).0.now_is in
-    subst (λ db. AreSound db v) (sym same) (c.in-Ok.ensures.copied clean taken v is).0
+    subst (λ db. AreSound db (registering c.args.external v)) (sym same) (c.in-Ok.ensures.copied clean taken v is).0
 
 pub returns-clause-sound : goal.returns-clause-sound
 returns-clause-sound g c clean =
@@ -70,7 +71,7 @@ returns-in-Err-look_at_copy-clause-refused g c well_old well stated =
     let taken : HasCleanDisk (state g.S.Store c.take_copy.new.new) = omega (arith, well.clean, c.look_at_copy.ensures.crash.clean) in
     let it = c.in-Ok.ensures.spelled well_old.clean in
     let copied = c.in-Ok.ensures.copied well_old.clean taken it.0 it.1 in
-    absurd (c.in-Err-look_at_copy.ensures.healthy it.0 copied.0 well stated)
+    absurd (c.in-Err-look_at_copy.ensures.healthy (registering c.args.external it.0) copied.0 well stated)
 
 pub returns-in-Err-commit-clause-refused : goal.returns-in-Err-commit-clause-refused
 returns-in-Err-commit-clause-refused g c well_old well stated =

@@ -1,7 +1,9 @@
 use Rattle.std.proofs.Common.{sym, subst}
 use Rattle.sqlite.specs.Held.{state}
 use Rattle.sqlite.proofs.StateLemmas.{survives_then}
-use Rattle.vault_audit_model.specs.Spells.{AreSound}
+use Rattle.vault_audit_model.specs.SchemaVersions.{edition_of}
+use Rattle.vault_audit_model.specs.Spells.{AreSoundAs}
+use Rattle.vault_store.proofs.EditionLemmas.{sound_by_edition}
 use Rattle.vault_store.proofs.MigrateLemmas.{never_failed, worked}
 use Rattle.vault_store.proofs.migrate.look_at_copy.Goals as goal
 
@@ -15,4 +17,4 @@ returns-in-Err-clause-healthy g c v sound well =
     let before = worked looked (state g.S.Store c.end_transaction.new.conn) c.end_transaction.ensures.crash c.end_transaction.ensures.was_open well in
     let did = c.in-Err.ensures in
     never_failed _ _ did.faults c.fault_of_copy.ensures.memory (did.healthy before)
-    (λ t damaged. did.damaged before.clean t damaged v (subst (λ db. AreSound db v) (sym (did.kept before.clean (t, damaged))) sound))
+    (λ t damaged. did.damaged before.clean t damaged v (subst (λ db. AreSoundAs (edition_of c.args.external) db v) (sym (did.kept before.clean (t, damaged))) sound))

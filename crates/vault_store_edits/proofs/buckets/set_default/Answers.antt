@@ -10,6 +10,6 @@ pub returns-clause-edit : goal.returns-clause-edit
 returns-clause-edit g c =
     let look = c.in_ok-check_rowids.ensures in
     updates_by_rowid g.S.Store c.args.tx.now.conn.now c.check_rowids.new.tx.conn.now c.execute.new.self.conn.now table.Buckets by_name (default_params c.args.name.now c.args.default) default_text c.execute.result
-    (λ clean has. rw (c.params-to_sql.ensures, c.as_str.ensures.text) at (look.unique clean has by_name finds_bucket)) look.kept look.inside look.survives
+    (λ external clean has. rw (c.params-to_sql.ensures, c.as_str.ensures.text) at (look.unique external clean has by_name (finds_bucket external))) look.kept look.inside look.survives
     (λ clean inside. rw (c.params-to_sql-2.ensures, c.as_str-2.ensures.text, c.params-to_sql-3.ensures, c.default_mode.ensures, c.params-to_sql-4.ensures, bound_number c.default_days.result, c.default_days.ensures, c.params-to_sql-5.ensures, bound_number c.default_years.result, c.default_years.ensures) at (c.execute.ensures.runs clean inside)) c.execute.ensures.survives
-    (is_named c.args.name.now) (with_default_columns c.args.default) (sets_default c.args.name.now c.args.default _ _)
+    (is_named c.args.name.now) (with_default_columns c.args.default) (λ external. sets_default external c.args.name.now c.args.default _ _)

@@ -11,6 +11,6 @@ pub returns-clause-edit : goal.returns-clause-edit
 returns-clause-edit g c =
     let look = c.in_ok-check_id.ensures in
     deletes_by_rowid g.S.Store c.args.tx.now.conn.now c.check_id.new.tx.conn.now c.execute.new.self.conn.now table.Contents by_id (number c.args.id ∷ []) no_content_text c.execute.result
-    (λ clean has. look.unique clean has by_id finds_content) look.kept look.inside look.survives
+    (λ external clean has. look.unique external clean has by_id (finds_content external)) look.kept look.inside look.survives
     (λ clean inside. rw (c.params-to_sql.ensures, c.number.ensures.value) at (c.execute.ensures.runs clean inside)) c.execute.ensures.survives
-    (is_numbered c.args.id) (drops_content c.args.id _ _)
+    (is_numbered c.args.id) (λ external. drops_content external c.args.id _ _)

@@ -17,6 +17,6 @@ returns-clause-edit g c =
     let fits5 : FitsSigned w64 c.in_ok-received.received = search rules in
     let fits6 : FitsSigned w64 c.in_ok-handed.handed = search rules in
     updates_by_rowid g.S.Store c.args.tx.now.conn.now c.check_rowids.new.tx.conn.now c.execute.new.self.conn.now table.Departments by_name (sums_params c.args.name.now c.args.sums.now) sums_text c.execute.result
-    (λ clean has. rw (c.params-to_sql.ensures, c.as_str.ensures.text) at (look.unique clean has by_name finds_department)) look.kept look.inside look.survives
+    (λ external clean has. rw (c.params-to_sql.ensures, c.as_str.ensures.text) at (look.unique external clean has by_name (finds_department external))) look.kept look.inside look.survives
     (λ clean inside. rw (c.params-to_sql-2.ensures, c.as_str-2.ensures.text, c.params-to_sql-3.ensures, to_z-of_z fits0, c.in_ok-admitted.ensures, c.params-to_sql-4.ensures, to_z-of_z fits1, c.in_ok-held.ensures, c.params-to_sql-5.ensures, to_z-of_z fits2, c.in_ok-removed.ensures, c.params-to_sql-6.ensures, to_z-of_z fits3, c.in_ok-weighted.ensures, c.params-to_sql-7.ensures, to_z-of_z fits4, c.in_ok-closed.ensures, c.params-to_sql-8.ensures, to_z-of_z fits5, c.in_ok-received.ensures, c.params-to_sql-9.ensures, to_z-of_z fits6, c.in_ok-handed.ensures) at (c.execute.ensures.runs clean inside)) c.execute.ensures.survives
-    (is_named c.args.name.now) (with_sums c.args.sums.now) (sets_sums c.args.name.now c.args.sums.now _ _)
+    (is_named c.args.name.now) (with_sums c.args.sums.now) (λ external. sets_sums external c.args.name.now c.args.sums.now _ _)

@@ -13,9 +13,9 @@ returns-clause-edit g c =
     let look = c.in_ok-check_rowids.ensures in
     let fits0 : FitsSigned w64 c.seconds.result = search rules in
     updates_by_rowid g.S.Store c.args.tx.now.conn.now c.check_rowids.new.tx.conn.now c.execute.new.self.conn.now table.Meta [] (number c.args.last ∷ []) last_text c.execute.result
-    (λ clean has. look.unique clean has [] finds_meta) look.kept look.inside look.survives
+    (λ external clean has. look.unique external clean has [] (finds_meta external)) look.kept look.inside look.survives
     (λ clean inside. rw (c.params-to_sql.ensures, to_z-of_z fits0, c.seconds.ensures.value) at (c.execute.ensures.runs clean inside)) c.execute.ensures.survives
-    every (with_last c.args.last) (sets_last c.args.last _ _)
+    every (with_last c.args.last) (λ external. sets_last external c.args.last _ _)
 
 pub returns-clause-range : goal.returns-clause-range
 returns-clause-range g c = on_ok_here c.execute.result c.seconds.ensures.range

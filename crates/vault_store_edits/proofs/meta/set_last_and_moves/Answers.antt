@@ -13,9 +13,9 @@ returns-clause-edit g c =
     let look = c.in_ok-check_rowids.ensures in
     let fits0 : FitsSigned w64 c.seconds.result = search rules in
     updates_by_rowid g.S.Store c.args.tx.now.conn.now c.check_rowids.new.tx.conn.now c.execute.new.self.conn.now table.Meta [] (number c.args.last ∷ number c.args.moves ∷ []) moves_text c.execute.result
-    (λ clean has. look.unique clean has [] finds_meta) look.kept look.inside look.survives
+    (λ external clean has. look.unique external clean has [] (finds_meta external)) look.kept look.inside look.survives
     (λ clean inside. rw (c.params-to_sql.ensures, to_z-of_z fits0, c.seconds.ensures.value, c.params-to_sql-2.ensures) at (c.execute.ensures.runs clean inside)) c.execute.ensures.survives
-    every (with_last_and_moves c.args.last c.args.moves) (sets_moves c.args.last c.args.moves _ _)
+    every (with_last_and_moves c.args.last c.args.moves) (λ external. sets_moves external c.args.last c.args.moves _ _)
 
 pub returns-clause-range : goal.returns-clause-range
 returns-clause-range g c = on_ok_here c.execute.result c.seconds.ensures.range

@@ -16,7 +16,7 @@ use Rattle.vault_store_edits.proofs.rowids.check_rows.Goals as goal
 pub loop-row-init : goal.loop-row-init
 loop-row-init g c =
     let old = state g.S.Store c.args.tx.now.conn.now in
-    (refl, survives_itself old, λ clean inside. (kept_itself old, inside), λ clean has is_open. (unchanged_itself old is_open, tt))
+    (refl, survives_itself old, λ clean inside. (kept_itself old, inside), λ external clean has is_open. (unchanged_itself old is_open, tt))
 
 pub loop-row-preserved : goal.loop-row-preserved
 loop-row-preserved g c =
@@ -31,18 +31,18 @@ loop-row-preserved g c =
           let early : HasCleanDisk mid = omega (arith, clean, one.survives.clean) in
           let before = was.2 early inside in
           (kept_then old mid new before.0 (one.kept clean before.1), one.inside clean before.1),
-      λ clean has is_open.
+      λ external clean has is_open.
           let early : HasCleanDisk mid = omega (arith, clean, one.survives.clean) in
-          let before = was.3 early has is_open in
+          let before = was.3 external early has is_open in
           let now = before.0.0.now_is in
-          let it = one.stands clean (ap (λ (db : Database). db.schema) now ∙ has) in
+          let it = one.stands external clean (ap (λ (db : Database). db.schema) now ∙ has) in
           let P = Stands (old.now.trees (tree_of c.args.table)) in
           (unchanged_then old mid new before.0 it.0, all_more P c.args.rows.now c.loop-row.row-index c.row-item.result c.loop-row-test.true c.row-item.is before.1 (subst (λ (db : Database). Stands (db.trees (tree_of c.args.table)) c.row-item.result) now it.1)),
     )
 
 pub returns-clause-stand : goal.returns-clause-stand
-returns-clause-stand g c clean has is_open =
-    let it = c.loop-row.invariant.3 clean has is_open in
+returns-clause-stand g c external clean has is_open =
+    let it = c.loop-row.invariant.3 external clean has is_open in
     let high : length c.args.rows.now ≤ c.loop-row.row-index = search rules in
     (it.0, subst (AllByRecursion (Stands ((state g.S.Store c.args.tx.now.conn.now).now.trees (tree_of c.args.table)))) (take_all c.loop-row.row-index c.args.rows.now high) it.1)
 

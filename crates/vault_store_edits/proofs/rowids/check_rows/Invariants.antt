@@ -1,4 +1,4 @@
-use Rattle.std.proofs.Common.{◌≡◌, IsTrue, take}
+use Rattle.std.proofs.Common.{◌≡◌, Bool, IsTrue, take}
 use Rattle.std.specs.List.{AllByRecursion}
 use Rattle.sqlite.specs.State.{HasCleanDisk, IsUnchanged, KeepsCommit, Survives}
 use Rattle.sqlite.specs.Held.{state}
@@ -14,4 +14,4 @@ invariant-loop-row g l =
     let now = state g.S.Store l.tx.conn.now in
     (l.tx.conn.ghost_name ≡ l.fn.tx.conn.ghost_name) × Survives old now (λ _. ⊥)
     × (HasCleanDisk now → IsTrue l.fn.tx.conn.now.in_transaction → KeepsCommit old now × IsTrue l.tx.conn.now.in_transaction)
-    × (HasCleanDisk now → old.now.schema ≡ vault_schema → IsTrue old.is_open → IsUnchanged old now × AllByRecursion (Stands (old.now.trees (tree_of l.table))) (take l.row-index l.rows))
+    × ((external : Bool) → HasCleanDisk now → old.now.schema ≡ vault_schema external → IsTrue old.is_open → IsUnchanged old now × AllByRecursion (Stands (old.now.trees (tree_of l.table))) (take l.row-index l.rows))

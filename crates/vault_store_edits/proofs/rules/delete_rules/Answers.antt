@@ -11,6 +11,6 @@ pub returns-clause-edit : goal.returns-clause-edit
 returns-clause-edit g c =
     let look = c.in_ok-check_rowids.ensures in
     deletes_by_rowid g.S.Store c.args.tx.now.conn.now c.check_rowids.new.tx.conn.now c.execute.new.self.conn.now table.Rules by_name (Text c.args.bucket.now ∷ []) no_rules_text c.execute.result
-    (λ clean has. rw (c.params-to_sql.ensures, c.as_str.ensures.text) at (look.unique clean has by_name finds_rules)) look.kept look.inside look.survives
+    (λ external clean has. rw (c.params-to_sql.ensures, c.as_str.ensures.text) at (look.unique external clean has by_name (finds_rules external))) look.kept look.inside look.survives
     (λ clean inside. rw (c.params-to_sql-2.ensures, c.as_str-2.ensures.text) at (c.execute.ensures.runs clean inside)) c.execute.ensures.survives
-    (is_named c.args.bucket.now) (drops_rules c.args.bucket.now _ _)
+    (is_named c.args.bucket.now) (λ external. drops_rules external c.args.bucket.now _ _)

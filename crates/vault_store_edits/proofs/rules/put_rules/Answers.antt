@@ -1,4 +1,4 @@
-use Rattle.std.proofs.Common.{rules, List, ◌≡◌, ◌≤◌, ◌+◌, ℕ, refl, length, map, sym, subst, arith}
+use Rattle.std.proofs.Common.{rules, false, List, ◌≡◌, ◌≤◌, ◌+◌, ℕ, refl, length, map, sym, subst, arith}
 use Rattle.std.specs.List.{AllByRecursion}
 use Rattle.std.proofs.lemmas.List.{take_all}
 use Rattle.sqlite.specs.State.{HasCleanDisk}
@@ -20,7 +20,7 @@ use Rattle.vault_store_edits.proofs.rules.put_rules.Goals as goal
 pub loop-rule-init : goal.loop-rule-init
 loop-rule-init g c =
     let old = state g.S.Store c.args.tx.now.conn.now in
-    (refl, refl, survives_itself old, λ clean inside. (kept_itself old, inside), λ clean inside is_open. no_rows table.Rules old is_open inside, λ clean inside has live. (live, has), tt)
+    (refl, refl, survives_itself old, λ clean inside. (kept_itself old, inside), λ external clean inside is_open. no_rows table.Rules old is_open inside external, λ external clean inside has live. (live, has), tt)
 
 pub loop-rule-preserved : goal.loop-rule-preserved
 loop-rule-preserved g c =
@@ -40,28 +40,28 @@ loop-rule-preserved g c =
       λ clean inside.
           let early : HasCleanDisk mid = omega (arith, clean, one.edit.survives.clean) in
           let before = was.3 early inside in
-          let e = one.edit.edits clean before.1 in
-          (kept_then old mid new before.0 (kept_edit mid new _ e), e.inside),
-      λ clean inside is_open.
+          let e = one.edit.edits false clean before.1 in
+          (kept_then old mid new before.0 (kept_edit false mid new _ e), e.inside),
+      λ external clean inside is_open.
           let early : HasCleanDisk mid = omega (arith, clean, one.edit.survives.clean) in
-          let before = was.4 early inside is_open in
+          let before = was.4 external early inside is_open in
           let row = λ (at : ℕ). with_row table.Rules (rule_row (record { bucket = bucket; place = at; rule = rule })) in
-          let next = subst (λ at. Edits mid new (row at)) place (one.edit.edits clean before.inside) in
-          subst (Edits old new) (sym (one_rule_more bucket all n rule c.loop-rule-test.true c.rule-item.is)) (edits_then old mid new (with_first bucket all n) (row (n + 1)) before next),
-      λ clean inside has live.
+          let next = subst (λ at. Edits external mid new (row at)) place (one.edit.edits external clean before.inside) in
+          subst (Edits external old new) (sym (one_rule_more bucket all n rule c.loop-rule-test.true c.rule-item.is)) (edits_then external old mid new (with_first bucket all n) (row (n + 1)) before next),
+      λ external clean inside has live.
           let early : HasCleanDisk mid = omega (arith, clean, one.edit.survives.clean) in
           let here = (was.3 early inside).1 in
-          let before = was.5 early inside has live in
-          let e = one.edit.edits clean here in
-          (one.edit.sound clean here before.1, e.schema before.1),
+          let before = was.5 external early inside has live in
+          let e = one.edit.edits external clean here in
+          (one.edit.sound external clean here before.1, e.schema before.1),
       one_typed_more all n rule c.loop-rule-test.true c.rule-item.is was.6 one.limits,
     )
 
 pub returns-clause-edits : goal.returns-clause-edits
-returns-clause-edits g c clean inside is_open =
-    let it = c.loop-rule.invariant.4 clean inside is_open in
+returns-clause-edits g c external clean inside is_open =
+    let it = c.loop-rule.invariant.4 external clean inside is_open in
     let high : length c.args.rules.now ≤ c.loop-rule.rule-index = search rules in
-    subst (λ (rs : List Rule). Edits (state g.S.Store c.args.tx.now.conn.now) (state g.S.Store c.loop-rule.tx.conn.now) (with_each table.Rules (map rule_row (rules_from c.args.bucket.now 1 rs)))) (take_all c.loop-rule.rule-index c.args.rules.now high) it
+    subst (λ (rs : List Rule). Edits external (state g.S.Store c.args.tx.now.conn.now) (state g.S.Store c.loop-rule.tx.conn.now) (with_each table.Rules (map rule_row (rules_from c.args.bucket.now 1 rs)))) (take_all c.loop-rule.rule-index c.args.rules.now high) it
 
 pub returns-clause-limits : goal.returns-clause-limits
 returns-clause-limits g c =
@@ -69,7 +69,7 @@ returns-clause-limits g c =
     subst (AllByRecursion IsTypedRule) (take_all c.loop-rule.rule-index c.args.rules.now high) c.loop-rule.invariant.6
 
 pub returns-clause-sound : goal.returns-clause-sound
-returns-clause-sound g c clean inside has live = (c.loop-rule.invariant.5 clean inside has live).0
+returns-clause-sound g c external clean inside has live = (c.loop-rule.invariant.5 external clean inside has live).0
 
 pub returns-in_err-put_rule-clause-kept : goal.returns-in_err-put_rule-clause-kept
 returns-in_err-put_rule-clause-kept g c clean inside =

@@ -1,4 +1,4 @@
-use Rattle.std.proofs.Common.{◌≡◌, IsTrue, take}
+use Rattle.std.proofs.Common.{◌≡◌, Bool, IsTrue, take}
 use Rattle.std.specs.List.{AllByRecursion}
 use Rattle.sqlite.specs.Effect.{IsDatabase}
 use Rattle.sqlite.specs.State.{HasCleanDisk, KeepsCommit, Survives}
@@ -16,6 +16,6 @@ invariant-loop-rule g l =
     let now = state g.S.Store l.tx.conn.now in
     (l.tx.conn.ghost_name ≡ l.fn.tx.conn.ghost_name) × (l.place ≡ l.rule-index) × Survives old now (λ _. ⊥)
     × (HasCleanDisk now → IsTrue l.fn.tx.conn.now.in_transaction → KeepsCommit old now × IsTrue l.tx.conn.now.in_transaction)
-    × (HasCleanDisk now → IsTrue l.fn.tx.conn.now.in_transaction → IsTrue old.is_open → Edits old now (with_first l.bucket l.rules l.rule-index))
-    × (HasCleanDisk now → IsTrue l.fn.tx.conn.now.in_transaction → old.now.schema ≡ vault_schema → IsDatabase old.now → IsDatabase now.now × (now.now.schema ≡ vault_schema))
+    × ((external : Bool) → HasCleanDisk now → IsTrue l.fn.tx.conn.now.in_transaction → IsTrue old.is_open → Edits external old now (with_first l.bucket l.rules l.rule-index))
+    × ((external : Bool) → HasCleanDisk now → IsTrue l.fn.tx.conn.now.in_transaction → old.now.schema ≡ vault_schema external → IsDatabase old.now → IsDatabase now.now × (now.now.schema ≡ vault_schema external))
     × AllByRecursion IsTypedRule (take l.rule-index l.rules)

@@ -1,4 +1,4 @@
-use Rattle.std.proofs.Common.{◌≡◌, refl, subst, rules, arith, true, IsTrue}
+use Rattle.std.proofs.Common.{◌≡◌, Bool, refl, subst, rules, arith, true, IsTrue}
 use Rattle.sqlite_trees.specs.Tree.{Trees}
 use Rattle.sqlite.specs.State.{HasCleanDisk, Survives}
 use Rattle.sqlite.specs.Held.{state}
@@ -35,8 +35,8 @@ returns-clause-done g c clean =
     let late : HasCleanDisk (state g.S.Store end) = search rules in
     let early : HasCleanDisk last = omega (arith, c.commit.ensures.survives.clean) in
     let parts = rw begun at (c.in_ok-make_open.ensures.edits early (rw begun refl) (rw begun c.tables_obey_their_schema.ensures)) in
-    on_ok_then c.commit.result (c.commit.ensures.ok late) (λ fin has.
-    subst (λ h. Commits (state g.S.Store old) (state g.S.Store h) edit) same (commit_keeps g.S.Store old last edit (parts.1 has).0 (parts.1 has).1 (state g.S.Store end) fin.1))
+    on_ok_then c.commit.result (c.commit.ensures.ok late) (λ fin external has.
+    subst (λ h. Commits external (state g.S.Store old) (state g.S.Store h) edit) same (commit_keeps g.S.Store old external last edit (parts.1 external has).0 (parts.1 external has).1 (state g.S.Store end) fin.1))
 
 pub returns-clause-limited : goal.returns-clause-limited
 returns-clause-limited g c = on_ok_here c.commit.result c.in_ok-make_open.ensures.limited
@@ -53,7 +53,7 @@ returns-clause-nothing g c clean =
     let early : HasCleanDisk last = omega (arith, c.commit.ensures.survives.clean) in
     let parts = rw begun at (c.in_ok-make_open.ensures.edits early (rw begun refl) (rw begun c.tables_obey_their_schema.ensures)) in
     on_err_then c.commit.result (c.commit.ensures.err late) (λ e failed (v : Vault) was.
-    subst (λ h. Keeps (state g.S.Store h) v) same (let part = parts.1 (was parts.0).0.spells.schema in refused_keeps g.S.Store old last edit part.0 part.1 (state g.S.Store end) e failed v was))
+    subst (λ h. Keeps (state g.S.Store h) v) same (let part = parts.1 v.external (was parts.0).0.spells.schema in refused_keeps g.S.Store old v.external last edit part.0 part.1 (state g.S.Store end) e failed v was))
 
 pub returns-clause-crash : goal.returns-clause-crash
 returns-clause-crash g c =
@@ -63,12 +63,12 @@ returns-clause-crash g c =
     let end = c.commit.new.self.0 in
     let edit = g.P.Part.edit c.args.part.now in
     let same : end ≡ c.conn-2-1.given.0 = search rules in
-    let P : Trees → Type 0 = λ trees. g.P.Part.limits c.args.part.now × IsTrue (state g.S.Store old).is_open × ((state g.S.Store old).now.schema ≡ vault_schema → MayCommit (state g.S.Store old) edit trees) in
+    let P : Trees → Type 0 = λ trees. g.P.Part.limits c.args.part.now × IsTrue (state g.S.Store old).is_open × ((external : Bool) → (state g.S.Store old).now.schema ≡ vault_schema external → MayCommit external (state g.S.Store old) edit trees) in
     let whole = survives_then (state g.S.Store old) last (state g.S.Store end) _ _ P (λ _ db none. absurd none)
     (λ late trees is.
     let early : HasCleanDisk last = omega (arith, c.commit.ensures.survives.clean) in
     let parts = rw begun at (c.in_ok-make_open.ensures.edits early (rw begun refl) (rw begun c.tables_obey_their_schema.ensures)) in
-    (c.in_ok-make_open.ensures.limited, parts.0, λ has. commit_leaves g.S.Store old last edit (parts.1 has).0 (parts.1 has).1 trees is))
+    (c.in_ok-make_open.ensures.limited, parts.0, λ external has. commit_leaves g.S.Store old external last edit (parts.1 external has).0 (parts.1 external has).1 trees is))
     (survives_begin g.S.Store old last _ (rw begun at c.make_open.ensures.survives)) c.commit.ensures.survives in
     subst (λ h. Survives (state g.S.Store old) (state g.S.Store h) P) same whole
 
@@ -81,7 +81,8 @@ returns-in_err-make_open-clause-nothing g c clean =
     let same : end ≡ c.conn-1.given.0 = search rules in
     let late : HasCleanDisk (state g.S.Store end) = search rules in
     let early : HasCleanDisk mid = omega (arith, c.drop-tx.ensures.survives.clean) in
-    let kept = rw begun at (c.in_err-make_open.ensures.kept early (rw begun refl) (rw begun c.tables_obey_their_schema.ensures)) in
     let all : (v : Vault) → Keeps (state g.S.Store old) v → Keeps (state g.S.Store c.conn-1.given.0) v =
-    λ v was. subst (λ h. Keeps (state g.S.Store h) v) same (undone_keeps g.S.Store old mid (state g.S.Store end) (kept (λ is_open. (was is_open).0.spells.schema)) (c.drop-tx.ensures.undone late) v was) in
+    λ v was.
+    let kept = rw begun at (c.in_err-make_open.ensures.kept v.external early (rw begun refl) (rw begun c.tables_obey_their_schema.ensures)) in
+    subst (λ h. Keeps (state g.S.Store h) v) same (undone_keeps g.S.Store old mid (state g.S.Store end) (kept (λ is_open. (was is_open).0.spells.schema)) (c.drop-tx.ensures.undone late) v was) in
     on_err_here _ all

@@ -25,4 +25,4 @@ returns-clause-open g c clean = open_after _ _ _ _ (λ rows. rows.items) c.query
 
 pub returns-clause-memory : goal.returns-clause-memory
 returns-clause-memory g c asked well v was = if_failed c.query_all.result (c.query_all.ensures.err well.clean) (λ e failed.
-    cause_of c.args.sql.now (bound c.args.params.now) (state g.S.Store c.args.conn.now) (state g.S.Store c.query_all.new.self) v was well c.query_all.ensures.survives.limit c.requires.1.plain c.requires.1.unlisted asked e failed)
+    cause_of c.args.sql.now (bound c.args.params.now) (state g.S.Store c.args.conn.now) (state g.S.Store c.query_all.new.self) v was well c.query_all.ensures.survives.limit c.requires.0 c.requires.1 asked e failed)

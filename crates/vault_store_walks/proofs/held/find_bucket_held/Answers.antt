@@ -223,7 +223,7 @@ returns-in_err-rows-clause-memory g c well v was =
     let kept : Survives old new (CommitsShowing sized_text params old) = search rules in
     let late : HasCleanDisk new = well.clean in
     let failed = refused_why sized_text params sized_query sized_is g.S.Store c.args.conn.now c.query.follows.lender-at-none c.query.result c.in_err-rows.field-0.0 held (search rules) late in
-    let one : IsMemory c.in_err-rows.field-0.0 = cause_of sized_text params old new v was well kept.limit sized_is.plain sized_is.unlisted (sized_asked c.args.bucket.now) c.in_err-rows.field-0.0 failed in
+    let one : IsMemory c.in_err-rows.field-0.0 = cause_of sized_text params old new v was well kept.limit sized_query sized_is (sized_asked c.args.bucket.now) c.in_err-rows.field-0.0 failed in
     search rules
 
 pub returns-in_err-row-clause-memory : goal.returns-in_err-row-clause-memory
@@ -236,5 +236,5 @@ returns-in_err-row-clause-memory g c well v was =
     let it = c.rows.invariant.3 (omega (arith, moved.survives.clean, late.clean)) v was in
     let failed = (rw c.in_err-row.was at (moved.err late.clean)) sized_text params it.0 it.1 in
     let kept = unchanged_keeps (state g.S.Store c.args.conn.now) _ v (inl it.2) was in
-    let one : IsMemory c.in_err-row.field-0.0 = cause_of sized_text params _ (state g.S.Store now) v kept late moved.survives.limit sized_is.plain sized_is.unlisted (sized_asked c.args.bucket.now) c.in_err-row.field-0.0 failed in
+    let one : IsMemory c.in_err-row.field-0.0 = cause_of sized_text params _ (state g.S.Store now) v kept late moved.survives.limit sized_query sized_is (sized_asked c.args.bucket.now) c.in_err-row.field-0.0 failed in
     search rules

@@ -1,7 +1,7 @@
 use Rattle.sqlite.specs.Files.{file_state}
 use Rattle.sqlite_wal.specs.Files.{image_at}
 use Rattle.vault_audit.specs.Whole.{IsReported}
-use Rattle.vault_audit_model.specs.SchemaVersions.{newest}
+use Rattle.vault_audit_model.specs.SchemaVersions.{edition_of}
 use Rattle.vaultctl_machine.proofs.FoundLemmas.{was_clean, was_sound, found_in_files, held_in_files}
 use Rattle.vaultctl_machine.proofs.OpeningLemmas.{opened_still}
 use Rattle.vaultctl_machine.proofs.RefusalLemmas.{closes_as, refused_over, reports_as}
@@ -11,14 +11,14 @@ use Rattle.vaultctl_machine.proofs.vaults.found_in.Goals as goal
 pub returns-in-Ok-clause-found : goal.returns-in-Ok-clause-found
 returns-in-Ok-clause-found g c clean =
     let before = was_clean _ _ _ c.in-Ok.ensures.crash clean in
-    let sound = was_sound newest _ _ _ (c.in-Ok.ensures.same clean) (c.in-Ok.ensures.sound clean) in
-    found_in_files newest (image_at g.S.Start) _ _ (c.requires.opened before).0 (c.requires.found before) sound
+    let sound = was_sound (edition_of _) _ _ _ (c.in-Ok.ensures.same clean) (c.in-Ok.ensures.sound clean) in
+    found_in_files _ (image_at g.S.Start) _ _ (c.requires.opened before).0 (c.requires.found before) sound
 
 pub returns-in-Ok-clause-held : goal.returns-in-Ok-clause-held
 returns-in-Ok-clause-held g c w held clean =
     let before = was_clean _ _ _ c.in-Ok.ensures.crash clean in
-    let sound = was_sound newest _ _ _ (c.in-Ok.ensures.same clean) (c.in-Ok.ensures.sound clean) in
-    held_in_files newest (image_at g.S.Start) _ _ (c.requires.opened before).0 (c.requires.found before) sound newest w held
+    let sound = was_sound (edition_of _) _ _ _ (c.in-Ok.ensures.same clean) (c.in-Ok.ensures.sound clean) in
+    held_in_files _ (image_at g.S.Start) _ _ (c.requires.opened before).0 (c.requires.found before) sound (edition_of w.external) w held
 
 pub returns-in-Ok-clause-opened : goal.returns-in-Ok-clause-opened
 returns-in-Ok-clause-opened g c clean =

@@ -21,7 +21,7 @@ returns-clause-done g c clean =
     let own : c.from-next.result ≡ a.history.entry.id = search rules in
     let it = change.Admit a in
     on_ok_then (Changes old new t it) c.commit_part-admitted.result (c.commit_part-admitted.ensures.done clean)
-    (λ stated v was later allowed. stated.1 v it stated.0.0 (admission_in_limits v t a (c.in_ok-place.ensures.read.same early v was (c.in_ok-place.ensures.open early)).0.spells.kept.inside stated.0.0 allowed stated.0.1) (c.in_ok-place.ensures.read.same early v was) later allowed
+    (λ stated v was later allowed. stated.1 v it stated.0.0 (admission_in_limits v t a stated.0.0 allowed stated.0.1) (c.in_ok-place.ensures.read.same early v was) later allowed
     (λ is_open.
     let read = c.in_ok-place.ensures.value early v was (c.requires.known.1 (c.in_ok-place.ensures.read.honest early) v was) in
     let kept = c.in_ok-place.ensures.read.same early v was is_open in
@@ -40,7 +40,7 @@ returns-clause-crash g c v was =
     survives_then old mid new _ _ (IsChanged old v t it) (λ _ trees shut is_open. absurd (shut is_open))
     (λ late trees stated was_open later allowed.
     let early : HasCleanDisk mid = omega (arith, late, c.commit_part-admitted.ensures.crash.clean) in
-    stated.1 v it stated.0.0 (admission_in_limits v t a (c.in_ok-place.ensures.read.same early v was (c.in_ok-place.ensures.open early)).0.spells.kept.inside stated.0.0 allowed stated.0.1) (c.in_ok-place.ensures.read.same early v was) later allowed
+    stated.1 v it stated.0.0 (admission_in_limits v t a stated.0.0 allowed stated.0.1) (c.in_ok-place.ensures.read.same early v was) later allowed
     (λ is_open.
     let read = c.in_ok-place.ensures.value early v was (c.requires.known.1 (c.in_ok-place.ensures.read.honest early) v was) in
     let kept = c.in_ok-place.ensures.read.same early v was is_open in

@@ -31,9 +31,9 @@ returns-clause-done g c clean =
     let read = c.in-Ok.ensures.value clean2 v was1 known in
     let place = c.in-Ok.place in
     let beside = c.in-Ok-read_removal_context.beside in
-    let beside_is = c.in-Ok-read_removal_context.ensures.value clean3 v was2 read.2 in
+    let beside_is = c.in-Ok-read_removal_context.ensures.value clean3 v was2 known read.2 in
     edits_removal v t c.args.id c.args.removal.now c.in_ok-entry.entry place.config place.sums c.without_version-sums.result place.head c.left_head-left.result beside.newest beside.since
-    (was3 is_open).0.spells.kept.sound later stated.0.0 allowed (sym (c.in_ok-entry.ensures.value clean1 v was)) read.0 read.1 beside_is.1 c.without_version-sums.ensures read.2 beside_is.0 c.left_head-left.ensures))
+    (was3 is_open).0.spells.kept.sound later stated.0.0 allowed (sym (c.in_ok-entry.ensures.value clean1 v was)) read.0 read.1 beside_is.1 c.without_version-sums.ensures read.2 beside_is.0 c.left_head-left.ensures beside.external beside_is.2))
 
 pub returns-clause-crash : goal.returns-clause-crash
 returns-clause-crash g c v was =
@@ -58,9 +58,9 @@ returns-clause-crash g c v was =
     let read = c.in-Ok.ensures.value clean2 v was1 known in
     let place = c.in-Ok.place in
     let beside = c.in-Ok-read_removal_context.beside in
-    let beside_is = c.in-Ok-read_removal_context.ensures.value clean3 v was2 read.2 in
+    let beside_is = c.in-Ok-read_removal_context.ensures.value clean3 v was2 known read.2 in
     edits_removal v t c.args.id c.args.removal.now c.in_ok-entry.entry place.config place.sums c.without_version-sums.result place.head c.left_head-left.result beside.newest beside.since
-    (was3 is_open).0.spells.kept.sound later stated.0.0 allowed (sym (c.in_ok-entry.ensures.value clean1 v was)) read.0 read.1 beside_is.1 c.without_version-sums.ensures read.2 beside_is.0 c.left_head-left.ensures))
+    (was3 is_open).0.spells.kept.sound later stated.0.0 allowed (sym (c.in_ok-entry.ensures.value clean1 v was)) read.0 read.1 beside_is.1 c.without_version-sums.ensures read.2 beside_is.0 c.left_head-left.ensures beside.external beside_is.2))
     (reads.crash v was) c.commit_part-removed.ensures.crash
 
 pub returns-clause-nothing : goal.returns-clause-nothing

@@ -23,10 +23,10 @@ pub returns-clause-part : goal.returns-clause-part
 returns-clause-part g c =
     let P : (Rows → Rows) → Type 0 = λ edit. MakesPart {E = Error} g.S.Store c.args.tx.now.conn.now c.put_setting.new.tx.conn.now (Ok (tt {0})) edit in
     of_the_first P c.args.id c.args.settings.now c.in-Some.setting.now (sym c.in-Some.ensures.value) (record {
-      edits = λ clean inside ready.
+      edits = λ external clean inside ready.
           let old = state g.S.Store c.args.tx.now.conn.now in
           let new = state g.S.Store c.put_setting.new.tx.conn.now in
-          one_done old new _ ready (c.in_ok-put_setting.ensures.edit.edits clean inside) (c.in_ok-put_setting.ensures.edit.sound clean inside ready.schema);
-      kept = λ _ _ _. tt;
+          one_done external old new _ ready (c.in_ok-put_setting.ensures.edit.edits external clean inside) (c.in_ok-put_setting.ensures.edit.sound external clean inside ready.schema);
+      kept = λ _ _ _ _. tt;
       survives = c.put_setting.ensures.edit.survives;
     })

@@ -16,4 +16,4 @@ invariant-rows g l =
     (l.rows.conn.ghost_name ≡ l.initial.rows.conn.ghost_name) × (l.tx.conn.ghost_name ≡ l.fn.tx.conn.ghost_name) × Survives old now (λ _. ⊥) × Survives before after (λ _. ⊥)
     × (HasCleanDisk after → IsTrue l.fn.tx.conn.now.in_transaction → IsTrue before.is_open → IsTrue l.tx.conn.now.in_transaction × IsTrue after.is_open × (after.committed ≡ before.committed))
     × (HasCleanDisk now → (given : List Row) × HasGiven g.O.Store l.select [] l.rows.conn.now given × IsUnchanged old now
-    × (HasCleanDisk after → IsTrue l.fn.tx.conn.now.in_transaction → IsTrue before.is_open → Goes (λ x row y. PutsRow l.table row x y) before.now given after.now))
+    × (HasCleanDisk after → IsTrue l.fn.tx.conn.now.in_transaction → IsTrue before.is_open → Goes (λ x row y. PutsRow l.external l.table row x y) before.now given after.now))

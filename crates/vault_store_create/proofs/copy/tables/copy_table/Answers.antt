@@ -10,8 +10,8 @@ use Rattle.vault_store_create.proofs.ListingLemmas.{reads_only}
 use Rattle.vault_store_create.proofs.StopLemmas.{asks_for_rows, fails_for}
 use Rattle.vault_store_create.proofs.copy.tables.copy_table.Goals as goal
 
-pub copy_rows-requires : goal.copy_rows-requires
-copy_rows-requires g c clean = rw c.listing.ensures (subst (λ s. IsPlain (understood s (listing_of c.args.schema_version c.args.table))) (sym (c.requires clean)) (reads_only c.args.schema_version c.args.table))
+pub copy_rows-requires-clause-plain : goal.copy_rows-requires-clause-plain
+copy_rows-requires-clause-plain g c clean = rw c.listing.ensures (subst (λ s. IsPlain (understood s (listing_of c.args.external c.args.schema_version c.args.table))) (sym (c.requires.known clean)) (reads_only c.args.external c.args.schema_version c.args.table c.requires.copied))
 
 pub returns-clause-copied : goal.returns-clause-copied
 returns-clause-copied g c clean after inside is_open =
@@ -26,7 +26,7 @@ returns-clause-copied g c clean after inside is_open =
       is_open = it.2.is_open;
       inside = it.2.inside;
       committed = it.2.committed;
-      goes = copies_table n from.now old.now new.now t it.0 (λ v is. shown_stated n t from to v is it.0 it.1) it.2.goes;
+      goes = copies_table n c.args.external from.now old.now new.now t it.0 (λ v is. shown_stated c.args.external n t c.requires.copied from to v is it.0 it.1) it.2.goes;
     })
 
 pub returns-clause-refused : goal.returns-clause-refused
@@ -36,4 +36,4 @@ returns-clause-refused g c v is was well_old well inside is_open =
     let from = state g.O.Store c.args.old.now in
     let first = (state g.S.Store c.args.tx.now.conn.now).now in
     let has = was v is in
-    fails_for n t from v is first has c.copy_rows.result ((rw c.listing.ensures at c.copy_rows.ensures.refused) (asks_for_rows n t from v is) has.schema well_old well inside is_open)
+    fails_for c.args.external n t c.requires.copied from v is first has c.copy_rows.result ((rw c.listing.ensures at c.copy_rows.ensures.refused) (asks_for_rows c.args.external n t c.requires.copied from v is) has.schema well_old well inside is_open)

@@ -9,7 +9,7 @@ use Rattle.vault_store_edits.proofs.PutLemmas.{ran_if}
 use Rattle.vault_store_edits.proofs.buckets.NewBucketPut.insert.Goals as goal
 
 pub returns-clause-ran : goal.returns-clause-ran
-returns-clause-ran g c clean inside =
+returns-clause-ran g c external clean inside =
     ran_if (insert_text buckets) (bucket_row (new_bucket c.args.self.now.name.now c.args.self.now.dept.now)) (state g.S.Store c.args.tx.now.conn.now) (state g.S.Store c.execute.new.self.conn.now) c.execute.result
     (rw (c.params-to_sql.ensures, c.as_str.ensures.text, c.params-to_sql-2.ensures, c.as_str-2.ensures.text, c.params-to_sql-3.ensures, c.default_mode.ensures, c.params-to_sql-4.ensures, bound_number c.default_days.result, c.default_days.ensures, c.params-to_sql-5.ensures, bound_number c.default_years.result, c.default_years.ensures) at (c.execute.ensures.runs clean inside))
 

@@ -8,7 +8,7 @@ use Rattle.vault_store_edits.proofs.PutLemmas.{ran_if}
 use Rattle.vault_store_edits.proofs.callers.CallerPut.insert.Goals as goal
 
 pub returns-clause-ran : goal.returns-clause-ran
-returns-clause-ran g c clean inside =
+returns-clause-ran g c external clean inside =
     ran_if (insert_text callers) (caller_row c.args.self.now) (state g.S.Store c.args.tx.now.conn.now) (state g.S.Store c.execute.new.self.conn.now) c.execute.result
     (rw (c.params-to_sql.ensures, c.as_str.ensures.text, c.params-to_sql-2.ensures, c.dept_text.ensures.value, bound_text c.args.self.now.dept, c.params-to_sql-3.ensures, c.rights_number.ensures, c.params-to_sql-4.ensures, bound_flag c.args.self.now.closed) at (c.execute.ensures.runs clean inside))
 

@@ -7,7 +7,7 @@ use Rattle.vault_store_edits.proofs.PutLemmas.{ran_if}
 use Rattle.vault_store_edits.proofs.contents.NewContentPut.insert.Goals as goal
 
 pub returns-clause-ran : goal.returns-clause-ran
-returns-clause-ran g c clean inside =
+returns-clause-ran g c external clean inside =
     ran_if (insert_text contents) (content_row (record { id = c.args.self.now.id; content = c.args.self.now.content.now })) (state g.S.Store c.args.tx.now.conn.now) (state g.S.Store c.execute.new.self.conn.now) c.execute.result
     (rw (c.params-to_sql.ensures, c.number.ensures.value, c.params-to_sql-2.ensures, c.as_slice.ensures) at (c.execute.ensures.runs clean inside))
 

@@ -8,7 +8,7 @@ use Rattle.vault_store_edits.proofs.PutLemmas.{ran_if}
 use Rattle.vault_store_edits.proofs.departments.NewDepartmentPut.insert.Goals as goal
 
 pub returns-clause-ran : goal.returns-clause-ran
-returns-clause-ran g c clean inside =
+returns-clause-ran g c external clean inside =
     ran_if (insert_text departments) (department_row (new_department c.args.self.now.name.now)) (state g.S.Store c.args.tx.now.conn.now) (state g.S.Store c.execute.new.self.conn.now) c.execute.result
     (rw (c.params-to_sql.ensures, c.as_str.ensures.text, c.params-to_sql-2.ensures, c.params-to_sql-3.ensures, c.params-to_sql-4.ensures, c.params-to_sql-5.ensures, c.params-to_sql-6.ensures, c.params-to_sql-7.ensures, c.params-to_sql-8.ensures) at (c.execute.ensures.runs clean inside))
 

@@ -12,7 +12,7 @@ use Rattle.vault_store_edits.proofs.PutLemmas.{ran_if}
 use Rattle.vault_store_edits.proofs.entries.EntryPut.insert.Goals as goal
 
 pub returns-clause-ran : goal.returns-clause-ran
-returns-clause-ran g c clean inside =
+returns-clause-ran g c external clean inside =
     let fits0 : FitsSigned w64 c.in_ok-size.size = search rules in
     let fits1 : FitsSigned w64 c.seconds.result = search rules in
     ran_if (insert_text entries) (entry_row c.args.self.now) (state g.S.Store c.args.tx.now.conn.now) (state g.S.Store c.execute.new.self.conn.now) c.execute.result

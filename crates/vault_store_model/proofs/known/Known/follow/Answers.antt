@@ -10,10 +10,10 @@ pub returns-in-AddSetting : goal.returns-in-AddSetting
 returns-in-AddSetting c v sound later allowed known =
     let it = change.AddSetting c.in-AddSetting.field-0 c.in-AddSetting.field-1 in
     subst (λ (x : Change). AreKnown c.pass.new.self (changed v c.args.at x)) (sym c.in-AddSetting.is)
-    (c.pass.ensures v (changed v c.args.at it) known refl (as_many_set v c.args.at c.in-AddSetting.field-0 c.in-AddSetting.field-1) refl refl)
+    (c.pass.ensures v (changed v c.args.at it) known refl (as_many_set v c.args.at c.in-AddSetting.field-0 c.in-AddSetting.field-1) refl refl refl)
 
 pub returns-in-Remove : goal.returns-in-Remove
 returns-in-Remove c v sound later allowed known =
     let it = change.Remove c.in-Remove.field-0 c.in-Remove.field-1 in
     subst (λ (x : Change). AreKnown c.pass-in-Remove.new.self (changed v c.args.at x)) (sym c.in-Remove.is)
-    (c.pass-in-Remove.ensures v (changed v c.args.at it) known refl (as_many_removed v c.args.at c.in-Remove.field-0 c.in-Remove.field-1) refl refl)
+    (c.pass-in-Remove.ensures v (changed v c.args.at it) known refl (as_many_removed v c.args.at c.in-Remove.field-0 c.in-Remove.field-1) refl refl refl)
