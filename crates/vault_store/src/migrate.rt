@@ -115,7 +115,8 @@ fn look_at_copy<S: Alter>(
     ensures outside { OnErr result (HasCleanDisk (state S.Store new.new) → new.new.in_transaction ≡ false) }
     ensures crash { Survives (state S.Store new.old) (state S.Store new.new) (λ _. ⊥) }
 {
-    match audit(alloc, new, SchemaVersion::of(external)) {
+    let schema_version = SchemaVersion::of(external);
+    match audit(alloc, new, schema_version) {
         Ok(()) => Ok(()),
         Err(refusal) => {
             end_transaction(new);
