@@ -16,7 +16,6 @@ use Rattle.vault_base.specs.declared.refusal.Refusal.{Refusal}
 use Rattle.vault_base.specs.declared.refusal.Refusal.TheVariants.{Damaged, Device, Memory, NameTaken}
 use Rattle.vault_base.specs.declared.refusal.Table.{Table}
 use Rattle.vault_core_model.specs.Vault.{Vault}
-use Rattle.vault_store.specs.Copied.{RefusesARow, registering}
 use Rattle.vault_store.specs.Tables.{HasTablesOf}
 use Rattle.vaultctl_machine.proofs.FoundLemmas.{found_of_earlier, was_clean}
 use Rattle.vaultctl_machine.specs.Closings.{Closes}
