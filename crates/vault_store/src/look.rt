@@ -84,6 +84,6 @@ pub(crate) fn look<S: Alter>(alloc: Global, conn: &mut Connection<S>) -> Result<
     ensures tables { OnErr result (HasCleanDisk (state S.Store conn.new) → HasTablesOf (state S.Store conn.old) (state S.Store conn.new)) }
     ensures crash { Survives (state S.Store conn.old) (state S.Store conn.new) (λ _. ⊥) }
 {
-    let external = is_external(conn.schema());
-    look_as(alloc, conn, SchemaVersion::of(external))
+    let schema_version = SchemaVersion::of(is_external(conn.schema()));
+    look_as(alloc, conn, schema_version)
 }

@@ -65,7 +65,8 @@ fn take_copy<O: Alter, S: Alter>(
     ensures taken { IfErr result (λ r. r ≡ Refusal.NameTaken → (state S.Store new.old).now.schema ≢ no_schema) }
     ensures named { (state S.Store new.old).now.schema ≢ no_schema → IfErr result (λ r. IsHealthy (state O.Store old.new) → r ≢ Refusal.Device) }
     ensures unsound { ((v : Vault) → ¬ AreSoundAs schema_version (state O.Store old.old).now v) → IfErr result (λ r. IsHealthy (state O.Store old.new) → r ≢ Refusal.Device) }
-    ensures refused { IfErr result (λ r. IsHealthy (state O.Store old.new) → IsHealthy (state S.Store new.new) → r ≡ Refusal.Device → RefusesItsRow schema_version external (state O.Store old.old).now) }
+    ensures refused { IfErr result (λ r. IsHealthy (state O.Store old.new) → IsHealthy (state S.Store new.new) → r ≡ Refusal.Device
+        → RefusesItsRow schema_version external (state O.Store old.old).now) }
     ensures inside { HasCleanDisk (state O.Store old.new) → HasCleanDisk (state S.Store new.new) → OnOk result (IsTrue new.new.in_transaction) }
     ensures outside { OnErr result (HasCleanDisk (state S.Store new.new) → new.new.in_transaction ≡ false) }
     ensures crash { Survives (state S.Store new.old) (state S.Store new.new) (λ _. ⊥) }
@@ -115,7 +116,8 @@ fn look_at_copy<S: Alter>(
     ensures outside { OnErr result (HasCleanDisk (state S.Store new.new) → new.new.in_transaction ≡ false) }
     ensures crash { Survives (state S.Store new.old) (state S.Store new.new) (λ _. ⊥) }
 {
-    match audit(alloc, new, SchemaVersion::of(external)) {
+    let schema_version = SchemaVersion::of(external);
+    match audit(alloc, new, schema_version) {
         Ok(()) => Ok(()),
         Err(refusal) => {
             end_transaction(new);
@@ -187,7 +189,8 @@ fn copy_vault<O: Alter, S: Alter>(
     ensures taken { IfErr result (λ r. r ≡ Refusal.NameTaken → (state S.Store new.old).now.schema ≢ no_schema) }
     ensures named { (state S.Store new.old).now.schema ≢ no_schema → IfErr result (λ r. IsHealthy (state O.Store old.new) → r ≢ Refusal.Device) }
     ensures unsound { ((v : Vault) → ¬ AreSoundAs schema_version (state O.Store old.old).now v) → IfErr result (λ r. IsHealthy (state O.Store old.new) → r ≢ Refusal.Device) }
-    ensures refused { IfErr result (λ r. IsHealthy (state O.Store old.new) → IsHealthy (state S.Store new.new) → r ≡ Refusal.Device → RefusesItsRow schema_version external (state O.Store old.old).now) }
+    ensures refused { IfErr result (λ r. IsHealthy (state O.Store old.new) → IsHealthy (state S.Store new.new) → r ≡ Refusal.Device
+        → RefusesItsRow schema_version external (state O.Store old.old).now) }
     ensures outside { OnErr result (HasCleanDisk (state S.Store new.new) → new.new.in_transaction ≡ false) }
     ensures tables { OnErr result (HasCleanDisk (state S.Store new.new) → HasTablesOf (state S.Store new.old) (state S.Store new.new)) }
     ensures crash { Survives (state S.Store new.old) (state S.Store new.new) (λ trees. HasCleanDisk (state O.Store old.new) → IsMigrated schema_version external (state O.Store old.old).now trees) }

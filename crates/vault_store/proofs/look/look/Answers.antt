@@ -1,6 +1,7 @@
-use Rattle.std.proofs.Common.{Result, Ok, Err, ◌∙◌}
+use Rattle.std.proofs.Common.{Result, Ok, Err, sym, subst, ◌∙◌}
 use Rattle.std.specs.Prelude.{OnOk, IfErr}
 use Rattle.sqlite.specs.Held.{state}
+use Rattle.vault_audit_model.specs.Spells.{AreSoundAs}
 use Rattle.vault_store.proofs.EditionLemmas.{edition_of_sound, sound_by_edition}
 use Rattle.vault_store.proofs.TableLemmas.{leaves_alone}
 use Rattle.vault_store.proofs.look.look.Goals as goal
@@ -19,13 +20,14 @@ if_err_by P Q (Err e) p f = f e p
 
 pub returns-clause-sound : goal.returns-clause-sound
 returns-clause-sound g c clean =
-    on_ok_by _ c.look_as.result (c.look_as.ensures.sound clean) (λ it. (it.0, sound_by_edition c.is_external-external.result (state g.S.Store c.look_as.new.conn).now it.0 it.1))
+    on_ok_by _ c.look_as.result (c.look_as.ensures.sound clean) (λ it. (it.0, sound_by_edition c.is_external.result (state g.S.Store c.look_as.new.conn).now it.0 (subst (λ n. AreSoundAs n (state g.S.Store c.look_as.new.conn).now it.0) c.of-schema_version.ensures it.1)))
 
 pub returns-clause-damaged : goal.returns-clause-damaged
 returns-clause-damaged g c =
     if_err_by _ _ c.look_as.result c.look_as.ensures.damaged
     (λ r did clean t stated v is.
-    did clean t stated v (edition_of_sound c.is_external-external.result (state g.S.Store c.args.conn.now).now (λ e same. c.is_external-external.ensures e (c.schema.ensures.value ∙ same)) v is))
+    did clean t stated v (subst (λ n. AreSoundAs n (state g.S.Store c.args.conn.now).now v) (sym c.of-schema_version.ensures)
+    (edition_of_sound c.is_external.result (state g.S.Store c.args.conn.now).now (λ e same. c.is_external.ensures e (c.schema.ensures.value ∙ same)) v is)))
 
 pub returns-clause-alone : goal.returns-clause-alone
 returns-clause-alone g c clean =
