@@ -214,6 +214,22 @@ fn copy_into<A: Start, B: Start>(
     }
 }
 
+/// Lets go of a connection that was opened, as `let_go` does.
+fn let_opened_go<S: Start>(
+    refused: &mut Log<Connection<VaultStore<S>>, bool>,
+    site: &Site<'_>,
+    opened: Opened<VaultStore<S>>,
+)
+    ensures { refused.new.items ≡ refused.old.items ++ (opened.conn, true) ∷ [] }
+{
+    let Opened {
+        conn,
+        before,
+        opening: _,
+    } = opened;
+    let _ = let_go(refused, site, conn, &before);
+}
+
 /// Why the file that is to get a copy isn't opened or made. That another program has it is reported as `Device`.
 fn create_error(rt: &HostRuntime, old: &str, new: &str, cause: OpenError) -> OpenError
     ensures refusal { refusal_of result ≡ refusal_of cause }
@@ -241,13 +257,13 @@ fn copy_at<A: Start, B: Start>(
 ) -> Result<Migrated<VaultStore<A>, VaultStore<B>>, OpenError>
     ensures sound { IfOk result (λ m. HasCleanDisk (file_state m.vault.conn) → AreSound (file_state m.vault.conn).now (vault_of over_files m.vault)) }
     ensures found { IfOk result (λ m. HasCleanDisk (file_state m.source) → HasCleanDisk (file_state m.vault.conn)
-        → IsCopiedFrom copying.external (image_at A.Start) (vault_of over_files m.vault)) }
+        → IsCopiedFrom copying.entry.external (image_at A.Start) (vault_of over_files m.vault)) }
     ensures held { (n : AnyVersion) (v : Vault) → IsHeldAs n (image_at A.Start) v → IfOk result (λ m. HasCleanDisk (file_state m.source) → HasCleanDisk (file_state m.vault.conn)
-        → vault_of over_files m.vault ≡ registering copying.external v) }
+        → vault_of over_files m.vault ≡ registering copying.entry.external v) }
     ensures reported { IfErr result (Reports IsUncopied) }
-    ensures lost { IfErr result (λ e. LetsGo lost.old.items lost.new.items (λ conn. IsUncopiedFrom copying.external (image_at A.Start) (file_state conn) (refusal_of e))) }
+    ensures lost { IfErr result (λ e. LetsGo lost.old.items lost.new.items (λ conn. IsUncopiedFrom copying.entry.external (image_at A.Start) (file_state conn) (refusal_of e))) }
     ensures healthy { IfErr result (λ e. LetsBothGo lost.old.items lost.new.items uncopied.old.items uncopied.new.items
-        (λ source target. FailsForItsRow copying.external (image_at A.Start) (file_state source) (file_state target) (refusal_of e))) }
+        (λ source target. FailsForItsRow copying.entry.external (image_at A.Start) (file_state source) (file_state target) (refusal_of e))) }
     ensures kept { OnOk result ((lost.new ≡ lost.old) × (uncopied.new ≡ uncopied.old)) }
 {
     let Starts { first, second } = starts;
@@ -273,12 +289,7 @@ fn copy_at<A: Start, B: Start>(
             copy_into(lost, uncopied, sites, found, empty, external)
         }
         Err(cause) => {
-            let Opened {
-                conn,
-                before,
-                opening: _,
-            } = found;
-            let _ = let_go(lost, &origin, conn, &before);
+            let_opened_go(lost, &origin, found);
             Err(create_error(rt, old, new, cause))
         }
     }
@@ -307,17 +318,17 @@ impl<'a, A: Start, B: Start> Machine<'a, VaultStore<A>, VaultStore<B>> {
         ensures sound { IfOk result (λ m. HasCleanDisk (file_state m.vault.conn) → AreSound (file_state m.vault.conn).now (vault_of over_files m.vault)) }
         // It is the copy of the vault that the tables spell which were found in the old files.
         ensures found { IfOk result (λ m. HasCleanDisk (file_state m.source) → HasCleanDisk (file_state m.vault.conn)
-            → IsCopiedFrom copying.external (image_at A.Start) (vault_of over_files m.vault)) }
+            → IsCopiedFrom copying.entry.external (image_at A.Start) (vault_of over_files m.vault)) }
         // Where these held a vault, it is the copy of that one.
         ensures held { (n : AnyVersion) (v : Vault) → IsHeldAs n (image_at A.Start) v → IfOk result (λ m. HasCleanDisk (file_state m.source) → HasCleanDisk (file_state m.vault.conn)
-            → vault_of over_files m.vault ≡ registering copying.external v) }
+            → vault_of over_files m.vault ≡ registering copying.entry.external v) }
         // A failure of the disk that is seen is reported as one.
         ensures reported { IfErr result (Reports IsUncopied) }
         // Files that hold a sound vault of an earlier schema version aren't reported as damaged.
-        ensures refused { IfErr result (λ e. LetsGo self.old.refused.items self.new.refused.items (λ conn. IsUncopiedFrom copying.external (image_at A.Start) (file_state conn) (refusal_of e))) }
+        ensures refused { IfErr result (λ e. LetsGo self.old.refused.items self.new.refused.items (λ conn. IsUncopiedFrom copying.entry.external (image_at A.Start) (file_state conn) (refusal_of e))) }
         // Two stores that work are reported as a failed device only where the tables of the copy refuse a row of the vault.
         ensures healthy { IfErr result (λ e. LetsBothGo self.old.refused.items self.new.refused.items self.old.uncopied.items self.new.uncopied.items
-            (λ source target. FailsForItsRow copying.external (image_at A.Start) (file_state source) (file_state target) (refusal_of e))) }
+            (λ source target. FailsForItsRow copying.entry.external (image_at A.Start) (file_state source) (file_state target) (refusal_of e))) }
     {
         self.looked = self.looked.saturating_add(1);
         let rt = self.rt;

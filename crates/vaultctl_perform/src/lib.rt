@@ -32,7 +32,6 @@ use vaultctl_commands::fault::JobFault;
 use vaultctl_job::fault::WordsFault;
 use vaultctl_job::job::{Job, ReplayJob};
 use vaultctl_job::words::job_of;
-use vaultctl_machine::migration::Copying;
 use vaultctl_machine::starts::Starts;
 use vaultctl_machine::vaults::FileMachine;
 use vaultctl_remedies::hint::hint;
@@ -99,11 +98,7 @@ pub fn perform<A: Start, B: Start, R: Read, W: Write, E: Write>(
         Job::Serve(work) => in_vault(machine, first, Task { call, work }, reader, out, err),
         Job::Migrate(job) => {
             let starts = Starts { first, second };
-            let copying = Copying {
-                old: job.old.as_str(),
-                new: job.new.as_str(),
-                external: job.external,
-            };
+            let copying = migrate::copying_of(job);
             migrate::migrate(machine, copying, starts, out, err)
         }
     }

@@ -15,10 +15,22 @@ use std::io::Write;
 use vaultctl_commands::fault::JobFault;
 use vaultctl_commands::outcome::Outcome;
 use vaultctl_commands::printing::print;
+use vaultctl_job::job::MigrateJob;
 use vaultctl_machine::migration::Copying;
 use vaultctl_machine::open_error::OpenError;
 use vaultctl_machine::starts::Starts;
 use vaultctl_machine::vaults::FileMachine;
+
+/// The copy that a job asks for.
+pub fn copying_of(job: &MigrateJob) -> Copying<'_>
+    ensures { result.external ≡ job.now.external }
+{
+    Copying {
+        old: job.old.as_str(),
+        new: job.new.as_str(),
+        external: job.external,
+    }
+}
 
 /// Copies the vault and closes both files.
 fn copy<A: Start, B: Start>(
@@ -28,7 +40,7 @@ fn copy<A: Start, B: Start>(
 ) -> Result<(), OpenError>
     ensures looked { machine.new.looked ≡ after_a_look machine.old.looked }
     ensures copied { OnOk result ((machine.new.given ≡ with_copied machine.old.given)
-        × Copies copying.external (image_at A.Start) machine.old.closed.items machine.new.closed.items machine.old.copies.items machine.new.copies.items) }
+        × Copies copying.entry.external (image_at A.Start) machine.old.closed.items machine.new.closed.items machine.old.copies.items machine.new.copies.items) }
     ensures none { OnErr result (IsUngiven machine.old machine.new) }
 {
     let migrated = machine.migrate(copying, starts)?;
@@ -64,7 +76,7 @@ pub fn migrate<A: Start, B: Start, W: Write, E: Write>(
     err: &mut E,
 ) -> u8
     ensures looked { machine.new.looked ≡ after_a_look machine.old.looked }
-    ensures performed { Ends result (λ outcome. IsMigrated (image_at A.Start) outcome machine.old machine.new (W.contents out.old) (W.contents out.new) copying.external) }
+    ensures performed { Ends result (λ outcome. IsMigrated (image_at A.Start) outcome machine.old machine.new (W.contents out.old) (W.contents out.new) copying.entry.external) }
 {
     let copied = copy(machine, copying, starts);
     print_copied(copied, out, err)

@@ -114,8 +114,7 @@ pub fn read_removal_context<S: Alter>(
     requires { IsOpen S.Store conn.old }
     ensures value { HasCleanDisk (state S.Store conn.new) → IfOk result (λ beside. (v : Vault) → Keeps (state S.Store conn.old) v → AreKnown known.now v
         → head ≡ head_of v entry.now.bucket entry.now.key
-        → (beside.newest ≡ newest_but v entry.now.bucket entry.now.key id)
-        × (beside.since ≡ unwrap_or (option_map (λ (t : Tenure). t.from) (last_tenure_of v id)) entry.now.admitted) × (beside.external ≡ v.external)) }
+        → (beside.newest ≡ newest_but v entry.now.bucket entry.now.key id) × (beside.since ≡ unwrap_or (option_map (λ (t : Tenure). t.from) (last_tenure_of v id)) entry.now.admitted) × (beside.external ≡ v.external)) }
     ensures read { OnlyReads S.Store conn.old conn.new }
 {
     let external = find_external(conn, known)?;
