@@ -15,6 +15,7 @@ use Rattle.vault_values.specs.declared.fault.LineFault.{LineFault}
 use Rattle.vault_values.specs.declared.fault.LineFault.TheVariants as line
 use Rattle.vaultctl_commands.specs.Asked.{dept_of, caller_of, bucket_of, move_bucket_of, intake_of, run_of, report_of, certificate_of, events_of, seal_of}
 use Rattle.vaultctl_commands.specs.Evidence.{PrintsLawful, PrintsSeal}
+use Rattle.vaultctl_commands.specs.Rows.{PrintsEvents, PrintsRegister}
 use Rattle.vaultctl_commands.specs.Printed.{PrintsReply, printed}
 use Rattle.vaultctl_commands.specs.declared.asked.AskedCommand.{AskedCommand}
 use Rattle.vaultctl_commands.specs.declared.fault.JobFault.{JobFault}
@@ -108,9 +109,9 @@ module _ {D E : Type 0} {g : Ghosts D} {h : Ghosts E} (image : Image) (outcome :
   IsPerformed (job.Run j) = IsAskedDone image outcome old new before after (run_of j)
   IsPerformed (job.Report j) = IsAskedDone image outcome old new before after (report_of j)
   IsPerformed (job.Certificate j) = IsAskedDone image outcome old new before after (certificate_of j)
-  IsPerformed (job.Register j) = IsCarriedOut image old new outcome ((left ≡ input) × (after ≡ before)) ⊤ (λ v w. w ≡ v)
+  IsPerformed (job.Register j) = IsCarriedOut image old new outcome ((left ≡ input) × (after ≡ before)) ⊤ (λ v w. (w ≡ v) × PrintsRegister v outcome before after)
   IsPerformed (job.Verify j) = IsVerified image outcome old new before after
-  IsPerformed (job.Events j) = IsDoneAsSaid old new (events_of j) outcome before after (λ asked. IsCarriedOut image old new outcome (after ≡ before) ⊤ (λ v w. w ≡ v))
+  IsPerformed (job.Events j) = IsDoneAsSaid old new (events_of j) outcome before after (λ asked. IsCarriedOut image old new outcome (after ≡ before) ⊤ (λ v w. (w ≡ v) × PrintsEvents asked.before v outcome before after))
   IsPerformed (job.Seal j) = IsDoneAsSaid old new (seal_of j) outcome before after (λ asked. IsCarriedOut image old new outcome (after ≡ before) (IfOk outcome (λ stated. PrintsSeal stated before after)) (λ v w. IsSealDone asked outcome v w before after))
   IsPerformed (job.Lawful j) = IsCarriedOut image old new outcome ((left ≡ input) × (after ≡ before)) (IfOk outcome (λ stated. PrintsLawful stated before after)) (λ v w. IsJudgedDone outcome v w before after)
   IsPerformed (job.Replay j) = IsScriptDone j.file

@@ -74,4 +74,4 @@ pub returns-in-Serve : goal.returns-in-Serve
 returns-in-Serve g c = record { performed = rw c.in-Serve.is c.in_vault-in-Serve.ensures.performed }
 
 pub returns-in-Migrate : goal.returns-in-Migrate
-returns-in-Migrate g c = record { performed = rw (c.in-Migrate.is, sym c.copying_of.ensures) c.migrate.ensures.performed }
+returns-in-Migrate g c = record { performed = rw (c.in-Migrate.is, sym c.copying_of-copying.ensures) c.migrate.ensures.performed }
