@@ -96,8 +96,9 @@ FOREIGN_WORDS = {"CHECK", "COLLATE", "GENERATED", "AS", "DEFAULT", "AUTOINCREMEN
 
 
 class Thing(NamedTuple):
-    """A table, an index, a view or a trigger in the order in which the file has them."""
+    """A table, an index, a view or a trigger, with its number in the file's list of them."""
 
+    number: int
     kind: str
     name: str
     table: str
@@ -120,8 +121,8 @@ def schema_of(base: sqlite3.Connection) -> int:
 
 
 def things_in(base: sqlite3.Connection) -> list[Thing]:
-    rows = base.execute("SELECT type, name, tbl_name, sql FROM sqlite_schema ORDER BY rowid")
-    return [Thing(kind, name, table, sql or "") for kind, name, table, sql in rows]
+    rows = base.execute("SELECT rowid, type, name, tbl_name, sql FROM sqlite_schema ORDER BY rowid")
+    return [Thing(number, kind, name, table, sql or "") for number, kind, name, table, sql in rows]
 
 
 def automatic_indexes(table: Table) -> list[tuple[str, ...]]:
@@ -182,30 +183,34 @@ def automatic_index_faults(base: sqlite3.Connection, table: Table) -> Iterator[s
         yield "its key or its constraint has other columns"
 
 
-def table_faults(base: sqlite3.Connection, table: Table, wanted: int, things: list[Thing]) -> Iterator[str]:
+def table_faults(base: sqlite3.Connection, table: Table, place: int, things: list[Thing]) -> Iterator[str]:
     """How a table of the file differs from a vault's, which has that many tables and indexes before it."""
-    sized = [it for it in things if it.kind in ("table", "index")]
-    place = next((at for at, it in enumerate(sized) if it.kind == "table" and it.name == table.name), None)
-    if place is None:
+    thing = next((it for it in things if it.kind == "table" and it.name == table.name), None)
+    if thing is None:
         yield "there is no such table"
         return
-    if place != wanted:
-        yield "it stands in another place among the tables and indexes"
+    if thing.number != place + 1:
+        yield "it has another number among the tables and indexes"
     strict = base.execute("SELECT strict, wr FROM pragma_table_list WHERE schema = 'main' AND name = ?", (table.name,))
     if strict.fetchone() != (1, 0):
         yield "it isn't STRICT, or is WITHOUT ROWID"
     yield from column_faults(base, table)
     yield from reference_faults(base, table)
     yield from automatic_index_faults(base, table)
-    foreign = words_of(sized[place].sql) & FOREIGN_WORDS
+    foreign = words_of(thing.sql) & FOREIGN_WORDS
     if foreign:
         yield f"the statement that made it has {', '.join(sorted(foreign))}"
 
 
-def wanted_indexes() -> list[tuple[str, str]]:
-    """The indexes in their order, each with its table; one of a key or a constraint has no name here."""
-    made = [("", table.name) for table in INSIDE_TABLES for _ in automatic_indexes(table)]
-    return made + [HELD_INDEX[:2]]
+def wanted_indexes() -> list[tuple[str, str, int]]:
+    """The indexes in their order, each with its table and how many tables and indexes stand before it; one of a key or
+    a constraint has no name here."""
+    made, place = [], 0
+    for table in INSIDE_TABLES:
+        automatic = len(automatic_indexes(table))
+        made += [("", table.name, place + at) for at in range(1, automatic + 1)]
+        place += 1 + automatic
+    return [*made, (*HELD_INDEX[:2], place)]
 
 
 def is_held_index(base: sqlite3.Connection, thing: Thing) -> bool:
@@ -218,9 +223,9 @@ def is_held_index(base: sqlite3.Connection, thing: Thing) -> bool:
 
 def index_difference(base: sqlite3.Connection, names: set[str], things: list[Thing]) -> Optional[Difference]:
     found, wanted = [it for it in things if it.kind == "index"], wanted_indexes()
-    for at, (name, table) in enumerate(wanted):
+    for at, (name, table, place) in enumerate(wanted):
         thing = found[at] if at < len(found) else None
-        if thing is None or (name and not is_held_index(base, thing)):
+        if thing is None or thing.number != place + 1 or (name and not is_held_index(base, thing)):
             return Difference(table, f"there is no index {name or 'of its key'}, or one of another form in its place")
         if not name and (thing.sql or thing.table != table):
             return Difference(table, f"the index {thing.name} stands in the place of that of its key")
