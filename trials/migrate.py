@@ -296,6 +296,29 @@ class Copies:
         self.assertFalse(self.has("new"), "a file is left of a copy that was refused")
         self.makes_copy("empty")
 
+    def changes(self, name, statement):
+        """Another program changes rows of that file."""
+        with contextlib.closing(sqlite3.connect(self.folder / name)) as base:
+            check(base.execute(statement).rowcount > 0, f"{statement} changes no row")
+            base.commit()
+
+    def test_external(self):
+        """By --external a copy registers contents that are kept outside; so is a vault copied that this program made without it."""
+        self.answers(["migrate", "old", "third"], "migrated\n")
+        for old, new in (("old", "new"), ("third", "fourth")):
+            self.answers(["migrate", old, new, "--external"], "migrated\n")
+            self.says_the_same(new)
+            [(one, schema, _, _, moves, place, done)] = all_of(self.folder / new, "meta")
+            self.assertEqual((one, schema, moves, place, done), (1, 4, 0, 0, 1), new)
+            self.assertEqual(all_of(self.folder / new, "external"), [], new)
+        self.keeps_old("a copy")
+        for words in (["third", "again"], ["new", "again"], ["new", "again", "--external"]):
+            self.refuses(["migrate", *words], NEWEST)
+        for statement, table in (("DELETE FROM heads", "heads"), ("UPDATE meta SET schema = 9", "meta")):
+            self.changes("third", statement)
+            self.refuses(["migrate", "third", "again", "--external"], f"migrate: Damaged {table}\n{DAMAGED}")
+        self.assertFalse(self.has("again"), "a file is left of a copy that was refused")
+
     def test_order(self):
         """Of two faults that one is reported which docs/formats/PROGRAM.md names first."""
         self.answers(["init", "vault"], "")
